@@ -1,0 +1,2 @@
+-- The laws of words and bands.
+pub mod Laws

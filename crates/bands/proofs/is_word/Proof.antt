@@ -1,0 +1,17 @@
+-- `bands::is_word` meets its contract, by that of the test of a range.
+use mathlib.Core.Path.{ap, _∙_}
+use lib.IntN.{ℤ}
+use borrow.Author.Needs.{needs}
+use mir.Facts.{toZ-ofZ}
+use Rattle.bands.specs.Words.{isWord}
+use Rattle.bands.proofs.is_word.Statement.{statement}
+use Rattle.bands.proofs.is_word.Tie as tie
+
+in-range-requires : tie.Need-in-range-requires
+in-range-requires c κs = search needs
+
+returns : tie.Need-returns
+returns c = c .in-range .ensures ∙ ap isWord (toZ-ofZ (c .before .fits .v))
+
+pub is-word-spec : {M : Type 1} → statement M
+is-word-spec = tie.close (tie.spec in-range-requires returns)

@@ -1,0 +1,25 @@
+-- The answers of "Who can cause a refusal": each one's number, and "the first that applies". Definitions only.
+use mathlib.Core.Bool.{Bool, true, false}
+use Prim.Native.Nat.{ℕ}
+use Rattle.refusals.specs.declared.Verdict.{Verdict}
+use Rattle.refusals.specs.declared.Verdict.the-variants.{Accepted, Alpha, Beta, Gamma, NotWord}
+
+-- "8 (A), 9 (B), 10 (G)", and "15 where x or one of the four remembered numbers is no word"; 0 is no refusal
+abbrev pub numberOf : Verdict → ℕ
+numberOf Accepted = 0
+numberOf Alpha = 8
+numberOf Beta = 9
+numberOf Gamma = 10
+numberOf NotWord = 15
+
+abbrev pub isAccepted : Verdict → Bool
+isAccepted Accepted = true
+isAccepted Alpha = false
+isAccepted Beta = false
+isAccepted Gamma = false
+isAccepted NotWord = false
+
+-- the refusal where the test fails, or else what follows it
+abbrev pub unless : Bool → Verdict → Verdict → Verdict
+unless true refusal next = next
+unless false refusal next = refusal

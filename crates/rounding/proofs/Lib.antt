@@ -1,0 +1,9 @@
+-- The laws of rounding and limiting, which callers cite in place of the definitions.
+--     Floor     the whole number below, and what is left above it
+--     Nearest   the nearest whole number, halves to even
+--     Shifted   the nearest whole number by shifts, as the code has it, and for shifts past the width
+--     Limit     limiting to a range
+pub mod Floor
+pub mod Nearest
+mod Shifted
+pub mod Limit

@@ -1,0 +1,2 @@
+-- What rounding and limiting are.
+pub mod Rounding

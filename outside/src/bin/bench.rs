@@ -1,0 +1,116 @@
+//! Times the library's section step and rounding over the C ABI against plain
+//! Rust of the same shape: same input, same loop, taken in turns. No time is
+//! asserted; the results must be equal.
+
+use std::hint::black_box;
+use std::time::Instant;
+
+use outside::ffi::raw;
+use outside::random::Random;
+use outside::reference::{fast, house_set, Section};
+
+const SEED: u64 = 0xF0DD_00BE;
+const COUNT: usize = 2_000_000;
+const ROUNDS: usize = 11;
+
+type StepFn = unsafe extern "C" fn(*mut Section, i32) -> i64;
+type NearestFn = unsafe extern "C" fn(i64, u32) -> i64;
+
+#[inline(never)]
+unsafe extern "C" fn rust_step(section: *mut Section, x: i32) -> i64 {
+    // SAFETY: the caller lends seven numbers that nobody else holds.
+    fast::step(unsafe { &mut *section }, x)
+}
+
+#[inline(never)]
+unsafe extern "C" fn rust_nearest(v: i64, k: u32) -> i64 {
+    fast::nearest(v, k)
+}
+
+fn fold(checksum: u64, answer: i64) -> u64 {
+    checksum.rotate_left(1) ^ answer as u64
+}
+
+/// All words through one section: nanoseconds a step, and the checksum.
+#[inline(never)]
+fn run_steps(step: StepFn, band: [i32; 3], words: &[i32]) -> (f64, u64) {
+    let [a, b, g] = band;
+    let mut section = [a, b, g, 0, 0, 0, 0];
+    let mut checksum = 0;
+    let begun = Instant::now();
+    for &x in words {
+        // SAFETY: the section is seven numbers of this function's own.
+        let answer = unsafe { step(&mut section, x) };
+        checksum = fold(checksum, answer);
+    }
+    let nanoseconds = begun.elapsed().as_nanos() as f64;
+    (nanoseconds / words.len() as f64, black_box(checksum))
+}
+
+/// All numbers rounded: nanoseconds a number, and the checksum.
+#[inline(never)]
+fn run_nearest(nearest: NearestFn, numbers: &[(i64, u32)]) -> (f64, u64) {
+    let mut checksum = 0;
+    let begun = Instant::now();
+    for &(v, k) in numbers {
+        // SAFETY: takes and gives numbers only.
+        let answer = unsafe { nearest(v, k) };
+        checksum = fold(checksum, answer);
+    }
+    let nanoseconds = begun.elapsed().as_nanos() as f64;
+    (nanoseconds / numbers.len() as f64, black_box(checksum))
+}
+
+/// Both in turns, the best of each, and their ratio.
+fn race<F: Copy>(name: &str, library: F, rust: F, run: impl Fn(F) -> (f64, u64)) {
+    let (mut best_library, mut best_rust) = (f64::MAX, f64::MAX);
+    for _ in 0..ROUNDS {
+        let (library_time, library_sum) = run(black_box(library));
+        let (rust_time, rust_sum) = run(black_box(rust));
+        assert_eq!(library_sum, rust_sum, "{name}: the results differ");
+        best_library = best_library.min(library_time);
+        best_rust = best_rust.min(rust_time);
+    }
+    println!(
+        "{name}: library {best_library:.2} ns, Rust {best_rust:.2} ns, ratio {:.2}",
+        best_library / best_rust
+    );
+}
+
+fn main() {
+    println!("seed {SEED:#x}, {COUNT} calls a run, best of {ROUNDS} runs each, in turns");
+    let mut random = Random::new(SEED);
+    let words: Vec<i32> = (0..COUNT).map(|_| random.word()).collect();
+    let house = house_set();
+    for (name, band) in [
+        (
+            "step, house band 1000 Hz",
+            [house[15], house[16], house[17]],
+        ),
+        ("step, extreme band", [8_388_607, 4_194_303, 8_388_606]),
+    ] {
+        race(
+            name,
+            raw::fonddrys_section_step as StepFn,
+            rust_step,
+            |step| run_steps(step, band, &words),
+        );
+    }
+    let section_sums: Vec<(i64, u32)> = (0..COUNT)
+        .map(|_| ((random.draw() as i64) >> 16, 22))
+        .collect();
+    let any_shift: Vec<(i64, u32)> = (0..COUNT)
+        .map(|_| (random.any_size(), random.below(64) as u32))
+        .collect();
+    for (name, numbers) in [
+        ("nearest, shift 22", section_sums),
+        ("nearest, shifts 0 to 63", any_shift),
+    ] {
+        race(
+            name,
+            raw::fonddrys_nearest as NearestFn,
+            rust_nearest,
+            |nearest| run_nearest(nearest, &numbers),
+        );
+    }
+}

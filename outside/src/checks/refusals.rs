@@ -1,0 +1,118 @@
+//! Steps that are refused: which number, the result 0, the section unchanged.
+
+use super::{same, same_step, Difference, Outcome, Tally};
+use crate::random::Random;
+use crate::reference::{pack, Section, NO_WORD, REFUSED_A, REFUSED_B, REFUSED_G};
+use crate::subject::Subject;
+
+pub const REFUSALS_SEED: u64 = 0xF0DD_0007;
+
+/// The eight numbers of a call: A, B, G, x1, x2, y1, y2, x.
+type Call = [i32; 8];
+
+/// Accepted calls, into which wrong numbers are put.
+const FIT_CALLS: [Call; 5] = [
+    [6_606, 4_181_093, 8_375_315, 0, 0, 0, 0, 0],
+    [
+        8_388_607, 4_194_303, -8_388_606, 8_388_607, -8_388_608, 8_388_607, -8_388_608, 8_388_607,
+    ],
+    [
+        8_388_607, -4_194_303, 0, -8_388_608, 8_388_607, -8_388_608, 8_388_607, -8_388_608,
+    ],
+    [0, 0, 0, 1, 2, 3, 4, 5],
+    [
+        4_194_304, 2_000_000, 3_000_000, -700_000, 800_000, -900_000, 1_000_000, 256_000,
+    ],
+];
+
+/// Numbers outside the range of one place, by one and by far. For G they are
+/// outside whatever the accepted B beside it.
+fn wrong_numbers(call: &Call, place: usize) -> Vec<i32> {
+    let edge = 4_194_304 + call[1];
+    let mut wrong = match place {
+        0 => vec![-1, 8_388_608, -8_388_608, 16_777_216],
+        1 => vec![
+            -4_194_304, 4_194_304, -4_194_305, 4_194_305, 8_388_607, -8_388_608,
+        ],
+        2 => vec![-edge, edge, -edge - 1, edge + 1, 8_388_608, -8_388_609],
+        _ => vec![
+            -8_388_609,
+            8_388_608,
+            -8_388_610,
+            8_388_609,
+            -16_777_216,
+            16_777_216,
+        ],
+    };
+    wrong.extend([i32::MIN, i32::MIN + 1, i32::MAX - 1, i32::MAX]);
+    wrong
+}
+
+/// The number that a call with these wrong places must give: 8 to 10 by the
+/// band, then 15.
+fn number_for(places: u32) -> u32 {
+    match places {
+        _ if places & 1 != 0 => REFUSED_A,
+        _ if places & 2 != 0 => REFUSED_B,
+        _ if places & 4 != 0 => REFUSED_G,
+        _ => NO_WORD,
+    }
+}
+
+/// One refused call: compared with the reference, and its answer and the
+/// unchanged section as document 01 states them.
+fn refused(
+    subject: &dyn Subject,
+    call: Call,
+    number: u32,
+    tally: &mut Tally,
+) -> Result<(), Difference> {
+    let [a, b, g, x1, x2, y1, y2, x] = call;
+    let before: Section = [a, b, g, x1, x2, y1, y2];
+    let mut section = before;
+    same_step(subject, &mut section, x, tally)?;
+    let mut section = before;
+    let answer = subject.section_step(&mut section, x);
+    same(
+        tally,
+        (pack(number, false, 0), before),
+        (answer, section),
+        || format!("refused step of {before:?} with x = {x}"),
+    )
+}
+
+/// A call with the wrong number of this turn in each of these places.
+fn spoil(fit: &Call, places: u32, mut turn: impl FnMut(usize) -> usize) -> Call {
+    let mut call = *fit;
+    for (place, number) in call.iter_mut().enumerate() {
+        if places & (1 << place) != 0 {
+            let wrong = wrong_numbers(fit, place);
+            *number = wrong[turn(place) % wrong.len()];
+        }
+    }
+    call
+}
+
+pub fn steps(subject: &dyn Subject) -> Outcome {
+    let mut tally = Tally::default();
+    let mut random = Random::new(REFUSALS_SEED);
+    for fit in &FIT_CALLS {
+        for places in 1..256_u32 {
+            for turn in 0..20 {
+                let call = spoil(fit, places, |place| turn + turn / 10 * place);
+                refused(subject, call, number_for(places), &mut tally)?;
+            }
+            for _ in 0..100 {
+                let call = spoil(fit, places, |_| random.below(1 << 20) as usize);
+                refused(subject, call, number_for(places), &mut tally)?;
+            }
+        }
+    }
+    for _ in 0..300_000 {
+        let mut section = [(); 7].map(|()| random.any_i32());
+        same_step(subject, &mut section, random.any_i32(), &mut tally)?;
+        let mut section = [(); 7].map(|()| random.between(-8_400_000, 8_400_000));
+        same_step(subject, &mut section, random.word(), &mut tally)?;
+    }
+    Ok(tally)
+}

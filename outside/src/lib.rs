@@ -1,0 +1,9 @@
+//! Outside tests of the equaliser: an implementation of the section written
+//! from document 01 alone, and the comparison of the library with it.
+
+pub mod checks;
+pub mod faults;
+pub mod ffi;
+pub mod random;
+pub mod reference;
+pub mod subject;
