@@ -1,7 +1,8 @@
 -- What acceptance tells of a band's coefficients, in the form of bounds, and that every band of the house set is accepted.
-use mathlib.Core.Path.{_≡_, refl, sym, _∙_}
+use mathlib.Core.Path.{_≡_, refl, sym, _∙_, subst}
 use mathlib.Core.Bool.{Bool, true, false}
 use Prim.Native.Nat.{_+_, _≤_}
+use lib.Dec.{T}
 use lib.IntN.{ℤ, pos, negsuc, natAbs, _+ℤ_, _-ℤ_}
 use lib.Signed.{ltZ, _≤ℤ_, _<ℤ_}
 use Rattle.integers.proofs.Parts.{posPart, negPart, linear, var, _⊕_, _⊖_}
@@ -9,8 +10,12 @@ use Rattle.integers.proofs.Order.{ltZ-true, lt-ltZ}
 use Rattle.integers.proofs.Abs.{abs-parts, abs-case, abs-le}
 use Rattle.rounding.specs.Rounding.{within}
 use Rattle.rounding.proofs.Limit.{within-bounds, bounds-within}
+use Rattle.refusals.specs.Numbers.{isAccepted, unless}
+use Rattle.refusals.specs.declared.Verdict.{Verdict}
+use Rattle.refusals.specs.declared.Verdict.the-variants.{Accepted, Alpha, Beta, Gamma}
+use Rattle.bands.specs.declared.Band.{Band}
 use Rattle.bands.specs.Words.{isWord}
-use Rattle.bands.specs.Bands.{gammaAccepted}
+use Rattle.bands.specs.Bands.{alphaAccepted, betaAccepted, gammaAccepted, bandVerdict}
 
 -- a word is at most 2^23 in size
 pub word-size : (v : ℤ) → isWord v ≡ true → natAbs v ≤ 8388608
@@ -53,3 +58,36 @@ module _ (b g : ℤ) where
           bounds : ((negsuc 4194302 -ℤ b) ≤ℤ g) × (g ≤ℤ (pos 4194303 +ℤ b))
           bounds = within-bounds (negsuc 4194302 -ℤ b) (pos 4194303 +ℤ b) g p
       go false false p q = refl
+
+-- ---- an accepted band
+
+-- a test that fails leaves its refusal
+pub unless-accepted : (t : Bool) (refusal next : Verdict) → isAccepted refusal ≡ false → isAccepted (unless t refusal next) ≡ true → (t ≡ true) × (isAccepted next ≡ true)
+unless-accepted true refusal next f e = (refl, e)
+unless-accepted false refusal next f e = absurd (subst T (sym (sym f ∙ e)) tt)
+
+-- the coefficients of an accepted band are words
+pub record Accepts (band : Band) : Type 0 where
+  pub alpha-size : natAbs (band .alpha) ≤ 8388607
+  pub beta-size : natAbs (band .beta) ≤ 4194303
+  pub gamma-size : natAbs (band .gamma) ≤ 8388606
+
+pub accepted-sizes : (band : Band) → isAccepted (bandVerdict band) ≡ true → Accepts band
+unfolding bandVerdict alphaAccepted betaAccepted gammaAccepted
+accepted-sizes band e =
+    record
+    { alpha-size = abs-le (band .alpha) 8388607 (omega (linear, alpha)) (alpha .1)
+    ; beta-size = abs-le (band .beta) 4194303 (beta .0) (beta .1)
+    ; gamma-size = omega (linear, gamma, beta, (var (pos 4194304) ⊕ var (band .beta)) .tie)
+    }
+  where
+    first : (alphaAccepted (band .alpha) ≡ true) × (isAccepted (unless (betaAccepted (band .beta)) Beta (unless (gammaAccepted (band .beta) (band .gamma)) Gamma Accepted)) ≡ true)
+    first = unless-accepted (alphaAccepted (band .alpha)) Alpha (unless (betaAccepted (band .beta)) Beta (unless (gammaAccepted (band .beta) (band .gamma)) Gamma Accepted)) refl e
+    second : (betaAccepted (band .beta) ≡ true) × (isAccepted (unless (gammaAccepted (band .beta) (band .gamma)) Gamma Accepted) ≡ true)
+    second = unless-accepted (betaAccepted (band .beta)) Beta (unless (gammaAccepted (band .beta) (band .gamma)) Gamma Accepted) refl (first .1)
+    alpha : (pos 0 ≤ℤ band .alpha) × (band .alpha ≤ℤ pos 8388607)
+    alpha = within-bounds (pos 0) (pos 8388607) (band .alpha) (first .0)
+    beta : (negsuc 4194302 ≤ℤ band .beta) × (band .beta ≤ℤ pos 4194303)
+    beta = within-bounds (negsuc 4194302) (pos 4194303) (band .beta) (second .0)
+    gamma : pos (natAbs (band .gamma)) <ℤ (pos 4194304 +ℤ band .beta)
+    gamma = ltZ-true _ _ (unless-accepted (gammaAccepted (band .beta) (band .gamma)) Gamma Accepted refl (second .1) .0)

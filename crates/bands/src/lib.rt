@@ -13,10 +13,10 @@ pub struct Band {
 }
 
 // Whether v is a word: 24 bits, signed.
-pub fn is_word(v: i64) -> bool
+pub fn is_word(v: i32) -> bool
     ensures { λ r. ⌜ r ≡ isWord v ⌝ }
 {
-    rounding::in_range(-8388608, 8388607, v)
+    rounding::in_range(-8388608, 8388607, v as i64)
 }
 
 // Accepted, or the first of alpha, beta and gamma that is outside its range.

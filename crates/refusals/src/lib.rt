@@ -1,6 +1,6 @@
 // What a call answers: accepted, or the first refusal that applies. specs/Numbers.antt gives each its number of document 01.
 ghost use mathlib.Core.Path.{_≡_};
-ghost use Rattle.refusals.specs.Numbers.{numberOf};
+ghost use Rattle.refusals.specs.Numbers.{numberOf, isAccepted};
 
 pub enum Verdict {
     Accepted,
@@ -22,5 +22,18 @@ pub fn number(verdict: Verdict) -> u32
         Verdict::Beta => 9,
         Verdict::Gamma => 10,
         Verdict::NotWord => 15,
+    }
+}
+
+// Whether a call was accepted.
+pub fn accepted(verdict: Verdict) -> bool
+    ensures { λ r. ⌜ r ≡ isAccepted verdict ⌝ }
+{
+    match verdict {
+        Verdict::Accepted => true,
+        Verdict::Alpha => false,
+        Verdict::Beta => false,
+        Verdict::Gamma => false,
+        Verdict::NotWord => false,
     }
 }

@@ -1,0 +1,2 @@
+-- The laws of a step.
+pub mod Laws
