@@ -1,0 +1,2 @@
+-- How the static library passes its values.
+pub mod Layout

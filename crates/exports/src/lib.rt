@@ -1,0 +1,80 @@
+// The static library: thin functions under C names, for tests, benchmarks and programs in other languages. Each promises what the
+// function that it calls promises; a lent array passes as a pointer to its first number.
+ghost use mathlib.Core.Path.{_≡_};
+ghost use Rattle.rounding.specs.Rounding.{nearest, limit};
+ghost use Rattle.refusals.specs.Numbers.{numberOf};
+ghost use Rattle.bands.specs.Bands.{bandVerdict};
+ghost use Rattle.bands.specs.House.{houseSet};
+ghost use Rattle.section.specs.Step.{stepped};
+ghost use Rattle.exports.specs.Layout.{bandOf, sectionOf, numbersOf, packed};
+use bands::Band;
+use section::Section;
+use section::Stepped;
+
+// The nearest whole number to v / 2^k, halves to even.
+#[no_mangle]
+pub extern "C" fn fonddrys_nearest(v: i64, k: u32) -> i64
+    ensures { λ r. ⌜ r ≡ nearest v k ⌝ }
+{
+    rounding::round_shift(v, k)
+}
+
+// v limited to the range from low to high.
+#[no_mangle]
+pub extern "C" fn fonddrys_limit(v: i64, low: i64, high: i64) -> i64
+    ensures { λ r. ⌜ r ≡ limit low high v ⌝ }
+{
+    rounding::saturate(low, high, v)
+}
+
+// 0 for an accepted band, else the number of its refusal.
+#[no_mangle]
+pub extern "C" fn fonddrys_band_refusal(alpha: i32, beta: i32, gamma: i32) -> u32
+    ensures { λ r. ⌜ r ≡ numberOf (bandVerdict (bandOf alpha beta gamma)) ⌝ }
+{
+    refusals::number(bands::check_band(Band { alpha, beta, gamma }))
+}
+
+// Fills the lent array with the house set.
+#[no_mangle]
+pub extern "C" fn fonddrys_house_set(words: &mut [i32; 30])
+    ensures { λ r. ⌜ now (words .exit) ≡ houseSet ⌝ }
+{
+    *words = bands::house_set();
+}
+
+// One step of the section whose seven numbers are lent: A, B, G, x1, x2, y1, y2.
+#[no_mangle]
+pub extern "C" fn fonddrys_section_step(numbers: &mut [i32; 7], x: i32) -> i64
+    ensures { λ r. ⌜ (r ≡ packed (stepped (sectionOf (now (numbers .entry))) x)) × (now (numbers .exit) ≡ numbersOf (stepped (sectionOf (now (numbers .entry))) x .section)) ⌝ }
+{
+    let alpha = numbers[0];
+    let beta = numbers[1];
+    let gamma = numbers[2];
+    let x1 = numbers[3];
+    let x2 = numbers[4];
+    let y1 = numbers[5];
+    let y2 = numbers[6];
+    let answer = section::step(Section { band: Band { alpha, beta, gamma }, x1, x2, y1, y2 }, x);
+    let after = answer.section;
+    *numbers = [
+        after.band.alpha,
+        after.band.beta,
+        after.band.gamma,
+        after.x1,
+        after.x2,
+        after.y1,
+        after.y2,
+    ];
+    pack(answer)
+}
+
+// An answer in one number.
+fn pack(answer: Stepped) -> i64
+    ensures { λ r. ⌜ r ≡ packed answer ⌝ }
+{
+    let verdict = answer.verdict;
+    let number = refusals::number(verdict) as i64;
+    let limited = answer.limited as i64;
+    (2 * number + limited) * 0x1_0000_0000 + answer.y as i64
+}
