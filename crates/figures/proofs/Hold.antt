@@ -1,0 +1,14 @@
+-- Every starred figure is what the definitions give: one equation of two lists, which antt computes.
+use mathlib.Core.Path.{_≡_, refl}
+use mathlib.Core.List.{map}
+use lib.IntN.{ℤ}
+use Rattle.rounding.specs.Rounding.{floor, rest, odd, goesUp, nearest, taken, limit, within}
+use Rattle.bands.specs.Bands.{alphaAccepted, betaAccepted, gammaAccepted, bandVerdict}
+use Rattle.bands.specs.House.{houseSet}
+use Rattle.section.specs.Equation.{exactSum, worked}
+use Rattle.section.specs.Step.{allWords, stepVerdict, advanced, stepped}
+use Rattle.figures.specs.Figures.{Figure, starred}
+
+pub starred-hold : map (λ (f : Figure). f .given) starred ≡ map (λ (f : Figure). f .printed) starred
+unfolding starred houseSet stepped advanced stepVerdict allWords bandVerdict alphaAccepted betaAccepted gammaAccepted exactSum worked nearest taken goesUp odd rest floor limit within
+starred-hold = refl

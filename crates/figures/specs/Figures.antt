@@ -1,0 +1,66 @@
+-- "Figures to check (starred ones are proved)": what the definitions give, and what document 01 prints. Definitions only.
+use mathlib.Core.Bool.{Bool, true, false}
+use mathlib.Core.List.{List, [], _∷_}
+use Prim.Native.Nat.{ℕ, _^_}
+use lib.IntN.{ℤ, pos, negsuc, _*ℤ_}
+use lib.ListN.{getD}
+use Rattle.bands.specs.Bands.{bandAt}
+use Rattle.bands.specs.House.{houseSet}
+use Rattle.section.specs.Equation.{worked}
+use Rattle.section.specs.Step.{clearedSection, stepped}
+use Rattle.section.specs.declared.Section.{Section}
+
+pub record Figure : Type 0 where
+  pub given : ℤ
+  pub printed : ℤ
+
+infix 20 _is_
+abbrev pub _is_ : ℤ → ℤ → Figure
+given is printed = record { given = given; printed = printed }
+
+abbrev flag : Bool → ℤ
+flag true = pos 1
+flag false = pos 0
+
+-- y of S
+abbrev y-of : ℤ → ℤ
+y-of S = worked S .y
+
+-- whether a section limits where the rounded number is r: S is 2^22 × r
+abbrev limits : ℤ → ℤ
+limits r = flag (worked (pos (2 ^ 22) *ℤ r) .limited)
+
+-- the house set's 31 Hz band, after steps on x from a cleared section
+abbrev after : List ℤ → Section
+after [] = clearedSection (bandAt houseSet 0)
+after (x ∷ earlier) = stepped (after earlier) x .section
+
+-- y of the last of these steps, the latest x first
+abbrev last : List ℤ → ℤ
+last earlier = after earlier .y1
+
+unfoldable pub starred : List Figure
+starred =
+    -- "S = 2,097,152 gives 0; 2,097,153 gives 1; 6,291,456 gives 2; -2,097,152 gives 0; -6,291,456 gives -2"
+    (y-of (pos 2097152) is pos 0)
+    ∷ (y-of (pos 2097153) is pos 1)
+    ∷ (y-of (pos 6291456) is pos 2)
+    ∷ (y-of (negsuc 2097151) is pos 0)
+    ∷ (y-of (negsuc 6291455) is negsuc 1)
+    -- "Rounded 8,388,607 and -8,388,608 don't limit; 8,388,608 and -8,388,609 do"
+    ∷ (limits (pos 8388607) is pos 0)
+    ∷ (limits (negsuc 8388607) is pos 0)
+    ∷ (limits (pos 8388608) is pos 1)
+    ∷ (limits (negsuc 8388608) is pos 1)
+    -- "31 Hz, cleared, x = 256,000, 256,000, 0: y = 403, 1,208, 1,607"
+    ∷ (last (pos 256000 ∷ []) is pos 403)
+    ∷ (last (pos 256000 ∷ pos 256000 ∷ []) is pos 1208)
+    ∷ (last (pos 0 ∷ pos 256000 ∷ pos 256000 ∷ []) is pos 1607)
+    -- "The first two bands are 6,606, 4,181,093, 8,375,315 (31 Hz) and 13,191, 4,167,923, 8,361,900 (62 Hz)"
+    ∷ (getD houseSet 0 (pos 0) is pos 6606)
+    ∷ (getD houseSet 1 (pos 0) is pos 4181093)
+    ∷ (getD houseSet 2 (pos 0) is pos 8375315)
+    ∷ (getD houseSet 3 (pos 0) is pos 13191)
+    ∷ (getD houseSet 4 (pos 0) is pos 4167923)
+    ∷ (getD houseSet 5 (pos 0) is pos 8361900)
+    ∷ []
