@@ -72,22 +72,26 @@ pub record Accepts (band : Band) : Type 0 where
   pub beta-size : natAbs (band .beta) ≤ 4194303
   pub gamma-size : natAbs (band .gamma) ≤ 8388606
 
-pub accepted-sizes : (band : Band) → isAccepted (bandVerdict band) ≡ true → Accepts band
+pub band-sizes : (band : Band) → isAccepted (bandVerdict band) ≡ true → Accepts band
 unfolding bandVerdict alphaAccepted betaAccepted gammaAccepted
-accepted-sizes band e =
-    record
-    { alpha-size = abs-le (band .alpha) 8388607 (omega (linear, alpha)) (alpha .1)
-    ; beta-size = abs-le (band .beta) 4194303 (beta .0) (beta .1)
-    ; gamma-size = omega (linear, gamma, beta, (var (pos 4194304) ⊕ var (band .beta)) .tie)
+band-sizes band e =
+    record {
+      alpha-size = abs-le (band .alpha) 8388607 (omega (linear, alpha)) (alpha .1);
+      beta-size = abs-le (band .beta) 4194303 (beta .0) (beta .1);
+      gamma-size = omega (linear, gamma, beta, (var (pos 4194304) ⊕ var (band .beta)) .tie);
     }
   where
     first : (alphaAccepted (band .alpha) ≡ true) × (isAccepted (unless (betaAccepted (band .beta)) Beta (unless (gammaAccepted (band .beta) (band .gamma)) Gamma Accepted)) ≡ true)
     first = unless-accepted (alphaAccepted (band .alpha)) Alpha (unless (betaAccepted (band .beta)) Beta (unless (gammaAccepted (band .beta) (band .gamma)) Gamma Accepted)) refl e
+
     second : (betaAccepted (band .beta) ≡ true) × (isAccepted (unless (gammaAccepted (band .beta) (band .gamma)) Gamma Accepted) ≡ true)
     second = unless-accepted (betaAccepted (band .beta)) Beta (unless (gammaAccepted (band .beta) (band .gamma)) Gamma Accepted) refl (first .1)
+
     alpha : (pos 0 ≤ℤ band .alpha) × (band .alpha ≤ℤ pos 8388607)
     alpha = within-bounds (pos 0) (pos 8388607) (band .alpha) (first .0)
+
     beta : (negsuc 4194302 ≤ℤ band .beta) × (band .beta ≤ℤ pos 4194303)
     beta = within-bounds (negsuc 4194302) (pos 4194303) (band .beta) (second .0)
+
     gamma : pos (natAbs (band .gamma)) <ℤ (pos 4194304 +ℤ band .beta)
     gamma = ltZ-true _ _ (unless-accepted (gammaAccepted (band .beta) (band .gamma)) Gamma Accepted refl (second .1) .0)

@@ -16,12 +16,12 @@ bandOf alpha beta gamma = record { alpha = alpha; beta = beta; gamma = gamma }
 -- a section is seven numbers: A, B, G, x1, x2, y1, y2
 abbrev pub sectionOf : List ℤ → Section
 sectionOf l =
-    record
-    { band = bandOf (getD l 0 (pos 0)) (getD l 1 (pos 0)) (getD l 2 (pos 0))
-    ; x1 = getD l 3 (pos 0)
-    ; x2 = getD l 4 (pos 0)
-    ; y1 = getD l 5 (pos 0)
-    ; y2 = getD l 6 (pos 0)
+    record {
+      band = bandOf (getD l 0 (pos 0)) (getD l 1 (pos 0)) (getD l 2 (pos 0));
+      x1 = getD l 3 (pos 0);
+      x2 = getD l 4 (pos 0);
+      y1 = getD l 5 (pos 0);
+      y2 = getD l 6 (pos 0);
     }
 
 abbrev pub numbersOf : Section → List ℤ

@@ -55,7 +55,16 @@ pub extern "C" fn fonddrys_section_step(numbers: &mut [i32; 7], x: i32) -> i64
     let x2 = numbers[4];
     let y1 = numbers[5];
     let y2 = numbers[6];
-    let answer = section::step(Section { band: Band { alpha, beta, gamma }, x1, x2, y1, y2 }, x);
+    let answer = section::step(
+        Section {
+            band: Band { alpha, beta, gamma },
+            x1,
+            x2,
+            y1,
+            y2,
+        },
+        x,
+    );
     let after = answer.section;
     *numbers = [
         after.band.alpha,

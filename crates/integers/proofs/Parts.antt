@@ -112,12 +112,13 @@ product-tie (negsuc a) (negsuc b) = omega arith
 -- two differences multiplied: (p - n) (q - m) = (u - d) (w - e) where p - n = u - d and q - m = w - e
 differences-multiply : (p n u d q m w e : ℕ) → p + d ≡ n + u → q + e ≡ m + w → p * q + n * m + (u * e + d * w) ≡ p * m + n * q + (u * w + d * e)
 differences-multiply p n u d q m w e h k =
-    omega
-    (arith,
-    ap (λ (t : ℕ). t * q) h,
-    ap (λ (t : ℕ). t * m) h,
-    ap (λ (t : ℕ). u * t) k,
-    ap (λ (t : ℕ). d * t) k)
+    omega (
+      arith,
+      ap (λ (t : ℕ). t * q) h,
+      ap (λ (t : ℕ). t * m) h,
+      ap (λ (t : ℕ). u * t) k,
+      ap (λ (t : ℕ). d * t) k,
+    )
 
 pub sum-tied : (s t : Term) → posPart (s .value +ℤ t .value) + (s .down + t .down) ≡ negPart (s .value +ℤ t .value) + (s .up + t .up)
 sum-tied s t = omega (arith, sum-tie (s .value) (t .value), s .tie, t .tie)
@@ -127,10 +128,11 @@ neg-tied s = omega (arith, neg-tie (s .value), s .tie)
 
 pub product-tied : (s t : Term) → posPart (s .value *ℤ t .value) + (s .up * t .down + s .down * t .up) ≡ negPart (s .value *ℤ t .value) + (s .up * t .up + s .down * t .down)
 product-tied s t =
-    omega
-    (arith,
-    product-tie (s .value) (t .value),
-    differences-multiply (posPart (s .value)) (negPart (s .value)) (s .up) (s .down) (posPart (t .value)) (negPart (t .value)) (t .up) (t .down) (s .tie) (t .tie))
+    omega (
+      arith,
+      product-tie (s .value) (t .value),
+      differences-multiply (posPart (s .value)) (negPart (s .value)) (s .up) (s .down) (posPart (t .value)) (negPart (t .value)) (t .up) (t .down) (s .tie) (t .tie),
+    )
 
 pub var-tied : (z : ℤ) → posPart z + negPart z ≡ negPart z + posPart z
 var-tied z = omega arith
@@ -138,7 +140,6 @@ var-tied z = omega arith
 infixl 66 _⊕_ _⊖_
 infixl 67 _⊗_
 infixr 68 ⊝_
-
 abbrev pub var : ℤ → Term
 var z = record { value = z; up = posPart z; down = negPart z; tie = var-tied z }
 
@@ -153,11 +154,11 @@ s ⊖ t = s ⊕ (⊝ t)
 
 abbrev pub _⊗_ : Term → Term → Term
 s ⊗ t =
-    record
-    { value = s .value *ℤ t .value
-    ; up = s .up * t .up + s .down * t .down
-    ; down = s .up * t .down + s .down * t .up
-    ; tie = product-tied s t
+    record {
+      value = s .value *ℤ t .value;
+      up = s .up * t .up + s .down * t .down;
+      down = s .up * t .down + s .down * t .up;
+      tie = product-tied s t;
     }
 
 -- two terms are equal where their differences are

@@ -25,6 +25,7 @@ below-all f (suc n) t i h = go (eqb i n) refl (split (f n) (allBelow f n) t) (λ
     split : (a b : Bool) → T (both a b) → T a × T b
     split true b u = (tt, u)
     split false b u = absurd u
+
     go : (e : Bool) → eqb i n ≡ e → T (f n) × T (allBelow f n) → (i < n → T (f i)) → T (f i)
     go true e u rest = subst (λ (k : ℕ). T (f k)) (sym (eqb-true i n e)) (u .0)
     go false e u rest = rest (omega (arith, eqb-false i n e))

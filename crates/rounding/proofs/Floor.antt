@@ -31,11 +31,12 @@ module _ (m : ℕ) (some : 0 < m) where
       go true e = leZ-true a b e
       go false e =
           absurd
-          (omega
-          (linear,
-          (var (pos m) ⊗ var a) .tie,
-          (var (pos m) ⊗ var b ⊕ var (pos m)) .tie,
-          mul-le-mul-left m (lt-parts (leZ-false a b e))))
+          (omega (
+            linear,
+            (var (pos m) ⊗ var a) .tie,
+            (var (pos m) ⊗ var b ⊕ var (pos m)) .tie,
+            mul-le-mul-left m (lt-parts (leZ-false a b e)),
+          ))
 
 -- 2^k × floor is not above v
 pub floor-low : (v : ℤ) (k : ℕ) → (pos (2 ^ k) *ℤ floor v k) ≤ℤ v
@@ -82,10 +83,11 @@ floor-mag v i k h = rw (shr-mag v (2 ^ k)) (shr-lt i k h)
 pub multiple-mag : (v : ℤ) (i k : ℕ) → mag v < 2 ^ (i + k) → mag (pos (2 ^ k) *ℤ floor v k) < 2 ^ (i + k)
 multiple-mag v i k h =
     mag-within (pos (2 ^ k) *ℤ floor v k) (2 ^ (i + k))
-    (omega
-    (linear,
-    *ℤ-mono (2 ^ k) (mag-low (floor v k) (floor-mag v i k h)),
-    (var (pos (2 ^ k)) ⊗ (⊝ var (pos (2 ^ i)))) .tie,
-    (⊝ var (pos (2 ^ (i + k)))) .tie,
-    pow-add 2 i k))
+    (omega (
+      linear,
+      *ℤ-mono (2 ^ k) (mag-low (floor v k) (floor-mag v i k h)),
+      (var (pos (2 ^ k)) ⊗ (⊝ var (pos (2 ^ i)))) .tie,
+      (⊝ var (pos (2 ^ (i + k)))) .tie,
+      pow-add 2 i k,
+    ))
     (omega (linear, floor-low v k, mag-high v h))

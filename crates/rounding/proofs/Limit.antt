@@ -39,22 +39,24 @@ module _ (low high : ℤ) where
     ahead a b =
         limit-case low high a (λ x. x ≤ℤ (limit low high b +ℤ D))
         (λ p. limit-case low high b (λ y. low ≤ℤ (y +ℤ D))
-            (λ q. omega (linear, size, (var low ⊕ var D) .tie))
-            (λ q r. omega (linear, size, (var high ⊕ var D) .tie))
-            (λ q r. omega (linear, size, (var b ⊕ var D) .tie)))
+        (λ q. omega (linear, size, (var low ⊕ var D) .tie))
+        (λ q r. omega (linear, size, (var high ⊕ var D) .tie))
+        (λ q r. omega (linear, size, (var b ⊕ var D) .tie)))
         (λ p s. limit-case low high b (λ y. high ≤ℤ (y +ℤ D))
-            (λ q. omega (linear, size, off, (var low ⊕ var D) .tie))
-            (λ q r. omega (linear, size, (var high ⊕ var D) .tie))
-            (λ q r. omega (linear, size, off, (var b ⊕ var D) .tie)))
+        (λ q. omega (linear, size, off, (var low ⊕ var D) .tie))
+        (λ q r. omega (linear, size, (var high ⊕ var D) .tie))
+        (λ q r. omega (linear, size, off, (var b ⊕ var D) .tie)))
         (λ p s. limit-case low high b (λ y. a ≤ℤ (y +ℤ D))
-            (λ q. omega (linear, size, off, (var low ⊕ var D) .tie))
-            (λ q r. omega (linear, size, off, (var high ⊕ var D) .tie))
-            (λ q r. omega (linear, size, off, (var b ⊕ var D) .tie)))
+        (λ q. omega (linear, size, off, (var low ⊕ var D) .tie))
+        (λ q r. omega (linear, size, off, (var high ⊕ var D) .tie))
+        (λ q r. omega (linear, size, off, (var b ⊕ var D) .tie)))
       where
         D : ℤ
         D = pos (natAbs (a -ℤ b))
+
         size : natAbs (a -ℤ b) ≡ posPart (a -ℤ b) + negPart (a -ℤ b)
         size = abs-parts (a -ℤ b)
+
         off : posPart (a -ℤ b) + (negPart a + posPart b) ≡ negPart (a -ℤ b) + (posPart a + negPart b)
         off = (var a ⊖ var b) .tie
 
@@ -67,8 +69,10 @@ module _ (low high : ℤ) where
       where
         A : Term
         A = var (limit low high a)
+
         B : Term
         B = var (limit low high b)
+
         turned : natAbs (b -ℤ a) ≡ natAbs (a -ℤ b)
         turned = rw (← abs-neg (a -ℤ b), terms-eq (⊝ (var a ⊖ var b)) (var b ⊖ var a) (omega arith)) refl
 

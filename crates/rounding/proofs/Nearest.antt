@@ -26,8 +26,10 @@ nearest-case v k G down up = go (ltZ M R2) (leZ M R2) (odd (floor v k)) refl ref
   where
     M : ℤ
     M = pos (2 ^ k)
+
     R2 : ℤ
     R2 = rest v k +ℤ rest v k
+
     go : (a b o : Bool) → ltZ M R2 ≡ a → leZ M R2 ≡ b → odd (floor v k) ≡ o → G (cond (a || (b && o)) (floor v k +ℤ pos 1) (floor v k))
     go true b o p q e = up (omega (linear, ltZ-true M R2 p)) (λ h. absurd (omega (linear, ltZ-true M R2 p)))
     go false true true p q e = up (leZ-true M R2 q) (λ h. e)
@@ -62,16 +64,17 @@ unfolding twice
 nearest-near v k =
     nearest-case v k (λ n. 2 * natAbs (pos (2 ^ k) *ℤ n -ℤ v) ≤ 2 ^ k)
     (λ h e. rw below-off
-        (half-away (negℤ (rest v k)) (2 ^ k)
-        (omega (linear, rest-low v k, ((⊝ R) ⊕ (⊝ R)) .tie))
-        (omega (linear, (R ⊕ R) .tie, ((⊝ R) ⊕ (⊝ R) ⊕ M) .tie))))
+    (half-away (negℤ (rest v k)) (2 ^ k)
+    (omega (linear, rest-low v k, ((⊝ R) ⊕ (⊝ R)) .tie))
+    (omega (linear, (R ⊕ R) .tie, ((⊝ R) ⊕ (⊝ R) ⊕ M) .tie))))
     (λ h e. rw above-off
-        (half-away (pos (2 ^ k) -ℤ rest v k) (2 ^ k)
-        (omega (linear, (R ⊕ R) .tie, ((M ⊖ R) ⊕ (M ⊖ R)) .tie))
-        (omega (linear, rest-high v k, ((M ⊖ R) ⊕ (M ⊖ R) ⊕ M) .tie))))
+    (half-away (pos (2 ^ k) -ℤ rest v k) (2 ^ k)
+    (omega (linear, (R ⊕ R) .tie, ((M ⊖ R) ⊕ (M ⊖ R)) .tie))
+    (omega (linear, rest-high v k, ((M ⊖ R) ⊕ (M ⊖ R) ⊕ M) .tie))))
   where
     R : Term
     R = var (rest v k)
+
     M : Term
     M = var (pos (2 ^ k))
 
@@ -83,13 +86,14 @@ nearest-unique v r k h = ≤ℤ-antisym (close (nearest v k) r (omega (arith, ne
     close : (a b : ℤ) → natAbs (pos (2 ^ k) *ℤ a -ℤ v) + natAbs (pos (2 ^ k) *ℤ b -ℤ v) < 2 ^ k → a ≤ℤ b
     close a b l =
         multiples (2 ^ k) (pow-pos k) a b
-        (omega
-        (linear,
-        abs-parts (pos (2 ^ k) *ℤ a -ℤ v),
-        abs-parts (pos (2 ^ k) *ℤ b -ℤ v),
-        (var (pos (2 ^ k) *ℤ a) ⊖ var v) .tie,
-        (var (pos (2 ^ k) *ℤ b) ⊖ var v) .tie,
-        (var (pos (2 ^ k) *ℤ b) ⊕ var (pos (2 ^ k))) .tie))
+        (omega (
+          linear,
+          abs-parts (pos (2 ^ k) *ℤ a -ℤ v),
+          abs-parts (pos (2 ^ k) *ℤ b -ℤ v),
+          (var (pos (2 ^ k) *ℤ a) ⊖ var v) .tie,
+          (var (pos (2 ^ k) *ℤ b) ⊖ var v) .tie,
+          (var (pos (2 ^ k) *ℤ b) ⊕ var (pos (2 ^ k))) .tie,
+        ))
 
 -- the distance law over the shift: |2^k × nearest - v| ≤ 2^(k-1)
 pub nearest-half : (v : ℤ) (j : ℕ) → natAbs (pos (2 ^ suc j) *ℤ nearest v (suc j) -ℤ v) ≤ 2 ^ j
@@ -114,8 +118,10 @@ rest-unique v q r k e l h =
   where
     off : posPart (pos (2 ^ k) *ℤ q +ℤ r) + (negPart (pos (2 ^ k) *ℤ q) + negPart r) ≡ negPart (pos (2 ^ k) *ℤ q +ℤ r) + (posPart (pos (2 ^ k) *ℤ q) + posPart r)
     off = (var (pos (2 ^ k) *ℤ q) ⊕ var r) .tie
+
     v-known : v ≡ pos (2 ^ k) *ℤ q +ℤ r
     v-known = e
+
     same : floor v k ≡ q
     same = floor-unique v q k (omega (linear, off)) (omega (linear, off, (var (pos (2 ^ k) *ℤ q) ⊕ var (pos (2 ^ k))) .tie))
 
@@ -125,14 +131,15 @@ odd-next v e = ap (λ (z : ℤ). ltZ (pos 0) z) (rest-unique (v +ℤ pos 1) (flo
   where
     step : v +ℤ pos 1 ≡ pos 2 *ℤ (floor v 1 +ℤ pos 1) +ℤ pos 0
     step =
-        omega
-        (linear,
-        (var v ⊕ var (pos 1)) .tie,
-        (var (pos 2) ⊗ (var (floor v 1) ⊕ var (pos 1)) ⊕ var (pos 0)) .tie,
-        (var (pos 2) ⊗ var (floor v 1) ⊕ var (rest v 1)) .tie,
-        floor-rest v 1,
-        rest-high v 1,
-        ltZ-true (pos 0) (rest v 1) e)
+        omega (
+          linear,
+          (var v ⊕ var (pos 1)) .tie,
+          (var (pos 2) ⊗ (var (floor v 1) ⊕ var (pos 1)) ⊕ var (pos 0)) .tie,
+          (var (pos 2) ⊗ var (floor v 1) ⊕ var (rest v 1)) .tie,
+          floor-rest v 1,
+          rest-high v 1,
+          ltZ-true (pos 0) (rest v 1) e,
+        )
 
 -- where the nearest is just half away it is even
 pub nearest-even : (v : ℤ) (k : ℕ) → 2 * natAbs (pos (2 ^ k) *ℤ nearest v k -ℤ v) ≡ 2 ^ k → odd (nearest v k) ≡ false
@@ -144,8 +151,10 @@ nearest-even v k =
   where
     R : Term
     R = var (rest v k)
+
     M : Term
     M = var (pos (2 ^ k))
+
     ahead : pos 0 ≤ℤ (pos (2 ^ k) -ℤ rest v k)
     ahead = omega (linear, (M ⊖ R) .tie, rest-high v k)
 

@@ -89,26 +89,34 @@ nearest-zero v k h = go (ltb (2 * natAbs D) (2 ^ k)) refl
   where
     n : ℤ
     n = nearest v k
+
     D : ℤ
     D = pos (2 ^ k) *ℤ n -ℤ v
+
     M : Term
     M = var (pos (2 ^ k))
+
     F : ℤ
     F = floor n 1
+
     off : posPart D + (negPart (pos (2 ^ k) *ℤ n) + posPart v) ≡ negPart D + (posPart (pos (2 ^ k) *ℤ n) + negPart v)
     off = (var (pos (2 ^ k) *ℤ n) ⊖ var v) .tie
+
     half : odd n ≡ false → n ≡ pos 0
     half e = n-zero ∙ ap (λ (z : ℤ). pos 2 *ℤ z) F-zero
       where
         n-zero : n ≡ pos 2 *ℤ F
         n-zero = omega (linear, floor-rest n 1, (var (pos 2 *ℤ F) ⊕ var (rest n 1)) .tie, rest-low n 1, ltZ-false (pos 0) (rest n 1) e)
+
         twice-F : posPart (pos (2 ^ k) *ℤ n) + negPart (pos (2 ^ k) *ℤ (pos 2 *ℤ F)) ≡ posPart (pos (2 ^ k) *ℤ (pos 2 *ℤ F)) + negPart (pos (2 ^ k) *ℤ n)
         twice-F = eq-parts (ap (λ (z : ℤ). pos (2 ^ k) *ℤ z) n-zero)
+
         F-zero : F ≡ pos 0
         F-zero =
             zero-between F k
             (omega (linear, off, twice-F, abs-parts D, abs-parts v, nearest-near v k, (M ⊗ (var (pos 2) ⊗ var F)) .tie, (M ⊗ var F) .tie, pow-pos k))
             (omega (linear, off, twice-F, abs-parts D, abs-parts v, nearest-near v k, (M ⊗ (var (pos 2) ⊗ var F)) .tie, (M ⊗ var F) .tie, (⊝ M) .tie, pow-pos k))
+
     go : (t : Bool) → ltb (2 * natAbs D) (2 ^ k) ≡ t → nearest v k ≡ pos 0
     go true e =
         zero-between n k

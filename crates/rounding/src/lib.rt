@@ -22,6 +22,11 @@ pub fn round_shift(v: i64, k: u32) -> i64
     below + ((left + (half - 1) + odd) >> k)
 }
 
+// The halves of 2^63.
+const HALF_LOW: i64 = -0x4000_0000_0000_0000;
+
+const HALF_HIGH: i64 = 0x4000_0000_0000_0000;
+
 // The same for a shift that leaves nothing but -1, 0 or 1.
 fn round_far(v: i64, k: u32) -> i64
     requires { ⌜ 62 < k ⌝ }
@@ -30,10 +35,10 @@ fn round_far(v: i64, k: u32) -> i64
     if 63 < k {
         return 0;
     }
-    if 0x4000_0000_0000_0000 < v {
+    if HALF_HIGH < v {
         return 1;
     }
-    if v < -0x4000_0000_0000_0000 {
+    if v < HALF_LOW {
         return -1;
     }
     0

@@ -1,8 +1,7 @@
--- What an accepted step tells: its operands are small, and its result is a word.
+-- What an accepted step tells: the sizes of its coefficients and numbers, and that its result is a word.
 use mathlib.Core.Path.{_≡_, refl, sym, _∙_, subst}
 use mathlib.Core.Bool.{Bool, true, false, _&&_}
 use Prim.Native.Nat.{_≤_}
-use native.Mathlib.Omega.{arith}
 use lib.Dec.{T}
 use lib.IntN.{ℤ, natAbs}
 use lib.Signed.{_≤ℤ_, leZ-yes}
@@ -12,15 +11,22 @@ use Rattle.refusals.specs.declared.Verdict.the-variants.{Accepted, NotWord}
 use Rattle.rounding.proofs.Limit.{limit-low, limit-high}
 use Rattle.bands.specs.Words.{wordLow, wordHigh, isWord}
 use Rattle.bands.specs.Bands.{bandVerdict}
-use Rattle.bands.proofs.Laws.{Accepts, accepted-sizes, word-size}
+use Rattle.bands.proofs.Laws.{Accepts, band-sizes, word-size}
 use Rattle.section.specs.declared.Section.{Section}
 use Rattle.section.specs.Equation.{worked}
-use Rattle.section.specs.Small.{Small}
 use Rattle.section.specs.Step.{allWords, stepVerdict}
 
 both : (a b : Bool) → a && b ≡ true → (a ≡ true) × (b ≡ true)
 both true b e = (refl, e)
 both false b e = absurd (subst T (sym e) tt)
+
+-- the five numbers of a step are at most 2^23 in size
+pub record Words (s : Section) (x : ℤ) : Type 0 where
+  pub x-size : natAbs x ≤ 8388608
+  pub x1-size : natAbs (s .x1) ≤ 8388608
+  pub x2-size : natAbs (s .x2) ≤ 8388608
+  pub y1-size : natAbs (s .y1) ≤ 8388608
+  pub y2-size : natAbs (s .y2) ≤ 8388608
 
 module _ (s : Section) (x : ℤ) (e : isAccepted (stepVerdict s x) ≡ true) where
   -- the band is accepted, and all five numbers are words
@@ -33,28 +39,29 @@ module _ (s : Section) (x : ℤ) (e : isAccepted (stepVerdict s x) ≡ true) whe
       go true false p q h = absurd (subst T (sym h) tt)
       go false w p q h = absurd (subst T (sym (sym p ∙ h)) tt)
 
-  -- the operands of the exact sum are at most 2^23 in size
-  pub accepted-small : Small (s .band) x (s .x2) (s .y1) (s .y2)
+  pub accepted-sizes : Accepts (s .band)
+  accepted-sizes = band-sizes (s .band) (parts .0)
+
+  pub accepted-words : Words s x
   unfolding allWords
-  accepted-small =
-      record
-      { alpha-size = omega (arith, sizes)
-      ; beta-size = omega (arith, sizes)
-      ; gamma-size = omega (arith, sizes)
-      ; x-size = word-size x (first .0)
-      ; x2-size = word-size (s .x2) (third .0)
-      ; y1-size = word-size (s .y1) (fourth .0)
-      ; y2-size = word-size (s .y2) (fourth .1)
+  accepted-words =
+      record {
+        x-size = word-size x (first .0);
+        x1-size = word-size (s .x1) (second .0);
+        x2-size = word-size (s .x2) (third .0);
+        y1-size = word-size (s .y1) (fourth .0);
+        y2-size = word-size (s .y2) (fourth .1);
       }
     where
-      sizes : Accepts (s .band)
-      sizes = accepted-sizes (s .band) (parts .0)
       first : (isWord x ≡ true) × (isWord (s .x1) && (isWord (s .x2) && (isWord (s .y1) && isWord (s .y2))) ≡ true)
       first = both _ _ (parts .1)
+
       second : (isWord (s .x1) ≡ true) × (isWord (s .x2) && (isWord (s .y1) && isWord (s .y2)) ≡ true)
       second = both _ _ (first .1)
+
       third : (isWord (s .x2) ≡ true) × (isWord (s .y1) && isWord (s .y2) ≡ true)
       third = both _ _ (second .1)
+
       fourth : (isWord (s .y1) ≡ true) × (isWord (s .y2) ≡ true)
       fourth = both _ _ (third .1)
 

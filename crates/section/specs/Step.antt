@@ -34,11 +34,11 @@ remembered s x y = record { band = s .band; x1 = x; x2 = s .x1; y1 = y; y2 = s .
 -- an accepted step
 unfoldable pub advanced : Section → ℤ → Stepped
 advanced s x =
-    record
-    { verdict = Accepted
-    ; y = workOf s x .y
-    ; limited = workOf s x .limited
-    ; section = remembered s x (workOf s x .y)
+    record {
+      verdict = Accepted;
+      y = workOf s x .y;
+      limited = workOf s x .limited;
+      section = remembered s x (workOf s x .y);
     }
 
 -- a refused step: "the result is 0 and the section is unchanged"

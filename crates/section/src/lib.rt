@@ -11,6 +11,9 @@ ghost use Rattle.section.specs.Small.{Small};
 use bands::Band;
 use refusals::Verdict;
 
+// S is a word times 2^22.
+const SUM_SHIFT: u32 = 22;
+
 // A section: its band, the two earlier inputs and the two earlier results.
 pub struct Section {
     pub band: Band,
@@ -32,7 +35,13 @@ pub struct Stepped {
 pub fn cleared(band: Band) -> Section
     ensures { λ r. ⌜ r ≡ clearedSection band ⌝ }
 {
-    Section { band, x1: 0, x2: 0, y1: 0, y2: 0 }
+    Section {
+        band,
+        x1: 0,
+        x2: 0,
+        y1: 0,
+        y2: 0,
+    }
 }
 
 // One step on the input x. Refused where the band is not accepted, or x or a remembered number is no word.
@@ -43,7 +52,12 @@ pub fn step(section: Section, x: i32) -> Stepped
     if refusals::accepted(verdict) {
         return advance(section, x);
     }
-    Stepped { verdict, y: 0, limited: false, section }
+    Stepped {
+        verdict,
+        y: 0,
+        limited: false,
+        section,
+    }
 }
 
 // Accepted, or the first refusal that applies.
@@ -90,11 +104,22 @@ fn advance(section: Section, x: i32) -> Stepped
     let y1 = section.y1;
     let y2 = section.y2;
     let sum = exact_sum(band, x, x2, y1, y2);
-    let rounded = rounding::round_shift(sum, 22);
-    let y = rounding::saturate(-8388608, 8388607, rounded) as i32;
-    let limited = !rounding::in_range(-8388608, 8388607, rounded);
-    let after = Section { band, x1: x, x2: x1, y1: y, y2: y1 };
-    Stepped { verdict: Verdict::Accepted, y, limited, section: after }
+    let rounded = rounding::round_shift(sum, SUM_SHIFT);
+    let y = rounding::saturate(bands::WORD_LOW, bands::WORD_HIGH, rounded) as i32;
+    let limited = !rounding::in_range(bands::WORD_LOW, bands::WORD_HIGH, rounded);
+    let after = Section {
+        band,
+        x1: x,
+        x2: x1,
+        y1: y,
+        y2: y1,
+    };
+    Stepped {
+        verdict: Verdict::Accepted,
+        y,
+        limited,
+        section: after,
+    }
 }
 
 // The exact sum of equation (8): with coefficients and numbers of at most 2^23 in size it stays below 2^49.

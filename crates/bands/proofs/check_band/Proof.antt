@@ -136,6 +136,7 @@ gamma-test c =
   where
     s : lts.After-struct-told3 (in-range-reads.Asked, in-range-reads.Learnt) reads.Pre reads.Post
     s = s₃ (c .before)
+
     Gamma′ : Num w64
     Gamma′ = widened tt (band s .gamma) (gamma-fits s)
 
@@ -143,19 +144,21 @@ returns-3 : tie.Need-returns-3
 unfolding bandVerdict
 returns-3 c =
     sym
-    (simp
-    (alpha-right (c .before .before .before),
-    beta-right (c .before .before),
-    sym (gamma-test (c .before)) ∙ not-true _ (c .if3 .taken)))
+    (simp (
+      alpha-right (c .before .before .before),
+      beta-right (c .before .before),
+      sym (gamma-test (c .before)) ∙ not-true _ (c .if3 .taken),
+    ))
 
 returns-4 : tie.Need-returns-4
 unfolding bandVerdict
 returns-4 c =
     sym
-    (simp
-    (alpha-right (c .before .before .before),
-    beta-right (c .before .before),
-    sym (gamma-test (c .before)) ∙ not-false _ (c .if3 .left)))
+    (simp (
+      alpha-right (c .before .before .before),
+      beta-right (c .before .before),
+      sym (gamma-test (c .before)) ∙ not-false _ (c .if3 .left),
+    ))
 
 pub check-band-spec : {M : Type 1} → statement M
 check-band-spec =

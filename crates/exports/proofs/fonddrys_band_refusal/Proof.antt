@@ -20,10 +20,10 @@ returns c =
     ∙ ap numberOf
     (c .before .check-band .ensures
     ∙ (λ i. bandVerdict
-        (bandOf
-        (toZ-ofZ (c .before .before .fits .alpha) i)
-        (toZ-ofZ (c .before .before .fits .beta) i)
-        (toZ-ofZ (c .before .before .fits .gamma) i))))
+    (bandOf
+    (toZ-ofZ (c .before .before .fits .alpha) i)
+    (toZ-ofZ (c .before .before .fits .beta) i)
+    (toZ-ofZ (c .before .before .fits .gamma) i))))
 
 pub fonddrys-band-refusal-spec : {M : Type 1} → statement M
 fonddrys-band-refusal-spec = tie.close (tie.spec check-band-requires number-requires returns)

@@ -14,9 +14,9 @@ returns c =
     toZ-ofZ (record { sfits = c .saturate .ok })
     ∙ c .saturate .ensures
     ∙ (λ i. limit
-        (toZ-ofZ (c .before .fits .low) i)
-        (toZ-ofZ (c .before .fits .high) i)
-        (toZ-ofZ (c .before .fits .v) i))
+    (toZ-ofZ (c .before .fits .low) i)
+    (toZ-ofZ (c .before .fits .high) i)
+    (toZ-ofZ (c .before .fits .v) i))
 
 pub fonddrys-limit-spec : {M : Type 1} → statement M
 fonddrys-limit-spec = tie.close (tie.spec saturate-requires returns)

@@ -58,14 +58,14 @@ answer-is : (c : lts.After-step (step-reads.Asked, step-reads.Learnt, pack-reads
 answer-is c =
     c .step .ensures
     ∙ (λ i. stepped
-        (record
-        { band = record { alpha = alpha-reads s i; beta = beta-reads s i; gamma = gamma-reads s i }
-        ; x1 = x1-reads s i
-        ; x2 = x2-reads s i
-        ; y1 = y1-reads s i
-        ; y2 = y2-reads s i
-        })
-        (toZ-ofZ (start s .fits .x) i))
+    (record {
+      band = record { alpha = alpha-reads s i; beta = beta-reads s i; gamma = gamma-reads s i };
+      x1 = x1-reads s i;
+      x2 = x2-reads s i;
+      y1 = y1-reads s i;
+      y2 = y2-reads s i;
+    })
+    (toZ-ofZ (start s .fits .x) i))
   where
     s : lts.After-y2 (step-reads.Asked, step-reads.Learnt, pack-reads.Asked, pack-reads.Learnt) reads.Pre reads.Post
     s = c .before
@@ -121,9 +121,10 @@ pack-requires : tie.Need-pack-requires
 pack-requires c κs = search needs
 
 returns : tie.Need-returns
-returns c =
-    (toZ-ofZ (record { sfits = c .pack .ok }) ∙ c .pack .ensures ∙ ap packed answer,
-    numbers-stored (c .before .before) ∙ ap (λ (r : Stepped). numbersOf (r .section)) answer)
+returns c = (
+  toZ-ofZ (record { sfits = c .pack .ok }) ∙ c .pack .ensures ∙ ap packed answer,
+  numbers-stored (c .before .before) ∙ ap (λ (r : Stepped). numbersOf (r .section)) answer,
+)
   where
     answer : c .before .before .before .before .step .result ≡ stepped (sectionOf (l (c .before .before .before .before .before))) (start (c .before .before .before .before .before) .args .x)
     answer = answer-is (c .before .before .before .before)

@@ -49,18 +49,18 @@ module _ (c : lts.After-number (number-reads.Asked, number-reads.Learnt) reads.P
 
   abbrev Number : Bounded w64
   Number =
-      record
-      { held = record { bits = c .number .result; value = pos (numberOf verdict); reads = number-reads′ }
-      ; bound = 15
-      ; within = number-small verdict
+      record {
+        held = record { bits = c .number .result; value = pos (numberOf verdict); reads = number-reads′ };
+        bound = 15;
+        within = number-small verdict;
       }
 
   abbrev Limited : Bounded w64
   Limited =
-      record
-      { held = record { bits = boolByte limited; value = pos (flag limited); reads = flag-reads limited }
-      ; bound = 1
-      ; within = flag-small limited
+      record {
+        held = record { bits = boolByte limited; value = pos (flag limited); reads = flag-reads limited };
+        bound = 1;
+        within = flag-small limited;
       }
 
   abbrev Two : Bounded w64

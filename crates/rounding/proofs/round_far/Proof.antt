@@ -40,6 +40,7 @@ returns c =
   where
     v : ℤ
     v = c .before .args .v
+
     k : ℕ
     k = c .before .args .k
 

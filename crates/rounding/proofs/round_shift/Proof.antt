@@ -106,8 +106,8 @@ module _ (c : lts.Else2 (round-far-reads.Asked, round-far-reads.Learnt) reads.Pr
       nearest-case v k (λ n. SFits w64 n)
       (λ h e. record { sfits = lt-of-lt-of-le below-mag (lit≤ tt) })
       (λ h e. range-fits (floor v k +ℤ pos 1)
-          (omega (linear, mag-low (floor v k) below-mag, (var (floor v k) ⊕ var (pos 1)) .tie))
-          (omega (linear, mag-high (floor v k) below-mag, (var (floor v k) ⊕ var (pos 1)) .tie)))
+      (omega (linear, mag-low (floor v k) below-mag, (var (floor v k) ⊕ var (pos 1)) .tie))
+      (omega (linear, mag-high (floor v k) below-mag, (var (floor v k) ⊕ var (pos 1)) .tie)))
 
   -- ---- the locals
 

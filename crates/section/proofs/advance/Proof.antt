@@ -12,13 +12,13 @@ use mir.Facts.{toZ-ofZ}
 use Rattle.refusals.specs.declared.Verdict.the-variants.{Accepted}
 use Rattle.integers.proofs.Parts.{linear}
 use Rattle.integers.proofs.Machine.{num, unary, unary-need, range-fits}
-use Rattle.rounding.specs.Rounding.{nearest, limit, within}
+use Rattle.rounding.specs.Rounding.{nearest, limit}
 use Rattle.bands.specs.Words.{wordLow, wordHigh, isWord}
+use Rattle.bands.proofs.Laws.{Accepts}
 use Rattle.section.specs.declared.Section.{Section}
 use Rattle.section.specs.Equation.{exactSum, worked}
-use Rattle.section.specs.Small.{Small}
 use Rattle.section.specs.Step.{advanced, workOf}
-use Rattle.section.proofs.Laws.{accepted-small, worked-low, worked-high}
+use Rattle.section.proofs.Laws.{Words, accepted-sizes, accepted-words, worked-low, worked-high}
 use Rattle.section.proofs.advance.Statement.{statement}
 use Rattle.section.proofs.advance.Tie as tie
 use Rattle.section.proofs.advance.Reads as reads
@@ -54,8 +54,11 @@ module _ (c : lts.After-struct-told4 (exact-sum-reads.Asked, exact-sum-reads.Lea
   y2-reads : toZ w32 (ofZ w32 (section .y2)) ≡ section .y2
   y2-reads = toZ-ofZ (record { sfits = omega arith })
 
-  small : Small (section .band) x (section .x2) (section .y1) (section .y2)
-  small = accepted-small section x (c .before .before .before .before .before .pre)
+  coefficients : Accepts (section .band)
+  coefficients = accepted-sizes section x (c .before .before .before .before .before .pre)
+
+  numbers : Words section x
+  numbers = accepted-words section x (c .before .before .before .before .before .pre)
 
 -- a size, of the number as read
 size-read : {z r : ℤ} → r ≡ z → natAbs z ≤ 8388608 → natAbs r ≤ 8388608
@@ -63,15 +66,15 @@ size-read e h = subst (λ (n : ℤ). natAbs n ≤ 8388608) (sym e) h
 
 exact-sum-requires : tie.Need-exact-sum-requires
 exact-sum-requires c κs =
-    record
-    { alpha-size = small c .alpha-size
-    ; beta-size = small c .beta-size
-    ; gamma-size = small c .gamma-size
-    ; x-size = size-read (x-reads c) (small c .x-size)
-    ; x2-size = size-read (x2-reads c) (small c .x2-size)
-    ; y1-size = size-read (y1-reads c) (small c .y1-size)
-    ; y2-size = size-read (y2-reads c) (small c .y2-size)
-    }
+    omega (
+      arith,
+      coefficients c,
+      size-read (x-reads c) (numbers c .x-size),
+      size-read (x1-reads c) (numbers c .x1-size),
+      size-read (x2-reads c) (numbers c .x2-size),
+      size-read (y1-reads c) (numbers c .y1-size),
+      size-read (y2-reads c) (numbers c .y2-size),
+    )
 
 -- ---- the exact sum, rounded and saturated
 
@@ -127,18 +130,18 @@ returns : tie.Need-returns
 unfolding advanced
 returns c =
     λ i.
-    record
-    { verdict = Accepted
-    ; y = y-reads (c .before) i
-    ; limited = limited-is c i
-    ; section =
-        record
-        { band = section (t (c .before)) .band
-        ; x1 = x-reads (t (c .before)) i
-        ; x2 = x1-reads (t (c .before)) i
-        ; y1 = y-reads (c .before) i
-        ; y2 = y1-reads (t (c .before)) i
-        }
+    record {
+      verdict = Accepted;
+      y = y-reads (c .before) i;
+      limited = limited-is c i;
+      section =
+          record {
+            band = section (t (c .before)) .band;
+            x1 = x-reads (t (c .before)) i;
+            x2 = x1-reads (t (c .before)) i;
+            y1 = y-reads (c .before) i;
+            y2 = y1-reads (t (c .before)) i;
+          };
     }
 
 pub advance-spec : {M : Type 1} → statement M
