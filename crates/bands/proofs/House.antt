@@ -1,12 +1,10 @@
 -- The house set: each of its thirty words is the nearest whole number to its figure × 2^23, and each of its ten bands is accepted.
 -- Either rule is one test that is computed over the table.
-use mathlib.Core.Path.{_≡_}
-use mathlib.Core.Bool.{Bool, true}
-use mathlib.Core.List.{List}
+use mathlib.Core.Bool.{Bool}
 use Prim.Native.Nat.{ℕ, _*_, _^_, _<_}
 use lib.Dec.{T, ltb, ltb→lt}
-use lib.IntN.{ℤ, pos, natAbs, _-ℤ_, _*ℤ_}
-use lib.ListN.{getD, length}
+use lib.IntN.{pos, natAbs, _-ℤ_, _*ℤ_}
+use lib.ListN.{getD}
 use Rattle.integers.proofs.Table.{allBelow, below-all}
 use Rattle.refusals.specs.Numbers.{isAccepted}
 use Rattle.bands.specs.Bands.{bandAt, bandVerdict, alphaAccepted, betaAccepted, gammaAccepted}

@@ -1,7 +1,7 @@
 -- Which bands are accepted. Definitions only.
 use mathlib.Core.Bool.{Bool}
 use Prim.Native.Nat.{ℕ, _+_, _*_}
-use lib.IntN.{ℤ, pos, negsuc, natAbs, _+ℤ_}
+use lib.IntN.{ℤ, pos, negℤ, natAbs, _+ℤ_}
 use lib.ListN.{getD}
 use lib.Signed.{ltZ}
 use mathlib.Core.List.{List}
@@ -17,7 +17,7 @@ alphaAccepted a = within (pos 0) (pos 8388607) a
 
 -- "B from -4,194,303 to 4,194,303"
 unfoldable pub betaAccepted : ℤ → Bool
-betaAccepted b = within (negsuc 4194302) (pos 4194303) b
+betaAccepted b = within (negℤ (pos 4194303)) (pos 4194303) b
 
 -- "|G| less than 4,194,304 + B"
 unfoldable pub gammaAccepted : ℤ → ℤ → Bool

@@ -1,7 +1,7 @@
 -- "The house set is Table 1 of source document 002, each figure × 2^23 to the nearest whole number." Definitions only.
 use mathlib.Core.List.{List, [], _∷_, map}
 use Prim.Native.Nat.{ℕ, _*_, _^_}
-use lib.IntN.{ℤ, pos, negsuc, _+ℤ_, _*ℤ_}
+use lib.IntN.{ℤ, pos, negℤ, _+ℤ_, _*ℤ_}
 use lib.Signed.{shrZ}
 
 -- a decimal figure: its digits as a whole number, and how many of them stand behind the point
@@ -38,7 +38,7 @@ table1 =
     -- 8000 Hz
     ∷ figure (pos 1199464) 7 ∷ figure (pos 2601072) 7 ∷ figure (pos 3176087) 7
     -- 16000 Hz
-    ∷ figure (pos 159603) 6 ∷ figure (pos 1800994) 7 ∷ figure (negsuc 4435171) 7
+    ∷ figure (pos 159603) 6 ∷ figure (pos 1800994) 7 ∷ figure (negℤ (pos 4435172)) 7
     ∷ []
 
 unfoldable pub houseSet : List ℤ

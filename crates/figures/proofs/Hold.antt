@@ -1,7 +1,6 @@
 -- Every starred figure is what the definitions give: one equation of two lists, which antt computes.
 use mathlib.Core.Path.{_≡_, refl}
 use mathlib.Core.List.{map}
-use lib.IntN.{ℤ}
 use Rattle.rounding.specs.Rounding.{floor, rest, odd, goesUp, nearest, taken, limit, within}
 use Rattle.bands.specs.Bands.{alphaAccepted, betaAccepted, gammaAccepted, bandVerdict}
 use Rattle.bands.specs.House.{houseSet}

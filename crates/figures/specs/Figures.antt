@@ -1,8 +1,8 @@
 -- "Figures to check (starred ones are proved)": what the definitions give, and what document 01 prints. Definitions only.
 use mathlib.Core.Bool.{Bool, true, false}
 use mathlib.Core.List.{List, [], _∷_}
-use Prim.Native.Nat.{ℕ, _^_}
-use lib.IntN.{ℤ, pos, negsuc, _*ℤ_}
+use Prim.Native.Nat.{_^_}
+use lib.IntN.{ℤ, pos, negℤ, _*ℤ_}
 use lib.ListN.{getD}
 use Rattle.bands.specs.Bands.{bandAt}
 use Rattle.bands.specs.House.{houseSet}
@@ -45,13 +45,13 @@ starred =
     (y-of (pos 2097152) is pos 0)
     ∷ (y-of (pos 2097153) is pos 1)
     ∷ (y-of (pos 6291456) is pos 2)
-    ∷ (y-of (negsuc 2097151) is pos 0)
-    ∷ (y-of (negsuc 6291455) is negsuc 1)
+    ∷ (y-of (negℤ (pos 2097152)) is pos 0)
+    ∷ (y-of (negℤ (pos 6291456)) is negℤ (pos 2))
     -- "Rounded 8,388,607 and -8,388,608 don't limit; 8,388,608 and -8,388,609 do"
     ∷ (limits (pos 8388607) is pos 0)
-    ∷ (limits (negsuc 8388607) is pos 0)
+    ∷ (limits (negℤ (pos 8388608)) is pos 0)
     ∷ (limits (pos 8388608) is pos 1)
-    ∷ (limits (negsuc 8388608) is pos 1)
+    ∷ (limits (negℤ (pos 8388609)) is pos 1)
     -- "31 Hz, cleared, x = 256,000, 256,000, 0: y = 403, 1,208, 1,607"
     ∷ (last (pos 256000 ∷ []) is pos 403)
     ∷ (last (pos 256000 ∷ pos 256000 ∷ []) is pos 1208)

@@ -119,9 +119,6 @@ product = record { apply = _*ℤ_; size = _*_; sized = product-sized }
 pub below-fits : {w : Width} {z : ℤ} {m : ℕ} → natAbs z ≤ m → T (ltb m (2 ^ hbits w)) → SFits w z
 below-fits {w} {z} {m} h t = record { sfits = lt-of-le-of-lt (le-trans (mag-abs z) h) (ltb→lt m (2 ^ hbits w) t) }
 
-abbrev pub bounded : {w : Width} (z : ℤ) (m : ℕ) → natAbs z ≤ m → SFits w z → Bounded w
-bounded z m h fits = record { held = num z fits; bound = m; within = h }
-
 module _ {w : Width} (o : Operation) (a b : Bounded w) (t : T (ltb (o .size (a .bound) (b .bound)) (2 ^ hbits w))) where
   pub result-within : natAbs (o .apply (a .held .value) (b .held .value)) ≤ o .size (a .bound) (b .bound)
   result-within = o .sized (a .held .value) (b .held .value) (a .within) (b .within)

@@ -1,8 +1,8 @@
 -- Limiting to a range: it stays within the range, leaves what is within, and brings no two numbers further apart.
 use mathlib.Core.Path.{_≡_, refl, sym, subst}
 use mathlib.Core.Bool.{Bool, true, false, cond, _&&_}
-use Prim.Native.Nat.{ℕ, _+_, _≤_}
-use lib.IntN.{ℤ, pos, natAbs, negℤ, _+ℤ_, _-ℤ_}
+use Prim.Native.Nat.{_+_, _≤_}
+use lib.IntN.{ℤ, pos, natAbs, _+ℤ_, _-ℤ_}
 use lib.Dec.{T}
 use lib.Signed.{ltZ, leZ, _≤ℤ_, _<ℤ_}
 use Rattle.integers.proofs.Parts.{Term, posPart, negPart, linear, terms-eq, var, _⊕_, _⊖_, ⊝_}

@@ -9,10 +9,10 @@ use lib.Pow.{pow-pos}
 use lib.IntN.{ℤ, pos, natAbs, negℤ, _+ℤ_, _-ℤ_, _*ℤ_, +ℤ-invr}
 use lib.Signed.{ltZ, leZ, _≤ℤ_, _<ℤ_, ≤ℤ-refl, ltZ-yes}
 use Rattle.integers.proofs.Parts.{Term, posPart, negPart, linear, terms-eq, var, _⊕_, _⊖_, _⊗_, ⊝_}
-use Rattle.integers.proofs.Order.{≤ℤ-antisym, ltZ-true, ltZ-false, leZ-true, leZ-false, lt-ltZ, le-ltZ}
+use Rattle.integers.proofs.Order.{≤ℤ-antisym, ltZ-true, ltZ-false, leZ-true, leZ-false}
 use Rattle.integers.proofs.Abs.{abs-parts, abs-case, abs-neg, abs-nonneg}
 use Rattle.rounding.specs.Rounding.{floor, rest, odd, goesUp, nearest, taken}
-use Rattle.rounding.proofs.Floor.{floor-low, floor-high, floor-unique, floor-rest, rest-low, rest-high, multiples}
+use Rattle.rounding.proofs.Floor.{floor-unique, floor-rest, rest-low, rest-high, multiples}
 
 -- twice what is left
 unfoldable pub twice : ℤ → ℕ → ℤ

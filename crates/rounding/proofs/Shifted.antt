@@ -1,18 +1,18 @@
 -- The nearest whole number as the code has it: by shifts alone, and where the shift leaves nothing but -1, 0 or 1.
-use mathlib.Core.Path.{_≡_, refl, sym, ap, _∙_}
+use mathlib.Core.Path.{_≡_, refl, ap, _∙_}
 use mathlib.Core.Bool.{Bool, true, false}
-use Prim.Native.Nat.{ℕ, suc, _+_, _*_, _^_, _≤_, _<_}
+use Prim.Native.Nat.{ℕ, _+_, _*_, _^_, _≤_}
 use native.Mathlib.Omega.{arith}
 use lib.Pow.{pow-pos}
 use lib.Dec.{ltb}
 use borrow.Author.Tests.{ltb-true, ltb-false}
-use lib.IntN.{ℤ, pos, negsuc, natAbs, negℤ, _+ℤ_, _-ℤ_, _*ℤ_}
-use lib.Signed.{ltZ, leZ, _≤ℤ_, _<ℤ_}
+use lib.IntN.{ℤ, pos, natAbs, negℤ, _+ℤ_, _-ℤ_, _*ℤ_}
+use lib.Signed.{leZ, _≤ℤ_, _<ℤ_}
 use Rattle.integers.proofs.Parts.{Term, posPart, negPart, linear, eq-parts, var, _⊕_, _⊖_, _⊗_, ⊝_}
-use Rattle.integers.proofs.Order.{≤ℤ-antisym, *ℤ-mono, ltZ-true, ltZ-false, leZ-true, leZ-false}
+use Rattle.integers.proofs.Order.{≤ℤ-antisym, ltZ-true, ltZ-false, leZ-true, leZ-false}
 use Rattle.integers.proofs.Abs.{abs-parts}
 use Rattle.rounding.specs.Rounding.{floor, rest, odd, nearest}
-use Rattle.rounding.proofs.Floor.{floor-low, floor-high, floor-unique, floor-rest, rest-low, rest-high, multiples}
+use Rattle.rounding.proofs.Floor.{floor-unique, floor-rest, rest-low, rest-high, multiples}
 use Rattle.rounding.proofs.Nearest.{twice, nearest-case, nearest-near, nearest-even}
 
 -- ---- by shifts: half of 2^k less 1, and 1 more above an odd number, carry what is left over 2^k just where the number goes up

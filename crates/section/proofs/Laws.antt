@@ -6,7 +6,6 @@ use lib.Dec.{T}
 use lib.IntN.{ℤ, natAbs}
 use lib.Signed.{_≤ℤ_, leZ-yes}
 use Rattle.refusals.specs.Numbers.{isAccepted, unless}
-use Rattle.refusals.specs.declared.Verdict.{Verdict}
 use Rattle.refusals.specs.declared.Verdict.the-variants.{Accepted, NotWord}
 use Rattle.rounding.proofs.Limit.{limit-low, limit-high}
 use Rattle.bands.specs.Words.{wordLow, wordHigh, isWord}

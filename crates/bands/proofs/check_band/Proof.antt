@@ -1,6 +1,6 @@
 -- `bands::check_band` meets its contract: its three tests are those of the definition, in that order.
 use mathlib.Core.Path.{_≡_, sym, ap, ap₂, _∙_}
-use mathlib.Core.Bool.{true, false}
+use mathlib.Core.Bool.{true}
 use native.Mathlib.Omega.{arith}
 use Prim.Native.Nat.{_-_, _^_}
 use lib.IntN.{ℤ, pos, negsuc, _+ℤ_, _-ℤ_}

@@ -1,12 +1,12 @@
 -- `exports::pack` meets its contract: a refusal's number is at most 15, so that the packed answer fits.
 use mathlib.Core.Path.{_≡_, refl, ap, _∙_}
 use mathlib.Core.Bool.{Bool, true, false}
-use Prim.Native.Nat.{ℕ, _≤_, _<_, _^_}
+use Prim.Native.Nat.{_≤_, _^_}
 use native.Mathlib.Nat.{lt-of-le-of-lt}
 use native.Mathlib.Omega.{arith}
 use lib.Dec.{lit≤, lit<}
-use lib.IntN.{ℤ, pos, natAbs}
-use lib.Signed.{mag, natAbs-le}
+use lib.IntN.{ℤ, pos}
+use lib.Signed.{natAbs-le}
 use borrow.Author.Needs.{needs}
 use mir.Syntax.{w32, w64}
 use mir.Val.{SFits, toZ, boolByte}

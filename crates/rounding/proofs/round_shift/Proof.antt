@@ -6,15 +6,15 @@ use native.Mathlib.Nat.{pow-suc, lt-of-lt-of-le}
 use native.Mathlib.Omega.{arith}
 use lib.Dec.{lit≤}
 use lib.Pow.{pow-pos, pow-mono}
-use lib.IntN.{ℤ, pos, negℤ, _+ℤ_, _-ℤ_, _*ℤ_}
+use lib.IntN.{ℤ, pos, _+ℤ_, _-ℤ_, _*ℤ_}
 use lib.Signed.{mag, shrZ, _≤ℤ_, _<ℤ_}
 use mir.Syntax.{w64}
 use mir.Val.{SFits}
 use mir.Facts.{toZ-ofZ}
 use borrow.Author.Needs.{needs}
-use Rattle.integers.proofs.Parts.{linear, var, _⊕_, _⊖_, ⊝_}
+use Rattle.integers.proofs.Parts.{linear, var, _⊕_, _⊖_}
 use Rattle.integers.proofs.Abs.{mag-low, mag-high}
-use Rattle.integers.proofs.Machine.{Num, num, literal, power, unary, binary, unary-need, binary-need, shr-fits, range-fits}
+use Rattle.integers.proofs.Machine.{Num, num, literal, power, unary, binary, binary-need, shr-fits, range-fits}
 use Rattle.rounding.specs.Rounding.{floor, rest, nearest}
 use Rattle.rounding.proofs.Floor.{rest-low, rest-high, floor-mag, multiple-mag}
 use Rattle.rounding.proofs.Nearest.{nearest-case, nearest-whole}

@@ -1,10 +1,9 @@
 -- `section::advance` meets its contract: the exact sum, rounded, saturated and remembered, is the definition's.
-use mathlib.Core.Path.{_≡_, refl, sym, ap, _∙_, subst}
-use mathlib.Core.Bool.{Bool, not}
+use mathlib.Core.Path.{_≡_, sym, ap, _∙_, subst}
+use mathlib.Core.Bool.{not}
 use Prim.Native.Nat.{_≤_}
 use native.Mathlib.Omega.{arith}
 use lib.IntN.{ℤ, natAbs}
-use lib.Signed.{_≤ℤ_}
 use borrow.Author.Needs.{needs}
 use mir.Syntax.{w32, w64}
 use mir.Val.{SFits, toZ, ofZ}
@@ -17,7 +16,7 @@ use Rattle.bands.specs.Words.{wordLow, wordHigh, isWord}
 use Rattle.bands.proofs.Laws.{Accepts}
 use Rattle.section.specs.declared.Section.{Section}
 use Rattle.section.specs.Equation.{exactSum, worked}
-use Rattle.section.specs.Step.{advanced, workOf}
+use Rattle.section.specs.Step.{advanced}
 use Rattle.section.proofs.Laws.{Words, accepted-sizes, accepted-words, worked-low, worked-high}
 use Rattle.section.proofs.advance.Statement.{statement}
 use Rattle.section.proofs.advance.Tie as tie

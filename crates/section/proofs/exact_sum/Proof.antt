@@ -1,11 +1,9 @@
 -- `section::exact_sum` meets its contract: each operand is at most 2^23 in size, and the bounds of the results show that they fit.
-use mathlib.Core.Path.{_≡_}
 use Prim.Native.Nat.{_≤_}
 use lib.IntN.{ℤ, natAbs}
 use mir.Syntax.{w32, w64}
 use mir.Val.{SFits}
 use Rattle.integers.proofs.Machine.{Bounded, below-fits, widened, widen-need, sum, difference, product, result, result-need}
-use Rattle.bands.specs.declared.Band.{Band}
 use Rattle.section.specs.Equation.{exactSum}
 use Rattle.section.proofs.exact_sum.Statement.{statement}
 use Rattle.section.proofs.exact_sum.Tie as tie
