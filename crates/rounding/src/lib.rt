@@ -2,7 +2,7 @@
 // every input, and that result is the definition's of specs/Rounding.antt.
 ghost use mathlib.Core.Path.{_≡_};
 ghost use Prim.Native.Nat.{_<_};
-ghost use Rattle.rounding.specs.Rounding.{nearest, limit, within};
+ghost use Rattle.rounding.specs.Rounding.{rest, nearest, limit, within};
 
 // Round half to even: the nearest whole number to v / 2^k, for every v and every shift k.
 pub fn round_shift(v: i64, k: u32) -> i64
@@ -18,8 +18,15 @@ pub fn round_shift(v: i64, k: u32) -> i64
     let half = 1i64 << (k - 1);
     let below = v >> k;
     let left = v - one * below;
-    let odd = below - 2 * (below >> 1);
+    let odd = low_bit(below);
     below + ((left + (half - 1) + odd) >> k)
+}
+
+// 1 for an odd number, 0 for an even one.
+fn low_bit(v: i64) -> i64
+    ensures { λ r. ⌜ r ≡ rest v 1 ⌝ }
+{
+    v - 2 * (v >> 1)
 }
 
 // The halves of 2^63.
