@@ -11,7 +11,7 @@ ghost use Rattle.section.specs.Small.{Small};
 use bands::Band;
 use refusals::Verdict;
 
-// S is a word times 2^22.
+// S has 22 bits below the unit of a word.
 const SUM_SHIFT: u32 = 22;
 
 // A section: its band, the two earlier inputs and the two earlier results.
@@ -75,6 +75,7 @@ fn check_step(section: Section, x: i32) -> Verdict
     Verdict::Accepted
 }
 
+// Whether x and the four remembered numbers are words.
 fn all_words(section: Section, x: i32) -> bool
     ensures { λ r. ⌜ r ≡ allWords section x ⌝ }
 {
