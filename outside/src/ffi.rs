@@ -6,7 +6,7 @@ use crate::reference::Section;
 pub mod raw {
     extern "C" {
         pub fn fonddrys_nearest(v: i64, k: u32) -> i64;
-        pub fn fonddrys_limit(v: i64, low: i64, high: i64) -> i64;
+        pub fn fonddrys_limit(low: i64, high: i64, v: i64) -> i64;
         pub fn fonddrys_band_refusal(a: i32, b: i32, g: i32) -> u32;
         pub fn fonddrys_house_set(words: *mut [i32; 30]);
         pub fn fonddrys_section_step(section: *mut [i32; 7], x: i32) -> i64;
@@ -20,7 +20,7 @@ pub fn nearest(v: i64, k: u32) -> i64 {
 
 pub fn limit(v: i64, low: i64, high: i64) -> i64 {
     // SAFETY: takes and gives numbers only, and is defined for all of them.
-    unsafe { raw::fonddrys_limit(v, low, high) }
+    unsafe { raw::fonddrys_limit(low, high, v) }
 }
 
 pub fn band_refusal(a: i32, b: i32, g: i32) -> u32 {

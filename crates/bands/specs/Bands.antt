@@ -15,9 +15,15 @@ use Rattle.bands.specs.declared.Band.{Band}
 unfoldable pub alphaAccepted : ℤ → Bool
 alphaAccepted a = within (pos 0) (pos 8388607) a
 
+abbrev pub betaLow : ℤ
+betaLow = negℤ (pos 4194303)
+
+abbrev pub betaHigh : ℤ
+betaHigh = pos 4194303
+
 -- "B from -4,194,303 to 4,194,303"
 unfoldable pub betaAccepted : ℤ → Bool
-betaAccepted b = within (negℤ (pos 4194303)) (pos 4194303) b
+betaAccepted b = within betaLow betaHigh b
 
 -- "|G| less than 4,194,304 + B"
 unfoldable pub gammaAccepted : ℤ → ℤ → Bool

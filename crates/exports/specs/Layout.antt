@@ -1,11 +1,11 @@
 -- Sections and answers as numbers, as the static library passes them. Definitions only.
-use mathlib.Core.Bool.{Bool, true, false}
 use mathlib.Core.List.{List, [], _∷_}
-use Prim.Native.Nat.{ℕ, _+_, _*_, _^_}
+use Prim.Native.Nat.{_+_, _*_, _^_}
 use lib.IntN.{ℤ, pos, _+ℤ_}
 use lib.ListN.{getD}
 use Rattle.refusals.specs.Numbers.{numberOf}
 use Rattle.bands.specs.declared.Band.{Band}
+use Rattle.section.specs.Equation.{flag}
 use Rattle.section.specs.declared.Section.{Section}
 use Rattle.section.specs.declared.Stepped.{Stepped}
 
@@ -26,10 +26,6 @@ sectionOf l =
 
 abbrev pub numbersOf : Section → List ℤ
 numbersOf s = s .band .alpha ∷ s .band .beta ∷ s .band .gamma ∷ s .x1 ∷ s .x2 ∷ s .y1 ∷ s .y2 ∷ []
-
-abbrev pub flag : Bool → ℕ
-flag true = 1
-flag false = 0
 
 -- an answer in one number: y in the low 32 bits, above it 1 where the section has limited, and twice the refusal's number
 abbrev pub packed : Stepped → ℤ

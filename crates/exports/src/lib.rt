@@ -21,7 +21,7 @@ pub extern "C" fn fonddrys_nearest(v: i64, k: u32) -> i64
 
 // v limited to the range from low to high.
 #[no_mangle]
-pub extern "C" fn fonddrys_limit(v: i64, low: i64, high: i64) -> i64
+pub extern "C" fn fonddrys_limit(low: i64, high: i64, v: i64) -> i64
     ensures { λ r. ⌜ r ≡ limit low high v ⌝ }
 {
     rounding::saturate(low, high, v)

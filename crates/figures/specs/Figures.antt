@@ -1,12 +1,11 @@
 -- "Figures to check (starred ones are proved)": what the definitions give, and what document 01 prints. Definitions only.
-use mathlib.Core.Bool.{Bool, true, false}
 use mathlib.Core.List.{List, [], _∷_}
 use Prim.Native.Nat.{_^_}
 use lib.IntN.{ℤ, pos, negℤ, _*ℤ_}
 use lib.ListN.{getD}
 use Rattle.bands.specs.Bands.{bandAt}
 use Rattle.bands.specs.House.{houseSet}
-use Rattle.section.specs.Equation.{worked}
+use Rattle.section.specs.Equation.{sumShift, flag, worked}
 use Rattle.section.specs.Step.{clearedSection, stepped}
 use Rattle.section.specs.declared.Section.{Section}
 
@@ -18,17 +17,13 @@ infix 20 _is_
 abbrev pub _is_ : ℤ → ℤ → Figure
 given is printed = record { given = given; printed = printed }
 
-abbrev flag : Bool → ℤ
-flag true = pos 1
-flag false = pos 0
-
 -- y of S
 abbrev y-of : ℤ → ℤ
 y-of S = worked S .y
 
 -- whether a section limits where the rounded number is r: S is 2^22 × r
 abbrev limits : ℤ → ℤ
-limits r = flag (worked (pos (2 ^ 22) *ℤ r) .limited)
+limits r = pos (flag (worked (pos (2 ^ sumShift) *ℤ r) .limited))
 
 -- the house set's 31 Hz band, after steps on x from a cleared section
 abbrev after : List ℤ → Section

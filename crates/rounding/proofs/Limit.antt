@@ -1,12 +1,11 @@
 -- Limiting to a range: it stays within the range, leaves what is within, and brings no two numbers further apart.
-use mathlib.Core.Path.{_≡_, refl, sym, subst}
-use mathlib.Core.Bool.{Bool, true, false, cond, _&&_}
+use mathlib.Core.Path.{_≡_, refl}
+use mathlib.Core.Bool.{Bool, true, false, cond}
 use Prim.Native.Nat.{_+_, _≤_}
 use lib.IntN.{ℤ, pos, natAbs, _+ℤ_, _-ℤ_}
-use lib.Dec.{T}
 use lib.Signed.{ltZ, leZ, _≤ℤ_, _<ℤ_}
 use Rattle.integers.proofs.Parts.{Term, posPart, negPart, linear, terms-eq, var, _⊕_, _⊖_, ⊝_}
-use Rattle.integers.proofs.Order.{ltZ-true, ltZ-false, leZ-true, le-leZ}
+use Rattle.integers.proofs.Order.{ltZ-true, ltZ-false, leZ-true, le-leZ, both-true}
 use Rattle.integers.proofs.Abs.{abs-parts, abs-neg, abs-le}
 use native.Mathlib.Omega.{arith}
 use Rattle.rounding.specs.Rounding.{limit, within}
@@ -79,12 +78,10 @@ module _ (low high : ℤ) where
 -- what the test of a range tells, and when it holds
 pub within-bounds : (low high v : ℤ) → within low high v ≡ true → (low ≤ℤ v) × (v ≤ℤ high)
 unfolding within
-within-bounds low high v = go (leZ low v) (leZ v high) refl refl
+within-bounds low high v e = (leZ-true low v (tests .0), leZ-true v high (tests .1))
   where
-    go : (a b : Bool) → leZ low v ≡ a → leZ v high ≡ b → a && b ≡ true → (low ≤ℤ v) × (v ≤ℤ high)
-    go true true p q e = (leZ-true low v p, leZ-true v high q)
-    go true false p q e = absurd (subst T (sym e) tt)
-    go false b p q e = absurd (subst T (sym e) tt)
+    tests : (leZ low v ≡ true) × (leZ v high ≡ true)
+    tests = both-true (leZ low v) (leZ v high) e
 
 pub bounds-within : (low high v : ℤ) → low ≤ℤ v → v ≤ℤ high → within low high v ≡ true
 unfolding within

@@ -1,10 +1,10 @@
-// Rounding to the nearest whole number with halves to even, over the shift, and saturation to a range. Both have a result for
-// every input, and that result is the definition's of specs/Rounding.antt.
+// Rounding to the nearest whole number with halves to even, over the shift, saturation to a range, and the test of a range. Each has a
+// result for every input, the definition's of specs/Rounding.antt.
 ghost use mathlib.Core.Path.{_≡_};
 ghost use Prim.Native.Nat.{_<_};
 ghost use Rattle.rounding.specs.Rounding.{rest, nearest, limit, within};
 
-// Round half to even: the nearest whole number to v / 2^k, for every v and every shift k.
+// Round half to even ("rounded"): the nearest whole number to v / 2^k, for every v and every shift k.
 pub fn round_shift(v: i64, k: u32) -> i64
     ensures { λ r. ⌜ r ≡ nearest v k ⌝ }
 {

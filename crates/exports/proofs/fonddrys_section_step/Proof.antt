@@ -2,16 +2,15 @@
 -- step are stored.
 use mathlib.Core.Path.{_≡_, ap, _∙_}
 use mathlib.Core.List.{List, [], _∷_}
-use Prim.Native.Nat.{_<_, _^_}
 use native.Mathlib.Omega.{arith}
 use lib.IntN.{ℤ, pos}
 use lib.ListN.{getD}
-use lib.Signed.{mag}
 use denote.Ref.{now}
 use borrow.Author.Needs.{needs}
 use mir.Syntax.{w32}
 use mir.Val.{toZ, ofZ}
 use mir.Facts.{toZ-ofZ}
+use Rattle.integers.proofs.Machine.{reads-back}
 use Rattle.section.specs.declared.Section.{Section}
 use Rattle.section.specs.declared.Stepped.{Stepped}
 use Rattle.section.specs.Step.{stepped}
@@ -33,25 +32,25 @@ module _ (c : lts.After-y2 (step-reads.Asked, step-reads.Learnt, pack-reads.Aske
   l = now (start .args .numbers)
 
   alpha-reads : toZ w32 (ofZ w32 (getD l 0 (pos 0))) ≡ getD l 0 (pos 0)
-  alpha-reads = toZ-ofZ (record { sfits = omega arith })
+  alpha-reads = reads-back w32 (getD l 0 (pos 0)) (omega arith)
 
   beta-reads : toZ w32 (ofZ w32 (getD l 1 (pos 0))) ≡ getD l 1 (pos 0)
-  beta-reads = toZ-ofZ (record { sfits = omega arith })
+  beta-reads = reads-back w32 (getD l 1 (pos 0)) (omega arith)
 
   gamma-reads : toZ w32 (ofZ w32 (getD l 2 (pos 0))) ≡ getD l 2 (pos 0)
-  gamma-reads = toZ-ofZ (record { sfits = omega arith })
+  gamma-reads = reads-back w32 (getD l 2 (pos 0)) (omega arith)
 
   x1-reads : toZ w32 (ofZ w32 (getD l 3 (pos 0))) ≡ getD l 3 (pos 0)
-  x1-reads = toZ-ofZ (record { sfits = omega arith })
+  x1-reads = reads-back w32 (getD l 3 (pos 0)) (omega arith)
 
   x2-reads : toZ w32 (ofZ w32 (getD l 4 (pos 0))) ≡ getD l 4 (pos 0)
-  x2-reads = toZ-ofZ (record { sfits = omega arith })
+  x2-reads = reads-back w32 (getD l 4 (pos 0)) (omega arith)
 
   y1-reads : toZ w32 (ofZ w32 (getD l 5 (pos 0))) ≡ getD l 5 (pos 0)
-  y1-reads = toZ-ofZ (record { sfits = omega arith })
+  y1-reads = reads-back w32 (getD l 5 (pos 0)) (omega arith)
 
   y2-reads : toZ w32 (ofZ w32 (getD l 6 (pos 0))) ≡ getD l 6 (pos 0)
-  y2-reads = toZ-ofZ (record { sfits = omega arith })
+  y2-reads = reads-back w32 (getD l 6 (pos 0)) (omega arith)
 
 -- the answer is that of the section as lent
 answer-is : (c : lts.After-step (step-reads.Asked, step-reads.Learnt, pack-reads.Asked, pack-reads.Learnt) reads.Pre reads.Post) → c .step .result ≡ stepped (sectionOf (l (c .before))) (start (c .before) .args .x)
@@ -76,19 +75,16 @@ module _ (c : lts.After-struct-told (step-reads.Asked, step-reads.Learnt, pack-r
   abbrev after : Section
   after = c .before .before .step .result .section
 
-  stored : (z : ℤ) → mag z < 2 ^ 31 → toZ w32 (ofZ w32 z) ≡ z
-  stored z h = toZ-ofZ (record { sfits = h })
-
   numbers-stored : _≡_ {A = List ℤ} (toZ w32 (ofZ w32 (after .band .alpha)) ∷ toZ w32 (ofZ w32 (after .band .beta)) ∷ toZ w32 (ofZ w32 (after .band .gamma)) ∷ toZ w32 (ofZ w32 (after .x1)) ∷ toZ w32 (ofZ w32 (after .x2)) ∷ toZ w32 (ofZ w32 (after .y1)) ∷ toZ w32 (ofZ w32 (after .y2)) ∷ []) (numbersOf after)
   numbers-stored =
       λ i.
-      stored (after .band .alpha) (omega arith) i
-      ∷ stored (after .band .beta) (omega arith) i
-      ∷ stored (after .band .gamma) (omega arith) i
-      ∷ stored (after .x1) (omega arith) i
-      ∷ stored (after .x2) (omega arith) i
-      ∷ stored (after .y1) (omega arith) i
-      ∷ stored (after .y2) (omega arith) i
+      reads-back w32 (after .band .alpha) (omega arith) i
+      ∷ reads-back w32 (after .band .beta) (omega arith) i
+      ∷ reads-back w32 (after .band .gamma) (omega arith) i
+      ∷ reads-back w32 (after .x1) (omega arith) i
+      ∷ reads-back w32 (after .x2) (omega arith) i
+      ∷ reads-back w32 (after .y1) (omega arith) i
+      ∷ reads-back w32 (after .y2) (omega arith) i
       ∷ []
 
 -- ---- the needs

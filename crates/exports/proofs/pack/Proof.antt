@@ -1,4 +1,4 @@
--- `exports::pack` meets its contract: a refusal's number is at most 15, so that the packed answer fits.
+-- `exports::pack` meets its contract: a refusal's number has five bits, so that the packed answer fits.
 use mathlib.Core.Path.{_≡_, refl, ap, _∙_}
 use mathlib.Core.Bool.{Bool, true, false}
 use Prim.Native.Nat.{_≤_, _^_}
@@ -14,20 +14,13 @@ use mir.Facts.{toZ-pos}
 use Rattle.integers.proofs.Machine.{Bounded, literal, widened, widen-need, sum, product, result, result-need}
 use Rattle.refusals.specs.Numbers.{numberOf}
 use Rattle.refusals.specs.declared.Verdict.{Verdict}
-use Rattle.refusals.specs.declared.Verdict.the-variants.{Accepted, Alpha, Beta, Gamma, NotWord}
-use Rattle.exports.specs.Layout.{flag}
+use Rattle.refusals.proofs.Laws.{number-small}
+use Rattle.section.specs.Equation.{flag}
 use Rattle.exports.proofs.pack.Statement.{statement}
 use Rattle.exports.proofs.pack.Tie as tie
 use Rattle.exports.proofs.pack.Reads as reads
 use Rattle.exports.proofs.pack.Lts as lts
 use Rattle.refusals.proofs.number.Reads as number-reads
-
-number-small : (v : Verdict) → numberOf v ≤ 15
-number-small Accepted = lit≤ tt
-number-small Alpha = lit≤ tt
-number-small Beta = lit≤ tt
-number-small Gamma = lit≤ tt
-number-small NotWord = lit≤ tt
 
 flag-reads : (b : Bool) → toZ w64 (boolByte b) ≡ pos (flag b)
 flag-reads true = refl
@@ -51,7 +44,7 @@ module _ (c : lts.After-number (number-reads.Asked, number-reads.Learnt) reads.P
   Number =
       record {
         held = record { bits = c .number .result; value = pos (numberOf verdict); reads = number-reads′ };
-        bound = 15;
+        bound = 31;
         within = number-small verdict;
       }
 

@@ -10,9 +10,9 @@ use mir.Val.{SFits, toZ, ofZ}
 use mir.Facts.{toZ-ofZ}
 use Rattle.refusals.specs.declared.Verdict.the-variants.{Accepted}
 use Rattle.integers.proofs.Parts.{linear}
-use Rattle.integers.proofs.Machine.{num, unary, unary-need, range-fits}
+use Rattle.integers.proofs.Machine.{num, unary, unary-need, range-fits, reads-back}
 use Rattle.rounding.specs.Rounding.{nearest, limit}
-use Rattle.bands.specs.Words.{wordLow, wordHigh, isWord}
+use Rattle.bands.specs.Words.{wordSize, wordLow, wordHigh, isWord}
 use Rattle.bands.proofs.Laws.{Accepts}
 use Rattle.section.specs.declared.Section.{Section}
 use Rattle.section.specs.Equation.{exactSum, worked}
@@ -42,16 +42,16 @@ module _ (c : lts.After-struct-told4 (exact-sum-reads.Asked, exact-sum-reads.Lea
   x-reads = toZ-ofZ (c .before .before .before .before .before .fits .x)
 
   x1-reads : toZ w32 (ofZ w32 (section .x1)) ≡ section .x1
-  x1-reads = toZ-ofZ (record { sfits = omega arith })
+  x1-reads = reads-back w32 (section .x1) (omega arith)
 
   x2-reads : toZ w32 (ofZ w32 (section .x2)) ≡ section .x2
-  x2-reads = toZ-ofZ (record { sfits = omega arith })
+  x2-reads = reads-back w32 (section .x2) (omega arith)
 
   y1-reads : toZ w32 (ofZ w32 (section .y1)) ≡ section .y1
-  y1-reads = toZ-ofZ (record { sfits = omega arith })
+  y1-reads = reads-back w32 (section .y1) (omega arith)
 
   y2-reads : toZ w32 (ofZ w32 (section .y2)) ≡ section .y2
-  y2-reads = toZ-ofZ (record { sfits = omega arith })
+  y2-reads = reads-back w32 (section .y2) (omega arith)
 
   coefficients : Accepts (section .band)
   coefficients = accepted-sizes section x (c .before .before .before .before .before .pre)
@@ -60,8 +60,8 @@ module _ (c : lts.After-struct-told4 (exact-sum-reads.Asked, exact-sum-reads.Lea
   numbers = accepted-words section x (c .before .before .before .before .before .pre)
 
 -- a size, of the number as read
-size-read : {z r : ℤ} → r ≡ z → natAbs z ≤ 8388608 → natAbs r ≤ 8388608
-size-read e h = subst (λ (n : ℤ). natAbs n ≤ 8388608) (sym e) h
+size-read : {z r : ℤ} → r ≡ z → natAbs z ≤ wordSize → natAbs r ≤ wordSize
+size-read e h = subst (λ (n : ℤ). natAbs n ≤ wordSize) (sym e) h
 
 exact-sum-requires : tie.Need-exact-sum-requires
 exact-sum-requires c κs =

@@ -4,18 +4,19 @@ use lib.IntN.{ℤ, natAbs}
 use mir.Syntax.{w32, w64}
 use mir.Val.{SFits}
 use Rattle.integers.proofs.Machine.{Bounded, below-fits, widened, widen-need, sum, difference, product, result, result-need}
+use Rattle.bands.specs.Words.{wordSize}
 use Rattle.section.specs.Equation.{exactSum}
 use Rattle.section.proofs.exact_sum.Statement.{statement}
 use Rattle.section.proofs.exact_sum.Tie as tie
 use Rattle.section.proofs.exact_sum.Reads as reads
 use Rattle.section.proofs.exact_sum.Lts as lts
 
-small : {z : ℤ} → natAbs z ≤ 8388608 → SFits w32 z
+small : {z : ℤ} → natAbs z ≤ wordSize → SFits w32 z
 small h = below-fits h tt
 
 -- an operand, widened
-abbrev operand : (z : ℤ) → natAbs z ≤ 8388608 → Bounded w64
-operand z h = record { held = widened tt z (small h); bound = 8388608; within = h }
+abbrev operand : (z : ℤ) → natAbs z ≤ wordSize → Bounded w64
+operand z h = record { held = widened tt z (small h); bound = wordSize; within = h }
 
 module _ (s : lts.Start reads.Pre reads.Post) where
   abbrev X : Bounded w64

@@ -1,0 +1,26 @@
+-- A refused step leaves every lent number as it was, and its answer is the refusal's number alone.
+use mathlib.Core.Path.{_≡_, ap}
+use mathlib.Core.Bool.{Bool, false, cond}
+use mathlib.Core.List.{List, [], _∷_}
+use Prim.Native.Nat.{_+_, _*_, _^_}
+use lib.IntN.{ℤ, pos, _+ℤ_}
+use Rattle.refusals.specs.Numbers.{numberOf, isAccepted}
+use Rattle.section.specs.declared.Section.{Section}
+use Rattle.section.specs.declared.Stepped.{Stepped}
+use Rattle.section.specs.Step.{stepVerdict, advanced, refused, stepped}
+use Rattle.exports.specs.Layout.{sectionOf, numbersOf, packed}
+
+-- the answer of a refused step
+refused-is : (s : Section) (x : ℤ) → isAccepted (stepVerdict s x) ≡ false → stepped s x ≡ refused (stepVerdict s x) s
+unfolding stepped
+refused-is s x e = ap (λ (b : Bool). cond b (advanced s x) (refused (stepVerdict s x) s)) e
+
+module _ (a b g x1 x2 y1 y2 x : ℤ) where
+  abbrev lent : List ℤ
+  lent = a ∷ b ∷ g ∷ x1 ∷ x2 ∷ y1 ∷ y2 ∷ []
+
+  pub refused-unchanged : isAccepted (stepVerdict (sectionOf lent) x) ≡ false → numbersOf (stepped (sectionOf lent) x .section) ≡ lent
+  refused-unchanged e = ap (λ (r : Stepped). numbersOf (r .section)) (refused-is (sectionOf lent) x e)
+
+  pub refused-number : isAccepted (stepVerdict (sectionOf lent) x) ≡ false → packed (stepped (sectionOf lent) x) ≡ pos ((2 * numberOf (stepVerdict (sectionOf lent) x) + 0) * 2 ^ 32) +ℤ pos 0
+  refused-number e = ap packed (refused-is (sectionOf lent) x e)

@@ -1,0 +1,2 @@
+-- The laws of the static library's layout.
+pub mod Laws

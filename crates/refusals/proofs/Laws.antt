@@ -1,0 +1,21 @@
+-- What an accepted answer tells of the tests that led to it, and how large a refusal's number is.
+use mathlib.Core.Path.{_≡_, refl, sym, _∙_, subst}
+use mathlib.Core.Bool.{Bool, true, false}
+use Prim.Native.Nat.{_≤_}
+use lib.Dec.{T, lit≤}
+use Rattle.refusals.specs.Numbers.{numberOf, isAccepted, unless}
+use Rattle.refusals.specs.declared.Verdict.{Verdict}
+use Rattle.refusals.specs.declared.Verdict.the-variants.{Accepted, Alpha, Beta, Gamma, NotWord}
+
+-- where the answer is accepted, the test passed and what follows it is accepted too
+pub unless-accepted : (t : Bool) (refusal next : Verdict) → (t ≡ false → isAccepted refusal ≡ false) → isAccepted (unless t refusal next) ≡ true → (t ≡ true) × (isAccepted next ≡ true)
+unless-accepted true refusal next f e = (refl, e)
+unless-accepted false refusal next f e = absurd (subst T (sym (sym (f refl) ∙ e)) tt)
+
+-- five bits hold every number
+pub number-small : (v : Verdict) → numberOf v ≤ 31
+number-small Accepted = lit≤ tt
+number-small Alpha = lit≤ tt
+number-small Beta = lit≤ tt
+number-small Gamma = lit≤ tt
+number-small NotWord = lit≤ tt
