@@ -2,21 +2,30 @@
 use mathlib.Core.Bool.{Bool, true, false}
 use Prim.Native.Nat.{ℕ}
 use Rattle.refusals.specs.declared.Verdict.{Verdict}
-use Rattle.refusals.specs.declared.Verdict.the-variants.{Accepted, Alpha, Beta, Gamma, NotWord}
+use Rattle.refusals.specs.declared.Verdict.the-variants.{Accepted, InputLength, OutputShort, SetLength, Alpha, Beta, Gamma, Unfit, NotWord}
 
--- "8 (A), 9 (B), 10 (G)", and "15 where x or one of the four remembered numbers is no word"; 0 is no refusal
+-- "5 input bytes no multiple of four; 6 output shorter than input", "7 a set that isn't thirty numbers", "8 (A), 9 (B), 10 (G)", "an
+-- unfit one is 14", and "15 where x or one of the four remembered numbers is no word"; 0 is no refusal
 abbrev pub numberOf : Verdict → ℕ
 numberOf Accepted = 0
+numberOf InputLength = 5
+numberOf OutputShort = 6
+numberOf SetLength = 7
 numberOf Alpha = 8
 numberOf Beta = 9
 numberOf Gamma = 10
+numberOf Unfit = 14
 numberOf NotWord = 15
 
 abbrev pub isAccepted : Verdict → Bool
 isAccepted Accepted = true
+isAccepted InputLength = false
+isAccepted OutputShort = false
+isAccepted SetLength = false
 isAccepted Alpha = false
 isAccepted Beta = false
 isAccepted Gamma = false
+isAccepted Unfit = false
 isAccepted NotWord = false
 
 -- the refusal where the test fails, or else what follows it

@@ -4,10 +4,17 @@ ghost use Rattle.refusals.specs.Numbers.{numberOf, isAccepted};
 
 pub enum Verdict {
     Accepted,
+    // The transfer engineer: the input is no whole number of frames, or the output is shorter than the input.
+    InputLength,
+    OutputShort,
+    // The filter designer: the set is not thirty numbers.
+    SetLength,
     // The filter designer: a band's alpha, beta or gamma is outside its range.
     Alpha,
     Beta,
     Gamma,
+    // Whoever plays a block: the unit is unfit.
+    Unfit,
     // Whoever steps a section alone: a number is no word.
     NotWord,
 }
@@ -18,9 +25,13 @@ pub fn number(verdict: Verdict) -> u32
 {
     match verdict {
         Verdict::Accepted => 0,
+        Verdict::InputLength => 5,
+        Verdict::OutputShort => 6,
+        Verdict::SetLength => 7,
         Verdict::Alpha => 8,
         Verdict::Beta => 9,
         Verdict::Gamma => 10,
+        Verdict::Unfit => 14,
         Verdict::NotWord => 15,
     }
 }
@@ -31,9 +42,13 @@ pub fn accepted(verdict: Verdict) -> bool
 {
     match verdict {
         Verdict::Accepted => true,
+        Verdict::InputLength => false,
+        Verdict::OutputShort => false,
+        Verdict::SetLength => false,
         Verdict::Alpha => false,
         Verdict::Beta => false,
         Verdict::Gamma => false,
+        Verdict::Unfit => false,
         Verdict::NotWord => false,
     }
 }
