@@ -1,6 +1,7 @@
 //! The library's C ABI and thin safe wrappers.
 
 use crate::reference::Section;
+use crate::unit::Numbers;
 
 /// The functions as the static library `exports` gives them.
 pub mod raw {
@@ -10,6 +11,16 @@ pub mod raw {
         pub fn fonddrys_band_refusal(a: i32, b: i32, g: i32) -> u32;
         pub fn fonddrys_house_set(words: *mut [i32; 30]);
         pub fn fonddrys_section_step(section: *mut [i32; 7], x: i32) -> i64;
+        pub fn fonddrys_level_moved(present: i32, target: i32, slope: u32) -> i32;
+        pub fn fonddrys_load(unit: *mut [i32; 118], set: *const i32, set_len: usize) -> u32;
+        pub fn fonddrys_unit_fit(unit: *const [i32; 118]) -> u32;
+        pub fn fonddrys_block(
+            unit: *mut [i32; 118],
+            input: *const u8,
+            input_len: usize,
+            output: *mut u8,
+            output_len: usize,
+        ) -> u32;
     }
 }
 
@@ -40,32 +51,25 @@ pub fn section_step(section: &mut Section, x: i32) -> i64 {
     unsafe { raw::fonddrys_section_step(section, x) }
 }
 
-/// Calls the two functions that take a pointer in the middle of a larger
-/// buffer. True where they leave the numbers around their own as they were.
-pub fn keeps_to_its_numbers() -> bool {
-    const FRONT: usize = 40;
-    const MARK: i32 = 0x5AA5_1234;
-    let mut buffer = vec![MARK; 2 * FRONT + 30];
-    let middle = unsafe { buffer.as_mut_ptr().add(FRONT) };
-    // SAFETY: thirty numbers follow `middle` inside the buffer.
-    unsafe { raw::fonddrys_house_set(middle.cast()) };
-    let mut kept = surroundings_are(&buffer, FRONT, 30, MARK);
-    for (section, x) in [
-        ([6606, 4_181_093, 8_375_315, 0, 0, 0, 0], 256_000),
-        ([-1; 7], 0),
-    ] {
-        buffer.fill(MARK);
-        buffer[FRONT..FRONT + 7].copy_from_slice(&section);
-        let middle = unsafe { buffer.as_mut_ptr().add(FRONT) };
-        // SAFETY: seven numbers follow `middle` inside the buffer.
-        unsafe { raw::fonddrys_section_step(middle.cast(), x) };
-        kept &= surroundings_are(&buffer, FRONT, 7, MARK);
-    }
-    kept
+pub fn level_moved(present: i32, target: i32, slope: u32) -> i32 {
+    // SAFETY: takes and gives numbers only, and is defined for all of them.
+    unsafe { raw::fonddrys_level_moved(present, target, slope) }
 }
 
-fn surroundings_are(buffer: &[i32], front: usize, length: usize, mark: i32) -> bool {
-    let ahead = &buffer[..front];
-    let behind = &buffer[front + length..];
-    ahead.iter().chain(behind).all(|&number| number == mark)
+pub fn load(unit: &mut Numbers, set: &[i32]) -> u32 {
+    // SAFETY: the unit is 118 numbers that nobody else holds; the set is read
+    // for its own length.
+    unsafe { raw::fonddrys_load(unit, set.as_ptr(), set.len()) }
+}
+
+pub fn unit_fit(unit: &Numbers) -> u32 {
+    // SAFETY: the pointer is to 118 numbers, which are only read.
+    unsafe { raw::fonddrys_unit_fit(unit) }
+}
+
+pub fn block(unit: &mut Numbers, input: &[u8], output: &mut [u8]) -> u32 {
+    let (from, to) = (input.as_ptr(), output.as_mut_ptr());
+    // SAFETY: the unit and the output are lent to the library alone, the input
+    // is only read, and each pointer comes with its own length.
+    unsafe { raw::fonddrys_block(unit, from, input.len(), to, output.len()) }
 }

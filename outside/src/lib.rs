@@ -1,9 +1,12 @@
-//! Outside tests of the equaliser: an implementation of the section written
-//! from document 01 alone, and the comparison of the library with it.
+//! Outside tests of the equaliser: an implementation of the section and of the
+//! unit written from document 01 alone, and the comparison of the library with
+//! it.
 
 pub mod checks;
 pub mod faults;
 pub mod ffi;
+pub mod lent;
 pub mod random;
 pub mod reference;
 pub mod subject;
+pub mod unit;

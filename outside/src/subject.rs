@@ -2,14 +2,19 @@
 
 use crate::ffi;
 use crate::reference::{self, fast, Section};
+use crate::unit::{self, Numbers};
 
-/// The five functions of the C ABI, whoever implements them.
+/// The nine functions of the C ABI, whoever implements them.
 pub trait Subject {
     fn nearest(&self, v: i64, k: u32) -> i64;
     fn limit(&self, v: i64, low: i64, high: i64) -> i64;
     fn band_refusal(&self, a: i32, b: i32, g: i32) -> u32;
     fn house_set(&self) -> [i32; 30];
     fn section_step(&self, section: &mut Section, x: i32) -> i64;
+    fn level_moved(&self, present: i32, target: i32, slope: u32) -> i32;
+    fn load(&self, numbers: &mut Numbers, set: &[i32]) -> u32;
+    fn unit_fit(&self, numbers: &Numbers) -> u32;
+    fn block(&self, numbers: &mut Numbers, input: &[u8], output: &mut [u8]) -> u32;
 }
 
 /// The library, over the C ABI.
@@ -30,6 +35,18 @@ impl Subject for Library {
     }
     fn section_step(&self, section: &mut Section, x: i32) -> i64 {
         ffi::section_step(section, x)
+    }
+    fn level_moved(&self, present: i32, target: i32, slope: u32) -> i32 {
+        ffi::level_moved(present, target, slope)
+    }
+    fn load(&self, numbers: &mut Numbers, set: &[i32]) -> u32 {
+        ffi::load(numbers, set)
+    }
+    fn unit_fit(&self, numbers: &Numbers) -> u32 {
+        ffi::unit_fit(numbers)
+    }
+    fn block(&self, numbers: &mut Numbers, input: &[u8], output: &mut [u8]) -> u32 {
+        ffi::block(numbers, input, output)
     }
 }
 
@@ -57,5 +74,17 @@ impl Subject for Fast {
     }
     fn section_step(&self, section: &mut Section, x: i32) -> i64 {
         fast::step(section, x)
+    }
+    fn level_moved(&self, present: i32, target: i32, slope: u32) -> i32 {
+        unit::fast::level_moved(present, target, slope)
+    }
+    fn load(&self, numbers: &mut Numbers, set: &[i32]) -> u32 {
+        unit::load(numbers, set)
+    }
+    fn unit_fit(&self, numbers: &Numbers) -> u32 {
+        unit::fast::fit(numbers).into()
+    }
+    fn block(&self, numbers: &mut Numbers, input: &[u8], output: &mut [u8]) -> u32 {
+        unit::fast::block(numbers, input, output)
     }
 }

@@ -4,14 +4,10 @@ use Prim.Native.Nat.{_+_, _*_, _^_}
 use lib.IntN.{ℤ, pos, _+ℤ_}
 use lib.ListN.{getD}
 use Rattle.refusals.specs.Numbers.{numberOf}
-use Rattle.bands.specs.declared.Band.{Band}
+use Rattle.bands.specs.Bands.{bandOf}
 use Rattle.section.specs.Equation.{flag}
 use Rattle.section.specs.declared.Section.{Section}
 use Rattle.section.specs.declared.Stepped.{Stepped}
-
--- a band is three numbers: A, B, G
-abbrev pub bandOf : ℤ → ℤ → ℤ → Band
-bandOf alpha beta gamma = record { alpha = alpha; beta = beta; gamma = gamma }
 
 -- a section is seven numbers: A, B, G, x1, x2, y1, y2
 abbrev pub sectionOf : List ℤ → Section

@@ -3,10 +3,10 @@
 ghost use mathlib.Core.Path.{_≡_};
 ghost use Rattle.rounding.specs.Rounding.{nearest, limit};
 ghost use Rattle.refusals.specs.Numbers.{numberOf};
-ghost use Rattle.bands.specs.Bands.{bandVerdict};
+ghost use Rattle.bands.specs.Bands.{bandVerdict, bandOf};
 ghost use Rattle.bands.specs.House.{houseSet};
 ghost use Rattle.section.specs.Step.{stepped};
-ghost use Rattle.exports.specs.Layout.{bandOf, sectionOf, numbersOf, packed};
+ghost use Rattle.exports.specs.Layout.{sectionOf, numbersOf, packed};
 use bands::Band;
 use section::Section;
 use section::Stepped;

@@ -4,8 +4,10 @@
 // Words have 24 bits. A call that is refused gives the result 0 and the section unchanged.
 ghost use mathlib.Core.Path.{_≡_};
 ghost use mathlib.Core.Bool.{true};
+ghost use Rattle.rounding.specs.Rounding.{nearest};
 ghost use Rattle.refusals.specs.Numbers.{isAccepted};
-ghost use Rattle.section.specs.Equation.{exactSum};
+ghost use Rattle.bands.specs.Bands.{bandOf};
+ghost use Rattle.section.specs.Equation.{exactSum, sumShift};
 ghost use Rattle.section.specs.Step.{clearedSection, allWords, stepVerdict, advanced, stepped};
 ghost use Rattle.section.specs.Small.{Small};
 use bands::Band;
@@ -104,8 +106,7 @@ fn advance(section: Section, x: i32) -> Stepped
     let x2 = section.x2;
     let y1 = section.y1;
     let y2 = section.y2;
-    let sum = exact_sum(band, x, x2, y1, y2);
-    let rounded = rounding::round_shift(sum, SUM_SHIFT);
+    let rounded = step_rounded(band, x, x2, y1, y2);
     let y = rounding::saturate(bands::WORD_LOW, bands::WORD_HIGH, rounded) as i32;
     let limited = !rounding::in_range(bands::WORD_LOW, bands::WORD_HIGH, rounded);
     let after = Section {
@@ -123,13 +124,29 @@ fn advance(section: Section, x: i32) -> Stepped
     }
 }
 
-// The exact sum of equation (8): with coefficients and numbers of at most 2^23 in size it stays below 2^49.
-fn exact_sum(band: Band, x: i32, x2: i32, y1: i32, y2: i32) -> i64
+// The same from the numbers of a step.
+fn step_rounded(band: Band, x: i32, x2: i32, y1: i32, y2: i32) -> i64
     requires { ⌜ Small band x x2 y1 y2 ⌝ }
-    ensures { λ r. ⌜ r ≡ exactSum band x x2 y1 y2 ⌝ }
+    ensures { λ r. ⌜ r ≡ nearest (exactSum band x x2 y1 y2) sumShift ⌝ }
 {
     let alpha = band.alpha as i64;
     let beta = band.beta as i64;
     let gamma = band.gamma as i64;
-    alpha * (x as i64 - x2 as i64) + gamma * (y1 as i64) - beta * (y2 as i64)
+    rounded_sum(alpha, beta, gamma, x as i64, x2 as i64, y1 as i64, y2 as i64)
+}
+
+// S / 2^22 rounded, and not limited yet: with coefficients and numbers of at most 2^23 in size S stays below 2^49.
+pub fn rounded_sum(
+    alpha: i64,
+    beta: i64,
+    gamma: i64,
+    x: i64,
+    x2: i64,
+    y1: i64,
+    y2: i64,
+) -> i64
+    requires { ⌜ Small (bandOf alpha beta gamma) x x2 y1 y2 ⌝ }
+    ensures { λ r. ⌜ r ≡ nearest (exactSum (bandOf alpha beta gamma) x x2 y1 y2) sumShift ⌝ }
+{
+    rounding::round_near(alpha * (x - x2) + gamma * y1 - beta * y2, SUM_SHIFT)
 }

@@ -4,9 +4,13 @@
 use std::process::ExitCode;
 use std::time::Instant;
 
-use outside::checks::{arithmetic, bands, refusals, steps, Difference, Tally, GROUPS};
-use outside::faults::{Impostor, IMPOSTORS};
-use outside::ffi;
+use outside::checks::groups::{Group, SECTION_GROUPS, UNIT_GROUPS};
+use outside::checks::{
+    arithmetic, bands, block_refusals, blocks, cuts, fitness, levels, loads, refusals, steps,
+};
+use outside::checks::{Difference, Tally};
+use outside::faults::{section, unit, Impostor};
+use outside::lent;
 use outside::subject::{Fast, Library, Subject};
 
 fn main() -> ExitCode {
@@ -27,27 +31,37 @@ fn main() -> ExitCode {
 }
 
 fn print_seeds() {
-    println!(
-        "seeds: nearest {:#x}, limit {:#x}, bands {:#x}, lists {:#x}, refused calls {:#x}",
-        arithmetic::NEAREST_SEED,
-        arithmetic::LIMIT_SEED,
-        bands::BANDS_SEED,
-        steps::LISTS_SEED,
-        refusals::REFUSALS_SEED,
-    );
+    let seeds = [
+        ("nearest", arithmetic::NEAREST_SEED),
+        ("limit", arithmetic::LIMIT_SEED),
+        ("bands", bands::BANDS_SEED),
+        ("lists", steps::LISTS_SEED),
+        ("refused calls", refusals::REFUSALS_SEED),
+        ("levels", levels::LEVELS_SEED),
+        ("loadings", loads::LOADS_SEED),
+        ("fitness", fitness::FITNESS_SEED),
+        ("blocks", blocks::BLOCKS_SEED),
+        ("frames", blocks::FRAMES_SEED),
+        ("cuts", cuts::CUTS_SEED),
+        ("refused blocks", block_refusals::BLOCK_REFUSALS_SEED),
+    ];
+    let seeds = seeds.map(|(name, seed)| format!("{name} {seed:#x}"));
+    println!("seeds: {}", seeds.join(", "));
 }
 
 fn everything() -> Result<(), Difference> {
-    println!("The fast Rust section against the exact one:");
+    println!("The fast Rust form against the exact one:");
     every_group(&Fast)?;
-    println!("The library against the exact Rust section:");
+    println!("The library against the exact Rust form:");
     every_group(&Library)?;
-    if !ffi::keeps_to_its_numbers() {
-        return Err("the library wrote outside the numbers lent to it".to_string());
+    if !lent::keeps_to_its_numbers() {
+        return Err("the library wrote outside what was lent to it".to_string());
     }
-    println!("  numbers before and behind the lent ones kept");
+    println!("  numbers and bytes before and behind the lent ones kept");
     println!("Wrong implementations, each to be found by the groups named:");
-    for impostor in &IMPOSTORS {
+    nothing_wrong(&section::Fault::Nothing, &SECTION_GROUPS)?;
+    nothing_wrong(&unit::Fault::Nothing, &UNIT_GROUPS)?;
+    for impostor in section::IMPOSTORS.iter().chain(&unit::IMPOSTORS) {
         unmask(impostor)?;
     }
     Ok(())
@@ -56,50 +70,43 @@ fn everything() -> Result<(), Difference> {
 /// Runs all groups against one subject and prints a line for each.
 fn every_group(subject: &dyn Subject) -> Result<(), Difference> {
     let mut total = Tally::default();
-    for group in GROUPS {
+    for group in SECTION_GROUPS.iter().chain(&UNIT_GROUPS) {
         let tally =
             (group.run)(subject).map_err(|difference| format!("{}: {difference}", group.name))?;
+        let frames = match tally.frames {
+            0 => String::new(),
+            frames => format!(", {frames} frames"),
+        };
         println!(
-            "  {} ({}): {} answers agree",
+            "  {} ({}): {} answers agree{frames}",
             group.name, group.what, tally.answers
         );
         total.add(&tally);
     }
-    println!(
-        "  in all {} answers; {} steps refused",
-        total.answers, total.refused
-    );
-    println!(
-        "  {} steps limited ({} high, {} low); {} exact halves ({} up, {} down)",
-        total.limited(),
-        total.limited_high,
-        total.limited_low,
-        total.halves(),
-        total.halves_up,
-        total.halves_down,
-    );
-    all_reached(&total)
+    println!("  in all {} answers, among them", total.answers);
+    for (what, count) in total.reached() {
+        println!("    {count} {what}");
+        if count == 0 {
+            return Err(format!("the comparison reached no {what}"));
+        }
+    }
+    Ok(())
 }
 
-/// A comparison that never limits or never meets a half proves nothing of them.
-fn all_reached(total: &Tally) -> Result<(), Difference> {
-    let reached = [
-        ("refused steps", total.refused),
-        ("steps limited at the upper end", total.limited_high),
-        ("steps limited at the lower end", total.limited_low),
-        ("halves rounded up", total.halves_up),
-        ("halves rounded down", total.halves_down),
-    ];
-    match reached.iter().find(|(_, count)| *count == 0) {
-        Some((what, _)) => Err(format!("the comparison reached no {what}")),
-        None => Ok(()),
+/// What the wrong implementations have in common must be right, or they would
+/// be found for something else than their fault.
+fn nothing_wrong(subject: &dyn Subject, groups: &[Group]) -> Result<(), Difference> {
+    for group in groups {
+        (group.run)(subject)
+            .map_err(|difference| format!("nothing wrong, {}: {difference}", group.name))?;
     }
+    Ok(())
 }
 
 /// Every group that ought to find this wrong implementation must do so.
 fn unmask(impostor: &Impostor) -> Result<(), Difference> {
     for group in impostor.found_by {
-        if (group.run)(&impostor.fault).is_ok() {
+        if (group.run)(impostor.fault).is_ok() {
             return Err(format!("{}: not found by {}", impostor.name, group.name));
         }
     }

@@ -25,10 +25,10 @@ const FIT_CALLS: [Call; 5] = [
     ],
 ];
 
-/// Numbers outside the range of one place, by one and by far. For G they are
-/// outside whatever the accepted B beside it.
-fn wrong_numbers(call: &Call, place: usize) -> Vec<i32> {
-    let edge = 4_194_304 + call[1];
+/// Numbers outside the range of one place of a call, by one and by far. Those
+/// of G are outside beside this accepted B.
+pub fn wrong_numbers(b: i32, place: usize) -> Vec<i32> {
+    let edge = 4_194_304 + b;
     let mut wrong = match place {
         0 => vec![-1, 8_388_608, -8_388_608, 16_777_216],
         1 => vec![
@@ -86,7 +86,7 @@ fn spoil(fit: &Call, places: u32, mut turn: impl FnMut(usize) -> usize) -> Call 
     let mut call = *fit;
     for (place, number) in call.iter_mut().enumerate() {
         if places & (1 << place) != 0 {
-            let wrong = wrong_numbers(fit, place);
+            let wrong = wrong_numbers(fit[1], place);
             *number = wrong[turn(place) % wrong.len()];
         }
     }

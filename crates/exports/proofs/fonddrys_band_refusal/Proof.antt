@@ -4,7 +4,7 @@ use borrow.Author.Needs.{needs}
 use mir.Facts.{toZ-ofZ}
 use Rattle.refusals.specs.Numbers.{numberOf}
 use Rattle.bands.specs.Bands.{bandVerdict}
-use Rattle.exports.specs.Layout.{bandOf}
+use Rattle.bands.specs.Bands.{bandOf}
 use Rattle.exports.proofs.fonddrys_band_refusal.Statement.{statement}
 use Rattle.exports.proofs.fonddrys_band_refusal.Tie as tie
 

@@ -1,17 +1,18 @@
-//! Wrong implementations. The comparison must find a difference in each, in
-//! every group named beside it; a comparison that passes one of them is itself
-//! wrong.
+//! Wrong sections. Their units are right.
 
-use crate::checks::{Group, BANDS, CORNERS, FIGURES, HOUSE, LIMIT, LISTS, NEAREST, REFUSED};
+use super::{impostor, Impostor};
+use crate::checks::groups::{BANDS, CORNERS, FIGURES, HOUSE, LIMIT, LISTS, NEAREST, REFUSED};
 use crate::reference::{
     band_refusal, exact, fast, house_set, is_word, pack, Section, ACCEPTED, NO_WORD, REFUSED_A,
     REFUSED_B, REFUSED_G, TABLE_1, WORD_MAX, WORD_MIN,
 };
-use crate::subject::Subject;
+use crate::subject::{Fast, Subject};
+use crate::unit::Numbers;
 
 /// What is wrong.
 #[derive(Clone, Copy, PartialEq)]
 pub enum Fault {
+    Nothing,
     HalvesUpwards,
     HalvesAwayFromZero,
     ProductsRounded,
@@ -28,81 +29,74 @@ pub enum Fault {
     HouseCutOff,
 }
 
-/// A wrong implementation, in words, and the groups that must find it.
-pub struct Impostor {
-    pub fault: Fault,
-    pub name: &'static str,
-    pub found_by: &'static [Group],
-}
-
-const fn impostor(fault: Fault, name: &'static str, found_by: &'static [Group]) -> Impostor {
-    Impostor {
-        fault,
-        name,
-        found_by,
-    }
-}
-
 pub const IMPOSTORS: [Impostor; 14] = [
     impostor(
-        Fault::HalvesUpwards,
+        &Fault::HalvesUpwards,
         "halves rounded upwards",
         &[NEAREST, LISTS, CORNERS, FIGURES],
     ),
     impostor(
-        Fault::HalvesAwayFromZero,
+        &Fault::HalvesAwayFromZero,
         "halves rounded away from zero",
         &[NEAREST, LISTS, CORNERS, FIGURES],
     ),
     impostor(
-        Fault::ProductsRounded,
+        &Fault::ProductsRounded,
         "each product rounded by itself",
         &[LISTS, CORNERS, FIGURES],
     ),
     impostor(
-        Fault::WordWraps,
+        &Fault::WordWraps,
         "the word left to wrap",
         &[LISTS, CORNERS, FIGURES],
     ),
     impostor(
-        Fault::X1ForX2,
+        &Fault::X1ForX2,
         "x1 in place of x2",
         &[LISTS, CORNERS, FIGURES],
     ),
     impostor(
-        Fault::UnlimitedRemembered,
+        &Fault::UnlimitedRemembered,
         "the unlimited y remembered",
         &[LISTS, CORNERS, FIGURES],
     ),
     impostor(
-        Fault::LimitedAtTheEnd,
+        &Fault::LimitedAtTheEnd,
         "counted as limited where y is at the end of a word",
         &[CORNERS, FIGURES],
     ),
     impostor(
-        Fault::Test9Before8,
+        &Fault::Test9Before8,
         "9 tested ahead of 8",
         &[BANDS, REFUSED],
     ),
-    impostor(Fault::Test15First, "15 tested ahead of 8 to 10", &[REFUSED]),
     impostor(
-        Fault::EdgeOfGAccepted,
+        &Fault::Test15First,
+        "15 tested ahead of 8 to 10",
+        &[REFUSED],
+    ),
+    impostor(
+        &Fault::EdgeOfGAccepted,
         "|G| = 4,194,304 + B accepted",
         &[BANDS, REFUSED],
     ),
     impostor(
-        Fault::RefusedStepShifts,
+        &Fault::RefusedStepShifts,
         "a refused step moves x1 on",
         &[REFUSED],
     ),
-    impostor(Fault::HighTestedFirst, "high tested ahead of low", &[LIMIT]),
     impostor(
-        Fault::ShiftTakenModulo64,
+        &Fault::HighTestedFirst,
+        "high tested ahead of low",
+        &[LIMIT],
+    ),
+    impostor(
+        &Fault::ShiftTakenModulo64,
         "the shift taken modulo 64",
         &[NEAREST],
     ),
     impostor(
-        Fault::HouseCutOff,
+        &Fault::HouseCutOff,
         "the house set cut off, not to the nearest",
         &[HOUSE, FIGURES],
     ),
@@ -208,5 +202,18 @@ impl Subject for Fault {
         let (y, remembered, limited) = self.limited(self.rounded(section, x));
         *section = [a, b, g, x, x1, remembered, y1];
         pack(ACCEPTED, limited, y)
+    }
+
+    fn level_moved(&self, present: i32, target: i32, slope: u32) -> i32 {
+        Fast.level_moved(present, target, slope)
+    }
+    fn load(&self, numbers: &mut Numbers, set: &[i32]) -> u32 {
+        Fast.load(numbers, set)
+    }
+    fn unit_fit(&self, numbers: &Numbers) -> u32 {
+        Fast.unit_fit(numbers)
+    }
+    fn block(&self, numbers: &mut Numbers, input: &[u8], output: &mut [u8]) -> u32 {
+        Fast.block(numbers, input, output)
     }
 }

@@ -1,8 +1,12 @@
-//! Times the library's section step and rounding over the C ABI against plain
-//! Rust of the same shape: same input, same loop, taken in turns. No time is
-//! asserted; the results must be equal.
+//! Times the library's section step, rounding and blocks over the C ABI against
+//! plain Rust of the same shape: same input, same loop, taken in turns. The
+//! results must be equal. Exit status 0 only if a block of the library takes at
+//! most a tenth longer than one of the Rust form; no other time is asserted.
+
+mod blocks;
 
 use std::hint::black_box;
+use std::process::ExitCode;
 use std::time::Instant;
 
 use outside::ffi::raw;
@@ -12,6 +16,8 @@ use outside::reference::{fast, house_set, Section};
 const SEED: u64 = 0xF0DD_00BE;
 const COUNT: usize = 2_000_000;
 const ROUNDS: usize = 11;
+/// The most that a block of 4,096 frames may take, in times of the Rust form.
+const MOST: f64 = 1.10;
 
 type StepFn = unsafe extern "C" fn(*mut Section, i32) -> i64;
 type NearestFn = unsafe extern "C" fn(i64, u32) -> i64;
@@ -77,9 +83,20 @@ fn race<F: Copy>(name: &str, library: F, rust: F, run: impl Fn(F) -> (f64, u64))
     );
 }
 
-fn main() {
+fn main() -> ExitCode {
     println!("seed {SEED:#x}, {COUNT} calls a run, best of {ROUNDS} runs each, in turns");
     let mut random = Random::new(SEED);
+    time_steps(&mut random);
+    time_nearest(&mut random);
+    if blocks::within(MOST) {
+        ExitCode::SUCCESS
+    } else {
+        println!("FAILED: blocks of 4,096 frames, ratio over {MOST:.2}");
+        ExitCode::FAILURE
+    }
+}
+
+fn time_steps(random: &mut Random) {
     let words: Vec<i32> = (0..COUNT).map(|_| random.word()).collect();
     let house = house_set();
     for (name, band) in [
@@ -96,6 +113,9 @@ fn main() {
             |step| run_steps(step, band, &words),
         );
     }
+}
+
+fn time_nearest(random: &mut Random) {
     let section_sums: Vec<(i64, u32)> = (0..COUNT)
         .map(|_| ((random.draw() as i64) >> 16, 22))
         .collect();

@@ -1,0 +1,108 @@
+//! The groups of tests by name.
+
+use super::{arithmetic, bands, figures, refusals, steps, Outcome};
+use super::{block_refusals, blocks, cuts, fitness, levels, loads, unit_figures};
+use crate::subject::Subject;
+
+/// A group of tests: its name, what it compares and what it runs.
+#[derive(Clone, Copy)]
+pub struct Group {
+    pub name: &'static str,
+    pub what: &'static str,
+    pub run: fn(&dyn Subject) -> Outcome,
+}
+
+pub const NEAREST: Group = Group {
+    name: "nearest",
+    what: "every shift to 70 and larger ones; corners, halves, random numbers",
+    run: arithmetic::nearest,
+};
+pub const LIMIT: Group = Group {
+    name: "limit",
+    what: "corners and random numbers, also with low above high",
+    run: arithmetic::limit,
+};
+pub const BANDS: Group = Group {
+    name: "bands",
+    what: "refusals at the corners of the accepted ranges and of random bands",
+    run: bands::refusals,
+};
+pub const HOUSE: Group = Group {
+    name: "house set",
+    what: "thirty words from the printed figures, ten bands accepted",
+    run: bands::house,
+};
+pub const LISTS: Group = Group {
+    name: "lists",
+    what: "steps of house, random and extreme bands, up to a million words a list",
+    run: steps::lists,
+};
+pub const CORNERS: Group = Group {
+    name: "corners",
+    what: "steps with the corners of a word in all five places, extreme bands",
+    run: steps::corners,
+};
+pub const REFUSED: Group = Group {
+    name: "refused calls",
+    what: "steps with one number wrong or several",
+    run: refusals::steps,
+};
+pub const FIGURES: Group = Group {
+    name: "figures",
+    what: "those that document 01 gives for a section",
+    run: figures::starred,
+};
+pub const LEVELS: Group = Group {
+    name: "levels",
+    what: "one move from corners and random numbers, slopes of every size",
+    run: levels::moved,
+};
+pub const LOADS: Group = Group {
+    name: "loadings",
+    what: "band sets of right and wrong lengths, with none, one or several numbers wrong",
+    run: loads::sets,
+};
+pub const FITNESS: Group = Group {
+    name: "fitness",
+    what: "units with each number at its edges, unfit in every way, or several unfit",
+    run: fitness::units,
+};
+pub const BLOCKS: Group = Group {
+    name: "blocks",
+    what: "long sounds on cleared, loud, random and half-making units",
+    run: blocks::long,
+};
+pub const FRAMES: Group = Group {
+    name: "frames",
+    what: "single frames on random units",
+    run: blocks::frames,
+};
+pub const CUTS: Group = Group {
+    name: "cuts",
+    what: "blocks of 0 to 64 frames, and one sound cut in several ways",
+    run: cuts::sizes_and_cuts,
+};
+pub const REFUSED_BLOCKS: Group = Group {
+    name: "refused blocks",
+    what: "input and output of every small length and of larger ones",
+    run: block_refusals::lengths,
+};
+pub const UNIT_FIGURES: Group = Group {
+    name: "unit figures",
+    what: "those that document 01 gives for a unit",
+    run: unit_figures::of_the_unit,
+};
+
+pub const SECTION_GROUPS: [Group; 8] = [
+    NEAREST, LIMIT, BANDS, HOUSE, LISTS, CORNERS, REFUSED, FIGURES,
+];
+pub const UNIT_GROUPS: [Group; 8] = [
+    LEVELS,
+    LOADS,
+    FITNESS,
+    BLOCKS,
+    FRAMES,
+    CUTS,
+    REFUSED_BLOCKS,
+    UNIT_FIGURES,
+];

@@ -1,0 +1,103 @@
+//! What a group went through.
+
+use crate::reference::{exact, Section};
+use crate::unit::exact::{Halves, Met};
+
+/// Counts of one group, or of all.
+#[derive(Clone, Copy, Default)]
+pub struct Tally {
+    /// Answers compared.
+    pub answers: u64,
+    /// Steps that were refused.
+    pub refused: u64,
+    /// Steps that limited at the upper end of a word.
+    pub limited_high: u64,
+    /// Steps that limited at the lower end of a word.
+    pub limited_low: u64,
+    /// Steps where S / 2^22 lay at a half.
+    pub halves: Halves,
+    /// Frames of accepted blocks.
+    pub frames: u64,
+    /// Blocks refused with 5, with 6 and with 14.
+    pub blocks_5: u64,
+    pub blocks_6: u64,
+    pub blocks_14: u64,
+    /// What the frames met.
+    pub met: Met,
+}
+
+fn add_halves(sum: &mut Halves, other: Halves) {
+    sum.up += other.up;
+    sum.down += other.down;
+}
+
+fn add_met(sum: &mut Met, other: &Met) {
+    sum.sections_high += other.sections_high;
+    sum.sections_low += other.sections_low;
+    sum.outputs_high += other.outputs_high;
+    sum.outputs_low += other.outputs_low;
+    add_halves(&mut sum.section_halves, other.section_halves);
+    add_halves(&mut sum.mix_halves, other.mix_halves);
+    add_halves(&mut sum.output_halves, other.output_halves);
+    sum.flags_raised += other.flags_raised;
+}
+
+impl Tally {
+    pub fn add(&mut self, other: &Tally) {
+        self.answers += other.answers;
+        self.refused += other.refused;
+        self.limited_high += other.limited_high;
+        self.limited_low += other.limited_low;
+        add_halves(&mut self.halves, other.halves);
+        self.frames += other.frames;
+        self.blocks_5 += other.blocks_5;
+        self.blocks_6 += other.blocks_6;
+        self.blocks_14 += other.blocks_14;
+        add_met(&mut self.met, &other.met);
+    }
+
+    /// Everything that a comparison must reach, by name: one that never limits
+    /// or never meets a half proves nothing of them.
+    pub fn reached(&self) -> [(&'static str, u64); 20] {
+        let met = &self.met;
+        [
+            ("refused steps", self.refused),
+            ("steps limited at the upper end", self.limited_high),
+            ("steps limited at the lower end", self.limited_low),
+            ("halves of steps rounded up", self.halves.up),
+            ("halves of steps rounded down", self.halves.down),
+            ("frames", self.frames),
+            ("blocks refused with 5", self.blocks_5),
+            ("blocks refused with 6", self.blocks_6),
+            ("blocks refused with 14", self.blocks_14),
+            ("sections limited at the upper end", met.sections_high),
+            ("sections limited at the lower end", met.sections_low),
+            ("flags raised", met.flags_raised),
+            ("outputs limited at the upper end", met.outputs_high),
+            ("outputs limited at the lower end", met.outputs_low),
+            ("halves of sections rounded up", met.section_halves.up),
+            ("halves of sections rounded down", met.section_halves.down),
+            ("halves of mixes rounded up", met.mix_halves.up),
+            ("halves of mixes rounded down", met.mix_halves.down),
+            ("halves of outputs rounded up", met.output_halves.up),
+            ("halves of outputs rounded down", met.output_halves.down),
+        ]
+    }
+
+    /// Counts an accepted step by what the exact reference says of it.
+    pub fn count_accepted(&mut self, before: &Section, x: i32, limited: bool, y: i32) {
+        if limited && y > 0 {
+            self.limited_high += 1;
+        } else if limited {
+            self.limited_low += 1;
+        }
+        let sum = exact::sum(before, x);
+        if sum & 0x3F_FFFF == 0x20_0000 {
+            if (sum >> 22) & 1 == 1 {
+                self.halves.up += 1;
+            } else {
+                self.halves.down += 1;
+            }
+        }
+    }
+}

@@ -1,0 +1,159 @@
+//! The plain meaning of a unit: named numbers, i128, floor division.
+
+use super::{block_refusal, Band, Level, Numbers, Side, Unit, GAIN_SLOPE, VOLUME_SLOPE};
+use crate::reference::{band_refusal, exact, is_word, ACCEPTED, WORD_MAX, WORD_MIN};
+
+/// Roundings that lay at a half: the even number was above it or below.
+#[derive(Clone, Copy, Default)]
+pub struct Halves {
+    pub up: u64,
+    pub down: u64,
+}
+
+/// What the frames of a block met.
+#[derive(Clone, Copy, Default)]
+pub struct Met {
+    pub sections_high: u64,
+    pub sections_low: u64,
+    pub outputs_high: u64,
+    pub outputs_low: u64,
+    pub section_halves: Halves,
+    pub mix_halves: Halves,
+    pub output_halves: Halves,
+    /// Flags that went from 0 to 1.
+    pub flags_raised: u64,
+}
+
+/// A level moved "towards its target by" the slope, "or by the whole distance
+/// where that is less".
+pub fn level_moved(present: i32, target: i32, slope: u32) -> i32 {
+    let distance = i128::from(target) - i128::from(present);
+    let step = distance.abs().min(i128::from(slope));
+    (i128::from(present) + distance.signum() * step) as i32
+}
+
+/// "A unit is unfit when no accepted sheet could carry its numbers."
+pub fn fit(numbers: &Numbers) -> bool {
+    let unit = Unit::from_numbers(numbers);
+    let accepted = |band: &Band| band_refusal(band.a, band.b, band.g) == ACCEPTED;
+    volume_is_fit(unit.volume)
+        && unit.bands.iter().all(accepted)
+        && unit.sides.iter().all(side_is_fit)
+}
+
+/// "the volume V is 0 to 8,388,607", and its target too.
+fn volume_is_fit(volume: Level) -> bool {
+    let range = 0..=8_388_607;
+    range.contains(&volume.present) && range.contains(&volume.target)
+}
+
+/// "x1 and x2 are words and multiples of 256; a flag is 0 or 1." Results,
+/// gains and targets are words.
+fn side_is_fit(side: &Side) -> bool {
+    let inputs = [side.x1, side.x2];
+    inputs.iter().all(|&x| is_word(x) && x % 256 == 0)
+        && (side.flag == 0 || side.flag == 1)
+        && side.strips.iter().all(|strip| {
+            let Level { present, target } = strip.gain;
+            [strip.y1, strip.y2, present, target]
+                .into_iter()
+                .all(is_word)
+        })
+}
+
+/// Rounded to nearest, halves to even; a half is counted.
+fn rounded(v: i128, k: u32, halves: &mut Halves) -> i64 {
+    let nearest = exact::nearest(v as i64, k);
+    let twice_over = 2 * ((i128::from(nearest) << k) - v);
+    if twice_over == 1 << k {
+        halves.up += 1;
+    } else if -twice_over == 1 << k {
+        halves.down += 1;
+    }
+    nearest
+}
+
+/// One band of a side: its y, by "Words and the section". The flag is "1 from
+/// the first time one of its sections limits."
+fn section(band: &Band, side: &mut Side, place: usize, x: i32, met: &mut Met) -> i32 {
+    let strip = &mut side.strips[place];
+    let numbers = [band.a, band.b, band.g, side.x1, side.x2, strip.y1, strip.y2];
+    let number = rounded(exact::sum(&numbers, x), 22, &mut met.section_halves);
+    let y = exact::limit(number, i64::from(WORD_MIN), i64::from(WORD_MAX)) as i32;
+    if number != i64::from(y) {
+        met.sections_high += u64::from(y > 0);
+        met.sections_low += u64::from(y < 0);
+        met.flags_raised += u64::from(side.flag == 0);
+        side.flag = 1;
+    }
+    strip.y2 = strip.y1;
+    strip.y1 = y;
+    y
+}
+
+/// "Each side works its ten sections on x. T = 2^23 × x + sum of g × y, exact.
+/// m = T / 2^23 rounded, not limited".
+fn mix(bands: &[Band; 10], side: &mut Side, x: i32, met: &mut Met) -> i64 {
+    let mut total = (1 << 23) * i128::from(x);
+    for (place, band) in bands.iter().enumerate() {
+        let y = section(band, side, place, x, met);
+        total += i128::from(side.strips[place].gain.present) * i128::from(y);
+    }
+    side.x2 = side.x1;
+    side.x1 = x;
+    rounded(total, 23, &mut met.mix_halves)
+}
+
+/// "The output is V × m / 2^31 rounded, then limited to -32,768 to 32,767."
+fn output(volume: i32, m: i64, met: &mut Met) -> i16 {
+    let product = i128::from(volume) * i128::from(m);
+    let number = rounded(product, 31, &mut met.output_halves);
+    met.outputs_high += u64::from(number > 32_767);
+    met.outputs_low += u64::from(number < -32_768);
+    exact::limit(number, -32_768, 32_767) as i16
+}
+
+/// "In each frame, before sound is worked, every gain moves" and the volume.
+fn move_levels(unit: &mut Unit) {
+    let moved = |level: &mut Level, slope| {
+        level.present = level_moved(level.present, level.target, slope);
+    };
+    moved(&mut unit.volume, VOLUME_SLOPE);
+    for side in &mut unit.sides {
+        for strip in &mut side.strips {
+            moved(&mut strip.gain, GAIN_SLOPE);
+        }
+    }
+}
+
+/// One frame: "left then right", each sample entering "as x = 256 × s". "Both
+/// sides use the same V."
+fn frame(unit: &mut Unit, samples: [i16; 2], met: &mut Met) -> [i16; 2] {
+    move_levels(unit);
+    let mut played = [0; 2];
+    for place in 0..2 {
+        let x = 256 * i32::from(samples[place]);
+        let m = mix(&unit.bands, &mut unit.sides[place], x, met);
+        played[place] = output(unit.volume.present, m, met);
+    }
+    played
+}
+
+/// "A block of frames is bytes: left then right, low byte first, four a frame;
+/// an empty block is accepted. Output bytes beyond the block keep their
+/// contents."
+pub fn block(numbers: &mut Numbers, input: &[u8], output: &mut [u8], met: &mut Met) -> u32 {
+    let refusal = block_refusal(fit(numbers), input.len(), output.len());
+    if refusal != ACCEPTED {
+        return refusal;
+    }
+    let mut unit = Unit::from_numbers(numbers);
+    for place in (0..input.len()).step_by(4) {
+        let sample = |at: usize| i16::from_le_bytes([input[at], input[at + 1]]);
+        let [left, right] = frame(&mut unit, [sample(place), sample(place + 2)], met);
+        output[place..place + 2].copy_from_slice(&left.to_le_bytes());
+        output[place + 2..place + 4].copy_from_slice(&right.to_le_bytes());
+    }
+    *numbers = unit.to_numbers();
+    ACCEPTED
+}

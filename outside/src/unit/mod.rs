@@ -1,0 +1,187 @@
+//! The two-sided unit, written from document 01: its numbers, its refusals and
+//! the loading of a band set. Quoted sentences are that document's.
+//!
+//! The playing of a block has two forms, as the section has. `exact` is the
+//! plain meaning; `fast` is what one would write for use.
+
+pub mod exact;
+pub mod fast;
+
+use crate::reference::{band_refusal, house_set, ACCEPTED};
+
+/// A unit as it crosses the C ABI, in the order of the strip sheet: "V (volume,
+/// target); ten C (A, B, G); L (x1, x2, flag); ten S (y1, y2, gain, target); R
+/// as L; ten S."
+pub type Numbers = [i32; 118];
+
+/// Where the parts of a unit begin.
+pub const VOLUME: usize = 0;
+pub const BANDS: usize = 2;
+pub const LEFT: usize = 32;
+pub const RIGHT: usize = 75;
+
+/// The numbers of a side, and where its ten S lines begin.
+pub const SIDE_COUNT: usize = 43;
+pub const STRIPS: usize = 3;
+
+/// "5 input bytes no multiple of four; 6 output shorter than input."
+pub const PART_OF_A_FRAME: u32 = 5;
+pub const OUTPUT_TOO_SHORT: u32 = 6;
+/// "7 a set that isn't thirty numbers".
+pub const NOT_THIRTY: u32 = 7;
+/// "Orders and blocks test the unit ahead of all else: an unfit one is 14".
+pub const UNFIT: u32 = 14;
+
+/// "every gain moves towards its target by 839 and the volume by 419".
+pub const GAIN_SLOPE: u32 = 839;
+pub const VOLUME_SLOPE: u32 = 419;
+
+/// A present number and its target.
+#[derive(Clone, Copy)]
+pub struct Level {
+    pub present: i32,
+    pub target: i32,
+}
+
+/// The three words of a band.
+#[derive(Clone, Copy)]
+pub struct Band {
+    pub a: i32,
+    pub b: i32,
+    pub g: i32,
+}
+
+/// What an S line carries: a section's results and its gain.
+#[derive(Clone, Copy)]
+pub struct Strip {
+    pub y1: i32,
+    pub y2: i32,
+    pub gain: Level,
+}
+
+/// What an L or R line and its ten S lines carry.
+#[derive(Clone, Copy)]
+pub struct Side {
+    pub x1: i32,
+    pub x2: i32,
+    pub flag: i32,
+    pub strips: [Strip; 10],
+}
+
+/// A unit by its names.
+#[derive(Clone, Copy)]
+pub struct Unit {
+    pub volume: Level,
+    pub bands: [Band; 10],
+    pub sides: [Side; 2],
+}
+
+impl Level {
+    fn read(next: &mut impl FnMut() -> i32) -> Level {
+        let [present, target] = [next(), next()];
+        Level { present, target }
+    }
+}
+
+impl Band {
+    fn read(next: &mut impl FnMut() -> i32) -> Band {
+        let [a, b, g] = [next(), next(), next()];
+        Band { a, b, g }
+    }
+}
+
+impl Strip {
+    fn read(next: &mut impl FnMut() -> i32) -> Strip {
+        let [y1, y2] = [next(), next()];
+        let gain = Level::read(next);
+        Strip { y1, y2, gain }
+    }
+}
+
+impl Side {
+    fn read(next: &mut impl FnMut() -> i32) -> Side {
+        let [x1, x2, flag] = [next(), next(), next()];
+        let strips = [(); 10].map(|()| Strip::read(next));
+        Side {
+            x1,
+            x2,
+            flag,
+            strips,
+        }
+    }
+}
+
+impl Unit {
+    pub fn from_numbers(numbers: &Numbers) -> Unit {
+        let mut rest = numbers.iter();
+        let next = &mut || *rest.next().expect("118 numbers");
+        let volume = Level::read(next);
+        let bands = [(); 10].map(|()| Band::read(next));
+        let sides = [(); 2].map(|()| Side::read(next));
+        Unit {
+            volume,
+            bands,
+            sides,
+        }
+    }
+
+    pub fn to_numbers(&self) -> Numbers {
+        let mut numbers = vec![self.volume.present, self.volume.target];
+        for band in &self.bands {
+            numbers.extend([band.a, band.b, band.g]);
+        }
+        for side in &self.sides {
+            numbers.extend([side.x1, side.x2, side.flag]);
+            for strip in &side.strips {
+                let Level { present, target } = strip.gain;
+                numbers.extend([strip.y1, strip.y2, present, target]);
+            }
+        }
+        numbers.try_into().expect("118 numbers")
+    }
+}
+
+/// "A cleared unit holds a band set; all inputs, results, gains, targets, the
+/// volume and the flags are zero."
+pub fn cleared(set: &[i32; 30]) -> Numbers {
+    let mut numbers = [0; 118];
+    numbers[BANDS..LEFT].copy_from_slice(set);
+    numbers
+}
+
+/// "7 a set that isn't thirty numbers, A, B, G of each band in turn; then band
+/// by band 8 (A), 9 (B), 10 (G)."
+pub fn set_refusal(set: &[i32]) -> u32 {
+    if set.len() != 30 {
+        return NOT_THIRTY;
+    }
+    set.chunks_exact(3)
+        .map(|band| band_refusal(band[0], band[1], band[2]))
+        .find(|&refusal| refusal != ACCEPTED)
+        .unwrap_or(ACCEPTED)
+}
+
+/// "Loading a band set gives a cleared unit." For a refused one "The answer
+/// holds the cleared house unit."
+pub fn load(numbers: &mut Numbers, set: &[i32]) -> u32 {
+    let refusal = set_refusal(set);
+    *numbers = match set.try_into() {
+        Ok(thirty) if refusal == ACCEPTED => cleared(thirty),
+        _ => cleared(&house_set()),
+    };
+    refusal
+}
+
+/// The refusals of a block once the unit is known to be fit or not: 14 ahead
+/// of all else, then 5, then 6.
+pub fn block_refusal(fit: bool, input: usize, output: usize) -> u32 {
+    if !fit {
+        UNFIT
+    } else if !input.is_multiple_of(4) {
+        PART_OF_A_FRAME
+    } else if output < input {
+        OUTPUT_TOO_SHORT
+    } else {
+        ACCEPTED
+    }
+}
