@@ -7,7 +7,9 @@ use lib.Signed.{_≤ℤ_, leZ-yes}
 use Rattle.refusals.specs.Numbers.{isAccepted, unless}
 use Rattle.refusals.proofs.Laws.{unless-accepted}
 use Rattle.refusals.specs.declared.Verdict.the-variants.{Accepted, NotWord}
+use Rattle.integers.proofs.Parts.{linear}
 use Rattle.integers.proofs.Order.{both-true}
+use Rattle.integers.proofs.Abs.{abs-le}
 use Rattle.rounding.proofs.Limit.{limit-low, limit-high}
 use Rattle.bands.specs.Words.{wordSize, wordLow, wordHigh, isWord}
 use Rattle.bands.specs.Bands.{bandVerdict}
@@ -68,3 +70,6 @@ module _ (S : ℤ) where
   pub worked-high : worked S .y ≤ℤ wordHigh
   unfolding worked
   worked-high = limit-high wordLow wordHigh (leZ-yes tt) _
+
+  pub worked-size : natAbs (worked S .y) ≤ wordSize
+  worked-size = abs-le (worked S .y) wordSize worked-low (omega (linear, worked-high))

@@ -1,0 +1,289 @@
+-- `engine::turn` meets its contract: the section as read, its gain moved, its y worked, stored and marked, is the definition's.
+use mathlib.Core.Path.{_≡_, sym, ap, _∙_, subst}
+use mathlib.Core.Bool.{Bool, not}
+use mathlib.Core.List.{List}
+use Prim.Native.Nat.{ℕ, _^_, _≤_}
+use native.Mathlib.Nat.{le-trans}
+use lib.Dec.{lit≤}
+use lib.IntN.{ℤ, natAbs, _*ℤ_}
+use denote.Ref.{now}
+use mir.Syntax.{w64}
+use mir.Val.{SFits, toZ, ofZ}
+use mir.Facts.{toZ-ofZ}
+use Rattle.integers.proofs.Machine.{Bounded, below-fits, product, result, result-need}
+use Rattle.integers.proofs.Abs.{abs-le}
+use Rattle.rounding.specs.Rounding.{nearest, limit}
+use Rattle.bands.specs.Words.{wordSize, wordLow, wordHigh, isWord}
+use Rattle.bands.specs.Bands.{bandOf, bandAt}
+use Rattle.bands.proofs.Laws.{Accepts, band-sizes, word-size}
+use Rattle.levels.specs.declared.Level.{Level}
+use Rattle.levels.specs.Levels.{gainSlope, moved, Ramped}
+use Rattle.levels.proofs.Laws.{ramp-size}
+use Rattle.section.specs.Equation.{exactSum, sumShift, worked}
+use Rattle.section.proofs.Laws.{worked-size}
+use Rattle.unit.specs.declared.BandSection.{BandSection}
+use Rattle.unit.specs.Frame.{sectionFrame}
+use Rattle.unit.specs.Fit.{SectionFit}
+use Rattle.engine.specs.Numbers.{sectionAt, putSection, marked}
+use borrow.Author.Needs.{needs}
+use Rattle.engine.proofs.turn.Statement.{statement}
+use Rattle.engine.proofs.turn.Tie as tie
+use Rattle.engine.proofs.turn.Reads as reads
+use Rattle.engine.proofs.turn.Lts as lts
+use Rattle.engine.proofs.mark.Reads as mark-reads
+use Rattle.engine.proofs.put_section.Reads as put-section-reads
+use Rattle.engine.proofs.section_at.Reads as section-at-reads
+use Rattle.levels.proofs.Level.moved.Reads as moved-reads
+use Rattle.rounding.proofs.saturate.Reads as saturate-reads
+use Rattle.section.proofs.rounded_sum.Reads as rounded-sum-reads
+
+-- ---- the section as read
+
+module _ (c : lts.After-section-at (section-at-reads.Asked, section-at-reads.Learnt, moved-reads.Asked, moved-reads.Learnt, rounded-sum-reads.Asked, rounded-sum-reads.Learnt, saturate-reads.Asked, saturate-reads.Learnt, put-section-reads.Asked, put-section-reads.Learnt, mark-reads.Asked, mark-reads.Learnt) reads.Pre reads.Post) where
+  abbrev start : lts.Start (section-at-reads.Asked, section-at-reads.Learnt, moved-reads.Asked, moved-reads.Learnt, rounded-sum-reads.Asked, rounded-sum-reads.Learnt, saturate-reads.Asked, saturate-reads.Learnt, put-section-reads.Asked, put-section-reads.Learnt, mark-reads.Asked, mark-reads.Learnt) reads.Pre reads.Post
+  start = c .before .before
+
+  abbrev bands : List ℤ
+  bands = now (start .args .bands)
+
+  abbrev l : List ℤ
+  l = now (start .args .channel)
+
+  abbrev b : ℕ
+  b = start .args .b
+
+  abbrev x : ℤ
+  x = start .args .x
+
+  abbrev x2 : ℤ
+  x2 = start .args .x2
+
+  abbrev S : BandSection
+  S = sectionAt l b
+
+  before-is : c .section-at .result ≡ S
+  before-is = c .section-at .ensures
+
+  fit : SectionFit S
+  fit = start .pre .section
+
+  sizes : Accepts (bandAt bands b)
+  sizes = band-sizes (bandAt bands b) (start .pre .band)
+
+  alpha-size : natAbs (bandAt bands b .alpha) ≤ wordSize
+  alpha-size = le-trans (sizes .alpha-size) (lit≤ tt)
+
+  beta-size : natAbs (bandAt bands b .beta) ≤ wordSize
+  beta-size = le-trans (sizes .beta-size) (lit≤ tt)
+
+  gamma-size : natAbs (bandAt bands b .gamma) ≤ wordSize
+  gamma-size = le-trans (sizes .gamma-size) (lit≤ tt)
+
+  y1-size : natAbs (S .y1) ≤ wordSize
+  y1-size = word-size (S .y1) (fit .y1)
+
+  y2-size : natAbs (S .y2) ≤ wordSize
+  y2-size = word-size (S .y2) (fit .y2)
+
+  present-size : natAbs (S .gain .present) ≤ wordSize
+  present-size = word-size (S .gain .present) (fit .present)
+
+  target-size : natAbs (S .gain .target) ≤ wordSize
+  target-size = word-size (S .gain .target) (fit .target)
+
+  ramped : Ramped (S .gain)
+  ramped = record { present-size = le-trans present-size (lit≤ tt); target-size = le-trans target-size (lit≤ tt) }
+
+-- a number of at most 2^23 in size is read back
+reads-small : (z : ℤ) → natAbs z ≤ wordSize → toZ w64 (ofZ w64 z) ≡ z
+reads-small z h = toZ-ofZ (below-fits h tt)
+
+-- a size, of the number as read
+size-read : {z r : ℤ} → r ≡ z → natAbs z ≤ wordSize → natAbs r ≤ wordSize
+size-read e h = subst (λ (n : ℤ). natAbs n ≤ wordSize) (sym e) h
+
+-- ---- its numbers as they are used
+
+module _ (c : lts.After-beta (section-at-reads.Asked, section-at-reads.Learnt, moved-reads.Asked, moved-reads.Learnt, rounded-sum-reads.Asked, rounded-sum-reads.Learnt, saturate-reads.Asked, saturate-reads.Learnt, put-section-reads.Asked, put-section-reads.Learnt, mark-reads.Asked, mark-reads.Learnt) reads.Pre reads.Post) where
+  abbrev a : lts.After-section-at (section-at-reads.Asked, section-at-reads.Learnt, moved-reads.Asked, moved-reads.Learnt, rounded-sum-reads.Asked, rounded-sum-reads.Learnt, saturate-reads.Asked, saturate-reads.Learnt, put-section-reads.Asked, put-section-reads.Learnt, mark-reads.Asked, mark-reads.Learnt) reads.Pre reads.Post
+  a = c .before .before .before .before .before .before .before
+
+  alpha-reads : toZ w64 (ofZ w64 (bandAt (bands a) (b a) .alpha)) ≡ bandAt (bands a) (b a) .alpha
+  alpha-reads = reads-small (bandAt (bands a) (b a) .alpha) (alpha-size a)
+
+  beta-reads : toZ w64 (ofZ w64 (bandAt (bands a) (b a) .beta)) ≡ bandAt (bands a) (b a) .beta
+  beta-reads = reads-small (bandAt (bands a) (b a) .beta) (beta-size a)
+
+  gamma-reads : toZ w64 (ofZ w64 (bandAt (bands a) (b a) .gamma)) ≡ bandAt (bands a) (b a) .gamma
+  gamma-reads = reads-small (bandAt (bands a) (b a) .gamma) (gamma-size a)
+
+  x-reads : toZ w64 (ofZ w64 (x a)) ≡ x a
+  x-reads = reads-small (x a) (start a .pre .x-size)
+
+  x2-reads : toZ w64 (ofZ w64 (x2 a)) ≡ x2 a
+  x2-reads = reads-small (x2 a) (start a .pre .x2-size)
+
+  y1-reads : toZ w64 (ofZ w64 (a .section-at .result .y1)) ≡ S a .y1
+  y1-reads = ap (λ (s : BandSection). toZ w64 (ofZ w64 (s .y1))) (before-is a) ∙ reads-small (S a .y1) (y1-size a)
+
+  y2-reads : toZ w64 (ofZ w64 (a .section-at .result .y2)) ≡ S a .y2
+  y2-reads = ap (λ (s : BandSection). toZ w64 (ofZ w64 (s .y2))) (before-is a) ∙ reads-small (S a .y2) (y2-size a)
+
+  abbrev sum : ℤ
+  sum = exactSum (bandAt (bands a) (b a)) (x a) (x2 a) (S a .y1) (S a .y2)
+
+-- ---- rounded and limited, and the gain moved
+
+module _ (c : lts.After-saturate (section-at-reads.Asked, section-at-reads.Learnt, moved-reads.Asked, moved-reads.Learnt, rounded-sum-reads.Asked, rounded-sum-reads.Learnt, saturate-reads.Asked, saturate-reads.Learnt, put-section-reads.Asked, put-section-reads.Learnt, mark-reads.Asked, mark-reads.Learnt) reads.Pre reads.Post) where
+  abbrev d : lts.After-beta (section-at-reads.Asked, section-at-reads.Learnt, moved-reads.Asked, moved-reads.Learnt, rounded-sum-reads.Asked, rounded-sum-reads.Learnt, saturate-reads.Asked, saturate-reads.Learnt, put-section-reads.Asked, put-section-reads.Learnt, mark-reads.Asked, mark-reads.Learnt) reads.Pre reads.Post
+  d = c .before .before
+
+  abbrev o : lts.After-section-at (section-at-reads.Asked, section-at-reads.Learnt, moved-reads.Asked, moved-reads.Learnt, rounded-sum-reads.Asked, rounded-sum-reads.Learnt, saturate-reads.Asked, saturate-reads.Learnt, put-section-reads.Asked, put-section-reads.Learnt, mark-reads.Asked, mark-reads.Learnt) reads.Pre reads.Post
+  o = a d
+
+  rounded-reads : toZ w64 (ofZ w64 (c .before .rounded-sum .result)) ≡ nearest (sum d) sumShift
+  rounded-reads =
+      toZ-ofZ (record { sfits = c .before .rounded-sum .ok })
+      ∙ c .before .rounded-sum .ensures
+      ∙ (λ i. nearest (exactSum (bandOf (alpha-reads d i) (beta-reads d i) (gamma-reads d i)) (x-reads d i) (x2-reads d i) (y1-reads d i) (y2-reads d i)) sumShift)
+
+  y-reads : toZ w64 (ofZ w64 (c .saturate .result)) ≡ worked (sum d) .y
+  unfolding worked
+  y-reads =
+      toZ-ofZ (record { sfits = c .saturate .ok }) ∙ c .saturate .ensures ∙ ap (limit wordLow wordHigh) rounded-reads
+
+  abbrev moved-result : Level
+  moved-result = d .before .before .before .moved .result
+
+  gain-is : moved-result ≡ moved gainSlope (S o .gain)
+  gain-is = d .before .before .before .moved .ensures ∙ ap (λ (s : BandSection). moved gainSlope (s .gain)) (before-is o)
+
+  gain-size : natAbs (moved gainSlope (S o .gain) .present) ≤ wordSize
+  gain-size = ramp-size gainSlope (S o .gain .present) (S o .gain .target) (present-size o) (target-size o)
+
+  gain-reads : toZ w64 (ofZ w64 (moved-result .present)) ≡ moved gainSlope (S o .gain) .present
+  gain-reads =
+      ap (λ (g : Level). toZ w64 (ofZ w64 (g .present))) gain-is
+      ∙ reads-small (moved gainSlope (S o .gain) .present) gain-size
+
+  abbrev Gain : Bounded w64
+  Gain =
+      record {
+        held = record { bits = ofZ w64 (moved-result .present); value = moved gainSlope (S o .gain) .present; reads = gain-reads };
+        bound = wordSize;
+        within = gain-size;
+      }
+
+  abbrev Result : Bounded w64
+  Result =
+      record {
+        held = record { bits = ofZ w64 (c .saturate .result); value = worked (sum d) .y; reads = y-reads };
+        bound = wordSize;
+        within = worked-size (sum d);
+      }
+
+  -- the section that is stored
+  stored-is : _≡_ {A = BandSection} (record { y1 = toZ w64 (ofZ w64 (c .saturate .result)); y2 = toZ w64 (ofZ w64 (o .section-at .result .y1)); gain = moved-result }) (sectionFrame (bandAt (bands o) (b o)) (x o) (x2 o) (S o))
+  unfolding sectionFrame
+  stored-is = λ i. record { y1 = y-reads i; y2 = y1-reads d i; gain = gain-is i }
+
+section-at-requires : tie.Need-section-at-requires
+section-at-requires c κs = search needs
+
+moved-requires : tie.Need-moved-requires
+moved-requires c κs =
+    subst (λ (s : BandSection). Ramped (s .gain)) (sym (before-is (c .before .before .before))) (ramped (c .before .before .before))
+
+mul-alpha : tie.Need-mul-alpha
+mul-alpha c = search needs
+
+mul-alpha-2 : tie.Need-mul-alpha-2
+mul-alpha-2 c = search needs
+
+element-copy-out-alpha : tie.Need-element-copy-out-alpha
+element-copy-out-alpha c = search needs
+
+mul-gamma : tie.Need-mul-gamma
+mul-gamma c = search needs
+
+add-gamma : tie.Need-add-gamma
+add-gamma c = search needs
+
+mul-gamma-2 : tie.Need-mul-gamma-2
+mul-gamma-2 c = search needs
+
+element-copy-out-gamma : tie.Need-element-copy-out-gamma
+element-copy-out-gamma c = search needs
+
+mul-beta : tie.Need-mul-beta
+mul-beta c = search needs
+
+add-beta : tie.Need-add-beta
+add-beta c = search needs
+
+mul-beta-2 : tie.Need-mul-beta-2
+mul-beta-2 c = search needs
+
+element-copy-out-beta : tie.Need-element-copy-out-beta
+element-copy-out-beta c = search needs
+
+rounded-sum-requires : tie.Need-rounded-sum-requires
+rounded-sum-requires c κs =
+    record {
+      alpha-size = size-read (alpha-reads c) (alpha-size (a c));
+      beta-size = size-read (beta-reads c) (beta-size (a c));
+      gamma-size = size-read (gamma-reads c) (gamma-size (a c));
+      x-size = size-read (x-reads c) (start (a c) .pre .x-size);
+      x2-size = size-read (x2-reads c) (start (a c) .pre .x2-size);
+      y1-size = size-read (y1-reads c) (y1-size (a c));
+      y2-size = size-read (y2-reads c) (y2-size (a c));
+    }
+
+saturate-requires : tie.Need-saturate-requires
+saturate-requires c κs = search needs
+
+put-section-requires : tie.Need-put-section-requires
+put-section-requires c κs = search needs
+
+mark-requires : tie.Need-mark-requires
+mark-requires c κs =
+    toZ-ofZ (record { sfits = c .before .before .before .saturate .ok }) ∙ c .before .before .before .saturate .ensures
+
+abbrev late : lts.After-struct-told3 (section-at-reads.Asked, section-at-reads.Learnt, moved-reads.Asked, moved-reads.Learnt, rounded-sum-reads.Asked, rounded-sum-reads.Learnt, saturate-reads.Asked, saturate-reads.Learnt, put-section-reads.Asked, put-section-reads.Learnt, mark-reads.Asked, mark-reads.Learnt) reads.Pre reads.Post → lts.After-saturate (section-at-reads.Asked, section-at-reads.Learnt, moved-reads.Asked, moved-reads.Learnt, rounded-sum-reads.Asked, rounded-sum-reads.Learnt, saturate-reads.Asked, saturate-reads.Learnt, put-section-reads.Asked, put-section-reads.Learnt, mark-reads.Asked, mark-reads.Learnt) reads.Pre reads.Post
+late c = c .before .before .before .before .before .before
+
+mul-result : tie.Need-mul-result
+mul-result c = result-need product (Gain (late c)) (Result (late c)) tt
+
+returns : tie.Need-returns
+unfolding sectionFrame worked
+returns c = (
+  result product (Gain (late c)) (Result (late c)) tt .held .reads,
+  c .before .before .mark .ensures
+  ∙ ap (λ (z : ℤ). marked (not (isWord z)) (c .before .before .before .before .put-section .last .0)) (rounded-reads (late c))
+  ∙ ap (marked (not (isWord (nearest (sum (d (late c))) sumShift)))) (c .before .before .before .before .put-section .ensures ∙ ap (putSection (l (o (late c))) (b (o (late c)))) (stored-is (late c))),
+)
+
+pub turn-spec : {M : Type 1} → statement M
+turn-spec =
+    tie.close
+    (tie.spec
+    section-at-requires
+    moved-requires
+    mul-alpha
+    mul-alpha-2
+    element-copy-out-alpha
+    mul-gamma
+    add-gamma
+    mul-gamma-2
+    element-copy-out-gamma
+    mul-beta
+    add-beta
+    mul-beta-2
+    element-copy-out-beta
+    rounded-sum-requires
+    saturate-requires
+    put-section-requires
+    mark-requires
+    mul-result
+    returns)

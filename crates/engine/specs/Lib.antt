@@ -1,0 +1,2 @@
+-- A channel as flat numbers.
+pub mod Numbers

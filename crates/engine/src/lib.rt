@@ -1,0 +1,92 @@
+// A channel's frame, on numbers that stand in flat arrays for the length of a block:
+//     bands     A, B, G of each band in turn
+//     channel   x1, x2, flag, then y1, y2, gain and target of each section
+// Sums are exact in 64 bits; what is rounded and limited is said at each function.
+ghost use mathlib.Core.Path.{_≡_};
+ghost use mathlib.Core.Bool.{not};
+ghost use Prim.Native.Nat.{_<_};
+ghost use Rattle.rounding.specs.Rounding.{limit};
+ghost use Rattle.bands.specs.Words.{wordLow, wordHigh, isWord};
+ghost use Rattle.unit.specs.Frame.{share};
+ghost use Rattle.engine.specs.Numbers.{sectionAt, putSection, marked, turnedSection, turned, Turns};
+use levels::Level;
+use unit::BandSection;
+
+// T has 23 bits below the unit of a word, and V × m has 31 below the unit of a sample.
+const MIX_SHIFT: u32 = 23;
+
+const OUTPUT_SHIFT: u32 = 31;
+
+// The ends of a sample: 16 bits, signed.
+const SAMPLE_LOW: i64 = -32768;
+
+const SAMPLE_HIGH: i64 = 32767;
+
+// Section b of a channel.
+pub fn section_at(channel: &[i64; 43], b: usize) -> BandSection
+    requires { ⌜ b < 10 ⌝ }
+    ensures { λ r. ⌜ r ≡ sectionAt (now (channel .entry)) b ⌝ }
+{
+    let at = 4 * b + 3;
+    let gain = Level {
+        present: channel[at + 2],
+        target: channel[at + 3],
+    };
+    BandSection {
+        y1: channel[at],
+        y2: channel[at + 1],
+        gain,
+    }
+}
+
+// Stores section b of a channel.
+pub fn put_section(channel: &mut [i64; 43], b: usize, section: BandSection)
+    requires { ⌜ b < 10 ⌝ }
+    ensures { λ r. ⌜ now (channel .exit) ≡ putSection (now (channel .entry)) b section ⌝ }
+{
+    let at = 4 * b + 3;
+    let y1 = section.y1;
+    let y2 = section.y2;
+    let present = section.gain.present;
+    let target = section.gain.target;
+    channel[at] = y1;
+    channel[at + 1] = y2;
+    channel[at + 2] = present;
+    channel[at + 3] = target;
+}
+
+// Raises the flag where limiting changed the rounded number, that is, where that was no word.
+fn mark(channel: &mut [i64; 43], y: i64, rounded: i64)
+    requires { ⌜ y ≡ limit wordLow wordHigh rounded ⌝ }
+    ensures { λ r. ⌜ now (channel .exit) ≡ marked (not (isWord rounded)) (now (channel .entry)) ⌝ }
+{
+    if y != rounded {
+        channel[2] = 1;
+    }
+}
+
+// Section b's turn in a frame: its gain moves, equation (8) is worked, rounded and limited, and the results move on. Gives g × y.
+fn turn(bands: &[i64; 30], channel: &mut [i64; 43], b: usize, x: i64, x2: i64) -> i64
+    requires { ⌜ Turns (now bands) (now channel) b x x2 ⌝ }
+    ensures { λ r. ⌜ (r ≡ share (turnedSection (now (bands .entry)) (now (channel .entry)) b x x2)) × (now (channel .exit) ≡ turned (now (bands .entry)) (now (channel .entry)) b x x2) ⌝ }
+{
+    let before = section_at(channel, b);
+    let y1 = before.y1;
+    let y2 = before.y2;
+    let level = before.gain;
+    let gain = level.moved(levels::GAIN_SLOPE);
+    // Read in the order in which the equation uses them: the compiled sum is shorter so.
+    let alpha = bands[3 * b];
+    let gamma = bands[3 * b + 2];
+    let beta = bands[3 * b + 1];
+    let rounded = section::rounded_sum(alpha, beta, gamma, x, x2, y1, y2);
+    let y = rounding::saturate(bands::WORD_LOW, bands::WORD_HIGH, rounded);
+    let after = BandSection {
+        y1: y,
+        y2: y1,
+        gain,
+    };
+    put_section(channel, b, after);
+    mark(channel, y, rounded);
+    gain.present * y
+}
