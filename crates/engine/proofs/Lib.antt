@@ -1,1 +1,2 @@
--- laws
+-- The laws of a channel's flat numbers.
+pub mod Numbers

@@ -12,7 +12,7 @@ use Rattle.levels.specs.declared.Level.{Level}
 use Rattle.unit.specs.declared.BandSection.{BandSection}
 use Rattle.unit.specs.declared.Channel.{Channel}
 use Rattle.unit.specs.Lists.{tabulate, Each}
-use Rattle.unit.specs.Cleared.{bandCount}
+use Rattle.unit.specs.Cleared.{bandCount, bandsOf}
 use Rattle.unit.specs.Frame.{workOf, sectionFrame, raised, channelFrame}
 use Rattle.unit.specs.Fit.{BandFit, SectionFit, ChannelFit}
 
@@ -70,3 +70,18 @@ module _ (bands l : List ℤ) (b : ℕ) (x x2 : ℤ) where
     pub section : SectionFit (sectionAt l b)
     pub x-size : natAbs x ≤ wordSize
     pub x2-size : natAbs x2 ≤ wordSize
+
+-- what a channel's frame asks: accepted bands, a fit channel, and an input of at most 2^23 in size
+pub record Frames (bands l : List ℤ) (x : ℤ) : Type 0 where
+  pub bands-fit : Each BandFit (bandsOf bands)
+  pub channel-fit : ChannelFit (channelOf l)
+  pub x-size : natAbs x ≤ wordSize
+
+-- "at most 92,274,688 in size"
+abbrev pub mixSize : ℕ
+mixSize = 92274688
+
+-- what the output asks of V and m
+pub record Sounds (volume m : ℤ) : Type 0 where
+  pub volume-size : natAbs volume ≤ wordSize
+  pub mix-size : natAbs m ≤ mixSize

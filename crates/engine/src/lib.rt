@@ -7,8 +7,9 @@ ghost use mathlib.Core.Bool.{not};
 ghost use Prim.Native.Nat.{_<_};
 ghost use Rattle.rounding.specs.Rounding.{limit};
 ghost use Rattle.bands.specs.Words.{wordLow, wordHigh, isWord};
-ghost use Rattle.unit.specs.Frame.{share};
-ghost use Rattle.engine.specs.Numbers.{sectionAt, putSection, marked, turnedSection, turned, Turns};
+ghost use Rattle.unit.specs.Cleared.{bandsOf};
+ghost use Rattle.unit.specs.Frame.{share, channelFrame, mix, output};
+ghost use Rattle.engine.specs.Numbers.{sectionAt, putSection, marked, turnedSection, turned, Turns, channelOf, Frames, Sounds};
 use levels::Level;
 use unit::BandSection;
 
@@ -89,4 +90,31 @@ fn turn(bands: &[i64; 30], channel: &mut [i64; 43], b: usize, x: i64, x2: i64) -
     put_section(channel, b, after);
     mark(channel, y, rounded);
     gain.present * y
+}
+
+// A channel's frame on the input word x: every section has its turn, and x and x1 move on. Gives m, T / 2^23 rounded and not limited.
+pub fn channel_frame(bands: &[i64; 30], channel: &mut [i64; 43], x: i64) -> i64
+    requires { ⌜ Frames (now bands) (now channel) x ⌝ }
+    ensures { λ r. ⌜ (channelOf (now (channel .exit)) ≡ channelFrame (bandsOf (now (bands .entry))) x (channelOf (now (channel .entry)))) × (r ≡ mix (channelFrame (bandsOf (now (bands .entry))) x (channelOf (now (channel .entry))))) ⌝ }
+{
+    let x1 = channel[0];
+    let x2 = channel[1];
+    let mut total = 0x80_0000 * x;
+    let mut b = 0;
+    while b < 10 {
+        total += turn(bands, channel, b, x, x2);
+        b += 1;
+    }
+    channel[1] = x1;
+    channel[0] = x;
+    rounding::round_near(total, MIX_SHIFT)
+}
+
+// The output: V × m / 2^31 rounded, then limited to a sample.
+pub fn sound(volume: i64, m: i64) -> i64
+    requires { ⌜ Sounds volume m ⌝ }
+    ensures { λ r. ⌜ r ≡ output volume m ⌝ }
+{
+    let rounded = rounding::round_near(volume * m, OUTPUT_SHIFT);
+    rounding::saturate(SAMPLE_LOW, SAMPLE_HIGH, rounded)
 }

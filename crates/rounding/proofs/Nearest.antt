@@ -1,16 +1,18 @@
 -- The nearest whole number to v / 2^k, halves to even. Three laws determine it: it is at most half away, whatever is less than
 -- half away is it, and where it is just half away it is even.
-use mathlib.Core.Path.{_≡_, refl, ap, _∙_}
+use mathlib.Core.Path.{_≡_, refl, ap, _∙_, subst}
 use mathlib.Core.Bool.{Bool, true, false, cond, _&&_, _||_}
 use Prim.Native.Nat.{ℕ, suc, _+_, _*_, _^_, _≤_, _<_}
-use native.Mathlib.Nat.{pow-suc}
+use native.Mathlib.Nat.{pow-suc, mul-le-mul-left}
 use native.Mathlib.Omega.{arith}
+use lib.Dec.{ltb}
 use lib.Pow.{pow-pos}
+use borrow.Author.Tests.{ltb-true, ltb-false}
 use lib.IntN.{ℤ, pos, natAbs, negℤ, _+ℤ_, _-ℤ_, _*ℤ_, +ℤ-invr}
 use lib.Signed.{ltZ, leZ, _≤ℤ_, _<ℤ_, ≤ℤ-refl, ltZ-yes}
 use Rattle.integers.proofs.Parts.{Term, posPart, negPart, linear, terms-eq, var, _⊕_, _⊖_, _⊗_, ⊝_}
 use Rattle.integers.proofs.Order.{≤ℤ-antisym, ltZ-true, ltZ-false, leZ-true, leZ-false}
-use Rattle.integers.proofs.Abs.{abs-parts, abs-case, abs-neg, abs-nonneg}
+use Rattle.integers.proofs.Abs.{abs-parts, abs-case, abs-neg, abs-nonneg, abs-sum, abs-product}
 use Rattle.rounding.specs.Rounding.{floor, rest, odd, goesUp, nearest, taken}
 use Rattle.rounding.proofs.Floor.{floor-unique, floor-rest, rest-low, rest-high, multiples}
 
@@ -172,3 +174,26 @@ taken-size v k = rw (← abs-neg (v -ℤ pos (2 ^ k) *ℤ nearest v k), turn) (n
 pub taken-whole : (v : ℤ) (k : ℕ) → v ≡ pos (2 ^ k) *ℤ nearest v k +ℤ taken v k
 unfolding taken
 taken-whole v k = terms-eq (var v) (var (pos (2 ^ k) *ℤ nearest v k) ⊕ (var v ⊖ var (pos (2 ^ k) *ℤ nearest v k))) (omega arith)
+
+-- v of at most n times 2^k in size is rounded to a number of at most n in size
+pub nearest-size : (v : ℤ) (k n : ℕ) → natAbs v ≤ 2 ^ k * n → natAbs (nearest v k) ≤ n
+nearest-size v k n h = go (ltb n (natAbs (nearest v k))) refl
+  where
+    D : ℤ
+    D = pos (2 ^ k) *ℤ nearest v k -ℤ v
+
+    whole : natAbs (pos (2 ^ k) *ℤ nearest v k) ≤ natAbs D + natAbs v
+    whole = subst (λ (z : ℤ). natAbs z ≤ natAbs D + natAbs v) (terms-eq (var (pos (2 ^ k) *ℤ nearest v k) ⊖ var v ⊕ var v) (var (pos (2 ^ k) *ℤ nearest v k)) (omega arith)) (abs-sum D v)
+
+    go : (t : Bool) → ltb n (natAbs (nearest v k)) ≡ t → natAbs (nearest v k) ≤ n
+    go true e =
+        absurd
+        (omega (
+          arith,
+          nearest-near v k,
+          whole,
+          abs-product (pos (2 ^ k)) (nearest v k),
+          mul-le-mul-left (2 ^ k) (ltb-true n (natAbs (nearest v k)) e),
+          pow-pos k,
+        ))
+    go false e = ltb-false n (natAbs (nearest v k)) e

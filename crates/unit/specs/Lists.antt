@@ -1,5 +1,5 @@
 -- Lists by their entries, and tests of every entry. Definitions only.
-use mathlib.Core.Bool.{Bool, true, _&&_}
+use mathlib.Core.Bool.{Bool, true, false, _&&_, _||_}
 use mathlib.Core.List.{List, [], _∷_, _++_}
 use Prim.Native.Nat.{ℕ, zero, suc}
 
@@ -17,3 +17,8 @@ every test (a ∷ rest) = test a && every test rest
 abbrev pub Each : {A : Type 0} → (A → Type 0) → List A → Type 0
 Each P [] = Unit {0}
 Each P (a ∷ rest) = P a × Each P rest
+
+-- one of the entries is true
+abbrev pub anyOf : List Bool → Bool
+anyOf [] = false
+anyOf (t ∷ rest) = t || anyOf rest

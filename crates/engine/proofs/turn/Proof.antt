@@ -260,8 +260,8 @@ unfolding sectionFrame worked
 returns c = (
   result product (Gain (late c)) (Result (late c)) tt .held .reads,
   c .before .before .mark .ensures
-  ∙ ap (λ (z : ℤ). marked (not (isWord z)) (c .before .before .before .before .put-section .last .0)) (rounded-reads (late c))
-  ∙ ap (marked (not (isWord (nearest (sum (d (late c))) sumShift)))) (c .before .before .before .before .put-section .ensures ∙ ap (putSection (l (o (late c))) (b (o (late c)))) (stored-is (late c))),
+      ∙ ap (λ (z : ℤ). marked (not (isWord z)) (c .before .before .before .before .put-section .last .0)) (rounded-reads (late c))
+      ∙ ap (marked (not (isWord (nearest (sum (d (late c))) sumShift)))) (c .before .before .before .before .put-section .ensures ∙ ap (putSection (l (o (late c))) (b (o (late c)))) (stored-is (late c))),
 )
 
 pub turn-spec : {M : Type 1} → statement M
