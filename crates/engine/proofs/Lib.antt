@@ -1,2 +1,3 @@
 -- The laws of a channel's flat numbers.
 pub mod Numbers
+pub mod Channel

@@ -16,11 +16,7 @@ use Rattle.unit.specs.Lists.{tabulate, anyOf}
 use Rattle.unit.specs.Cleared.{bandCount}
 use Rattle.unit.specs.Frame.{workOf, sectionFrame, raised, share, sumOf}
 use Rattle.unit.proofs.Tabulate.{any-snoc, sum-snoc}
-use Rattle.engine.specs.Numbers.{place, sectionAt, putSection, marked, turnedSection, limitsAt, turned}
-
--- how many numbers a channel has
-abbrev pub channelSize : ℕ
-channelSize = 43
+use Rattle.engine.specs.Numbers.{channelSize, place, sectionAt, putSection, marked, turnedSection, limitsAt, turned}
 
 -- ---- one store
 

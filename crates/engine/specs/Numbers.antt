@@ -4,7 +4,7 @@ use mathlib.Core.Bool.{Bool, true}
 use mathlib.Core.List.{List}
 use Prim.Native.Nat.{ℕ, _+_, _*_, _≤_, _<_}
 use lib.IntN.{ℤ, pos, natAbs}
-use lib.ListN.{getD, set}
+use lib.ListN.{length, getD, set}
 use Rattle.bands.specs.Words.{wordSize}
 use Rattle.bands.specs.Bands.{bandAt}
 use Rattle.bands.specs.declared.Band.{Band}
@@ -13,8 +13,12 @@ use Rattle.unit.specs.declared.BandSection.{BandSection}
 use Rattle.unit.specs.declared.Channel.{Channel}
 use Rattle.unit.specs.Lists.{tabulate, Each}
 use Rattle.unit.specs.Cleared.{bandCount, bandsOf}
-use Rattle.unit.specs.Frame.{workOf, sectionFrame, raised, channelFrame}
+use Rattle.unit.specs.Frame.{workOf, sectionFrame, raised, channelFrame, mix}
 use Rattle.unit.specs.Fit.{BandFit, SectionFit, ChannelFit}
+
+-- how many they are
+abbrev pub channelSize : ℕ
+channelSize = 43
 
 -- the place of section b's y1; y2, gain and target follow
 abbrev pub place : ℕ → ℕ
@@ -73,9 +77,16 @@ module _ (bands l : List ℤ) (b : ℕ) (x x2 : ℤ) where
 
 -- what a channel's frame asks: accepted bands, a fit channel, and an input of at most 2^23 in size
 pub record Frames (bands l : List ℤ) (x : ℤ) : Type 0 where
+  pub size : length l ≡ channelSize
   pub bands-fit : Each BandFit (bandsOf bands)
   pub channel-fit : ChannelFit (channelOf l)
   pub x-size : natAbs x ≤ wordSize
+
+-- what it gives: the numbers of the channel after the frame, and its m
+pub record Framed (bands l : List ℤ) (x : ℤ) (after : List ℤ) (m : ℤ) : Type 0 where
+  pub size : length after ≡ channelSize
+  pub channel : channelOf after ≡ channelFrame (bandsOf bands) x (channelOf l)
+  pub mixed : m ≡ mix (channelFrame (bandsOf bands) x (channelOf l))
 
 -- "at most 92,274,688 in size"
 abbrev pub mixSize : ℕ

@@ -7,9 +7,8 @@ ghost use mathlib.Core.Bool.{not};
 ghost use Prim.Native.Nat.{_<_};
 ghost use Rattle.rounding.specs.Rounding.{limit};
 ghost use Rattle.bands.specs.Words.{wordLow, wordHigh, isWord};
-ghost use Rattle.unit.specs.Cleared.{bandsOf};
-ghost use Rattle.unit.specs.Frame.{share, channelFrame, mix, output};
-ghost use Rattle.engine.specs.Numbers.{sectionAt, putSection, marked, turnedSection, turned, Turns, channelOf, Frames, Sounds};
+ghost use Rattle.unit.specs.Frame.{share, output};
+ghost use Rattle.engine.specs.Numbers.{sectionAt, putSection, marked, turnedSection, turned, Turns, Frames, Framed, Sounds};
 use levels::Level;
 use unit::BandSection;
 
@@ -95,7 +94,7 @@ fn turn(bands: &[i64; 30], channel: &mut [i64; 43], b: usize, x: i64, x2: i64) -
 // A channel's frame on the input word x: every section has its turn, and x and x1 move on. Gives m, T / 2^23 rounded and not limited.
 pub fn channel_frame(bands: &[i64; 30], channel: &mut [i64; 43], x: i64) -> i64
     requires { ⌜ Frames (now bands) (now channel) x ⌝ }
-    ensures { λ r. ⌜ (channelOf (now (channel .exit)) ≡ channelFrame (bandsOf (now (bands .entry))) x (channelOf (now (channel .entry)))) × (r ≡ mix (channelFrame (bandsOf (now (bands .entry))) x (channelOf (now (channel .entry))))) ⌝ }
+    ensures { λ r. ⌜ Framed (now (bands .entry)) (now (channel .entry)) x (now (channel .exit)) r ⌝ }
 {
     let x1 = channel[0];
     let x2 = channel[1];

@@ -7,6 +7,7 @@ use native.Mathlib.Omega.{arith}
 use lib.Dec.{eqb}
 use borrow.Author.Tests.{eqb-true, eqb-false}
 use lib.IntN.{ℤ, pos, _+ℤ_}
+use lib.ListN.{length, length-append}
 use Rattle.integers.proofs.Parts.{terms-eq, var, _⊕_}
 use Rattle.unit.specs.Lists.{tabulate, Each, anyOf}
 use Rattle.unit.specs.Frame.{sumOf}
@@ -58,3 +59,7 @@ or-false false = refl
 pub any-snoc : (l : List Bool) (t : Bool) → anyOf (l ++ (t ∷ [])) ≡ anyOf l || t
 any-snoc [] t = or-false t
 any-snoc (s ∷ l) t = ap (λ (r : Bool). s || r) (any-snoc l t) ∙ or-assoc s (anyOf l) t
+
+pub tabulate-length : {A : Type 0} (n : ℕ) (f : ℕ → A) → length (tabulate n f) ≡ n
+tabulate-length zero f = refl
+tabulate-length (suc n) f = length-append (tabulate n f) (f n ∷ []) ∙ omega (arith, tabulate-length n f)
