@@ -1,1 +1,2 @@
 -- The laws of the unit's definitions.
+pub mod Fitness
