@@ -1,2 +1,1 @@
--- The laws of a test of every entry, taken entry by entry.
-pub mod Entries
+-- The laws are those of the crate unit.

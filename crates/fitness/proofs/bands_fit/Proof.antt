@@ -11,7 +11,7 @@ use Rattle.refusals.specs.Numbers.{isAccepted}
 use Rattle.bands.specs.declared.Band.{Band}
 use Rattle.unit.specs.Lists.{every}
 use Rattle.unit.specs.Fit.{bandFits}
-use Rattle.fitness.proofs.Entries.{every-fails, every-passes, every-done}
+use Rattle.unit.proofs.Lists.{every-fails, every-passes, every-done}
 use Rattle.fitness.proofs.bands_fit.Statement.{statement}
 use Rattle.fitness.proofs.bands_fit.Tie as tie
 use Rattle.fitness.proofs.bands_fit.Reads as reads

@@ -7,7 +7,7 @@ use borrow.Author.Tests.{not-true, not-false}
 use mir.Syntax.{w64}
 use Rattle.integers.proofs.Machine.{reads-back}
 use Rattle.rounding.specs.Rounding.{within}
-use Rattle.unit.specs.Fit.{isInput, isFlag, channelFits}
+use Rattle.unit.specs.Fit.{isInput, isFlag}
 use Rattle.unit.specs.declared.Channel.{Channel}
 use borrow.Author.Needs.{needs}
 use Rattle.fitness.proofs.channel_fits.Statement.{statement}

@@ -10,7 +10,7 @@ use borrow.Author.Tests.{not-true, not-false}
 use Rattle.unit.specs.declared.Channel.{Channel}
 use Rattle.unit.specs.Lists.{every}
 use Rattle.unit.specs.Fit.{channelFits}
-use Rattle.fitness.proofs.Entries.{every-fails, every-passes, every-done}
+use Rattle.unit.proofs.Lists.{every-fails, every-passes, every-done}
 use Rattle.fitness.proofs.channels_fit.Statement.{statement}
 use Rattle.fitness.proofs.channels_fit.Tie as tie
 use Rattle.fitness.proofs.channels_fit.Reads as reads

@@ -6,7 +6,6 @@ use borrow.Author.Tests.{not-true, not-false}
 use mir.Syntax.{w64}
 use Rattle.integers.proofs.Machine.{reads-back}
 use Rattle.bands.specs.Words.{isWord}
-use Rattle.unit.specs.Fit.{sectionFits}
 use Rattle.unit.specs.declared.BandSection.{BandSection}
 use borrow.Author.Needs.{needs}
 use Rattle.fitness.proofs.section_fits.Statement.{statement}

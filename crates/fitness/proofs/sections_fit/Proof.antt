@@ -10,7 +10,7 @@ use Rattle.unit.specs.declared.BandSection.{BandSection}
 use Rattle.unit.specs.Lists.{every}
 use Rattle.unit.specs.Cleared.{clearedSection}
 use Rattle.unit.specs.Fit.{sectionFits}
-use Rattle.fitness.proofs.Entries.{every-fails, every-passes, every-done}
+use Rattle.unit.proofs.Lists.{every-fails, every-passes, every-done}
 use Rattle.fitness.proofs.sections_fit.Statement.{statement}
 use Rattle.fitness.proofs.sections_fit.Tie as tie
 use Rattle.fitness.proofs.sections_fit.Reads as reads

@@ -8,7 +8,7 @@ use mir.Syntax.{w64}
 use Rattle.integers.proofs.Machine.{reads-back}
 use Rattle.rounding.specs.Rounding.{within}
 use Rattle.bands.specs.Words.{wordHigh}
-use Rattle.unit.specs.Fit.{isVolume, volumeFits}
+use Rattle.unit.specs.Fit.{isVolume}
 use borrow.Author.Needs.{needs}
 use Rattle.fitness.proofs.volume_fits.Statement.{statement}
 use Rattle.fitness.proofs.volume_fits.Tie as tie
