@@ -1,0 +1,1 @@
+-- The laws are those of the crate unit.

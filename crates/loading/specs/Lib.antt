@@ -1,0 +1,2 @@
+-- Loading a band set.
+pub mod Loading
