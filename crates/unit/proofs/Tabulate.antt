@@ -2,12 +2,13 @@
 use mathlib.Core.Path.{_≡_, refl, sym, ap, ap₂, _∙_, subst}
 use mathlib.Core.Bool.{Bool, true, false, _||_}
 use mathlib.Core.List.{List, [], _∷_, _++_}
-use Prim.Native.Nat.{ℕ, zero, suc, _<_}
+use Prim.Native.Nat.{ℕ, zero, suc, _≤_, _<_}
 use native.Mathlib.Omega.{arith}
 use lib.Dec.{eqb}
 use borrow.Author.Tests.{eqb-true, eqb-false}
 use lib.IntN.{ℤ, pos, _+ℤ_}
-use lib.ListN.{length, length-append}
+use lib.ListN.{length, getD, take, length-append}
+use lib.Seq.{take-suc, take-all}
 use Rattle.integers.proofs.Parts.{terms-eq, var, _⊕_}
 use Rattle.unit.specs.Lists.{tabulate, Each, anyOf}
 use Rattle.unit.specs.Frame.{sumOf}
@@ -63,3 +64,11 @@ any-snoc (s ∷ l) t = ap (λ (r : Bool). s || r) (any-snoc l t) ∙ or-assoc s 
 pub tabulate-length : {A : Type 0} (n : ℕ) (f : ℕ → A) → length (tabulate n f) ≡ n
 tabulate-length zero f = refl
 tabulate-length (suc n) f = length-append (tabulate n f) (f n ∷ []) ∙ omega (arith, tabulate-length n f)
+
+-- the entries of a list, one by one, are the front of it
+pub tabulate-take : {A : Type 0} (l : List A) (d : A) (n : ℕ) → n ≤ length l → tabulate n (λ k. getD l k d) ≡ take n l
+tabulate-take l d zero h = refl
+tabulate-take l d (suc n) h = ap (λ m. m ++ (getD l n d ∷ [])) (tabulate-take l d n (omega arith)) ∙ sym (take-suc l n d (omega arith))
+
+pub tabulate-all : {A : Type 0} (l : List A) (d : A) (n : ℕ) → length l ≡ n → tabulate n (λ k. getD l k d) ≡ l
+tabulate-all l d n h = tabulate-take l d n (omega arith) ∙ take-all n l (omega arith)

@@ -1,0 +1,210 @@
+-- `packing::band_numbers` meets its contract. The loop's invariant: the bands below b are stored.
+use mathlib.Core.Path.{_≡_, refl, sym, _∙_, subst}
+use mathlib.Core.Bool.{Bool, true, false}
+use mathlib.Core.List.{List}
+use Prim.Native.Nat.{ℕ, _+_, _*_, _-_, _≤_, _<_}
+use native.Mathlib.Omega.{arith}
+use lib.Dec.{eqb}
+use lib.IntN.{ℤ, pos}
+use lib.ListN.{length, getD, set, length-set}
+use lib.Seq.{getD-set-same, getD-set-other}
+use borrow.Author.Needs.{needs}
+use borrow.Author.Tests.{eqb-true, eqb-false}
+use mir.Syntax.{w32, w64}
+use mir.Val.{toZ, ofZ}
+use Rattle.integers.proofs.Machine.{widened, widen-need}
+use Rattle.bands.specs.declared.Band.{Band}
+use Rattle.bands.specs.Bands.{bandOf, bandAt}
+use Rattle.unit.specs.Cleared.{bandCount}
+use Rattle.unit.proofs.Tabulate.{tabulate-cong, tabulate-all}
+use Rattle.packing.proofs.band_numbers.Statement.{statement}
+use Rattle.packing.proofs.band_numbers.Tie as tie
+use Rattle.packing.proofs.band_numbers.Reads as reads
+use Rattle.packing.proofs.band_numbers.Lts as lts
+
+-- what stands past the end of a list of bands
+abbrev noBand : Band
+noBand = bandOf (pos 0) (pos 0) (pos 0)
+
+-- the numbers with band b stored
+abbrev putBand : List ℤ → ℕ → Band → List ℤ
+putBand l b band = set (set (set l (3 * b) (band .alpha)) (3 * b + 1) (band .beta)) (3 * b + 2) (band .gamma)
+
+module _ (l : List ℤ) (b : ℕ) (band : Band) where
+  one : List ℤ
+  one = set l (3 * b) (band .alpha)
+
+  two : List ℤ
+  two = set one (3 * b + 1) (band .beta)
+
+  put-outside : (j : ℕ) → (j ≡ 3 * b → ⊥) → (j ≡ 3 * b + 1 → ⊥) → (j ≡ 3 * b + 2 → ⊥) → getD (putBand l b band) j (pos 0) ≡ getD l j (pos 0)
+  unfolding one two
+  put-outside j h0 h1 h2 =
+      getD-set-other two (3 * b + 2) j (band .gamma) (pos 0) h2
+      ∙ getD-set-other one (3 * b + 1) j (band .beta) (pos 0) h1
+      ∙ getD-set-other l (3 * b) j (band .alpha) (pos 0) h0
+
+  put-same : length l ≡ 30 → b < bandCount → bandAt (putBand l b band) b ≡ band
+  unfolding one two
+  put-same h k =
+      λ i.
+      record {
+        alpha =
+            (getD-set-other two (3 * b + 2) (3 * b) (band .gamma) (pos 0) (λ e. omega arith)
+            ∙ getD-set-other one (3 * b + 1) (3 * b) (band .beta) (pos 0) (λ e. omega arith)
+            ∙ getD-set-same l (3 * b) (band .alpha) (pos 0) (omega arith)) i;
+        beta =
+            (getD-set-other two (3 * b + 2) (3 * b + 1) (band .gamma) (pos 0) (λ e. omega arith)
+            ∙ getD-set-same one (3 * b + 1) (band .beta) (pos 0) (omega (arith, length-set l (3 * b) (band .alpha)))) i;
+        gamma =
+            getD-set-same two (3 * b + 2) (band .gamma) (pos 0)
+            (omega (arith, length-set l (3 * b) (band .alpha), length-set one (3 * b + 1) (band .beta))) i;
+      }
+
+  put-other : (k : ℕ) → (k ≡ b → ⊥) → bandAt (putBand l b band) k ≡ bandAt l k
+  put-other k h =
+      λ i.
+      record {
+        alpha = put-outside (3 * k) (λ e. h (omega arith)) (λ e. omega arith) (λ e. omega arith) i;
+        beta = put-outside (3 * k + 1) (λ e. omega arith) (λ e. h (omega arith)) (λ e. omega arith) i;
+        gamma = put-outside (3 * k + 2) (λ e. omega arith) (λ e. omega arith) (λ e. h (omega arith)) i;
+      }
+
+-- the bands below b are stored
+pub record Filled (bands : List Band) (b : ℕ) (l : List ℤ) : Type 0 where
+  pub most : b ≤ bandCount
+  pub size : length l ≡ 30
+  pub done : (k : ℕ) → k < b → bandAt l k ≡ getD bands k noBand
+
+filled-more : (bands : List Band) (b : ℕ) (l : List ℤ) → b < bandCount → Filled bands b l → Filled bands (b + 1) (putBand l b (getD bands b noBand))
+filled-more bands b l h f =
+    record { most = omega arith; size = simp length-set (f .size); done = λ k j. go k (omega arith) (eqb k b) refl }
+  where
+    band : Band
+    band = getD bands b noBand
+
+    go : (k : ℕ) → k ≤ b → (t : Bool) → eqb k b ≡ t → bandAt (putBand l b band) k ≡ getD bands k noBand
+    go k j true e = subst (λ (n : ℕ). bandAt (putBand l b band) n ≡ getD bands n noBand) (sym (eqb-true k b e)) (put-same l b band (f .size) h)
+    go k j false e = put-other l b band k (eqb-false k b e) ∙ f .done k (omega (arith, eqb-false k b e))
+
+abbrev Inv-loop : tie.InvT-loop
+Inv-loop bands numbers₀ b₀ numbers b = Filled bands b numbers
+
+abbrev μ-loop : tie.MeasureT-loop
+μ-loop bands numbers₀ b₀ numbers b = 10 - b
+
+loop-holds : tie.Need-loop-holds Inv-loop μ-loop
+loop-holds c = record { most = search needs; size = refl; done = λ k j. absurd (omega arith) }
+
+mul-band : tie.Need-mul-band Inv-loop μ-loop
+mul-band c = search needs
+
+array-copy-out-band : tie.Need-array-copy-out-band Inv-loop μ-loop
+array-copy-out-band c = search needs
+
+-- band b as it is copied out
+abbrev band-of : lts.After-band reads.Pre reads.Post Inv-loop μ-loop → Band
+band-of c = getD (c .before .before .before .args .t1) (c .before .before .loop .b) noBand
+
+cast-alpha : tie.Need-cast-alpha Inv-loop μ-loop
+cast-alpha c = widen-need tt (band-of (c .before .before) .alpha) (record { sfits = omega arith })
+
+cast-beta : tie.Need-cast-beta Inv-loop μ-loop
+cast-beta c = widen-need tt (band-of (c .before .before .before .before) .beta) (record { sfits = omega arith })
+
+cast-gamma : tie.Need-cast-gamma Inv-loop μ-loop
+cast-gamma c = widen-need tt (band-of (c .before .before .before .before .before .before) .gamma) (record { sfits = omega arith })
+
+mul-numbers : tie.Need-mul-numbers Inv-loop μ-loop
+mul-numbers c = search needs
+
+mul-numbers-2 : tie.Need-mul-numbers-2 Inv-loop μ-loop
+mul-numbers-2 c = search needs
+
+array-set-from-numbers : tie.Need-array-set-from-numbers Inv-loop μ-loop
+array-set-from-numbers c = search needs
+
+mul-numbers-3 : tie.Need-mul-numbers-3 Inv-loop μ-loop
+mul-numbers-3 c = search needs
+
+add-numbers : tie.Need-add-numbers Inv-loop μ-loop
+add-numbers c = search needs
+
+mul-numbers-4 : tie.Need-mul-numbers-4 Inv-loop μ-loop
+mul-numbers-4 c = search needs
+
+array-set-from-numbers-2 : tie.Need-array-set-from-numbers-2 Inv-loop μ-loop
+array-set-from-numbers-2 c = search needs
+
+mul-numbers-5 : tie.Need-mul-numbers-5 Inv-loop μ-loop
+mul-numbers-5 c = search needs
+
+add-numbers-2 : tie.Need-add-numbers-2 Inv-loop μ-loop
+add-numbers-2 c = search needs
+
+mul-numbers-6 : tie.Need-mul-numbers-6 Inv-loop μ-loop
+mul-numbers-6 c = search needs
+
+array-set-from-numbers-3 : tie.Need-array-set-from-numbers-3 Inv-loop μ-loop
+array-set-from-numbers-3 c = search needs
+
+add-b : tie.Need-add-b Inv-loop μ-loop
+add-b c = search needs
+
+loop-less : tie.Need-loop-less Inv-loop μ-loop
+loop-less c = search needs
+
+loop-again : tie.Need-loop-again Inv-loop μ-loop
+loop-again c =
+    subst (λ (band : Band). Filled (a .before .before .before .args .t1) (a .before .before .loop .b + 1) (putBand (a .before .before .loop .numbers) (a .before .before .loop .b) band)) (sym read)
+    (filled-more (a .before .before .before .args .t1) (a .before .before .loop .b) (a .before .before .loop .numbers) (omega arith) (a .before .before .loop .inv))
+  where
+    a : lts.After-band reads.Pre reads.Post Inv-loop μ-loop
+    a = c .before .before .before .before .before .before
+
+    -- its numbers as they are widened
+    read : _≡_ {A = Band} (bandOf (toZ w64 (ofZ w64 (toZ w32 (ofZ w32 (band-of a .alpha))))) (toZ w64 (ofZ w64 (toZ w32 (ofZ w32 (band-of a .beta))))) (toZ w64 (ofZ w64 (toZ w32 (ofZ w32 (band-of a .gamma)))))) (band-of a)
+    read =
+        λ i.
+        bandOf
+        (widened {u = w32} {w = w64} tt (band-of a .alpha) (record { sfits = omega arith }) .reads i)
+        (widened {u = w32} {w = w64} tt (band-of a .beta) (record { sfits = omega arith }) .reads i)
+        (widened {u = w32} {w = w64} tt (band-of a .gamma) (record { sfits = omega arith }) .reads i)
+
+returns : tie.Need-returns Inv-loop μ-loop
+returns c =
+    tabulate-cong bandCount (λ k h. inv .done k h) ∙ tabulate-all (c .before .before .args .t1) noBand bandCount (omega arith)
+  where
+    ten : c .before .loop .b ≡ bandCount
+    ten = omega arith
+
+    inv : Filled (c .before .before .args .t1) bandCount (c .before .loop .numbers)
+    inv = subst (λ (n : ℕ). Filled (c .before .before .args .t1) n (c .before .loop .numbers)) ten (c .before .loop .inv)
+
+pub band-numbers-spec : {M : Type 1} → statement M
+band-numbers-spec =
+    tie.close
+    (tie.spec
+    Inv-loop
+    μ-loop
+    loop-holds
+    mul-band
+    array-copy-out-band
+    cast-alpha
+    cast-beta
+    cast-gamma
+    mul-numbers
+    mul-numbers-2
+    array-set-from-numbers
+    mul-numbers-3
+    add-numbers
+    mul-numbers-4
+    array-set-from-numbers-2
+    mul-numbers-5
+    add-numbers-2
+    mul-numbers-6
+    array-set-from-numbers-3
+    add-b
+    loop-less
+    loop-again
+    returns)

@@ -1,0 +1,52 @@
+-- `packing::channel_numbers` meets its contract: the three numbers stored first stay ahead of the sections.
+use mathlib.Core.Path.{_∙_}
+use native.Mathlib.Omega.{arith}
+use lib.Dec.{lit≤}
+use borrow.Author.Needs.{needs}
+use mir.Syntax.{w64}
+use Rattle.integers.proofs.Machine.{reads-back}
+use Rattle.unit.specs.declared.Channel.{Channel}
+use Rattle.packing.proofs.channel_numbers.Statement.{statement}
+use Rattle.packing.proofs.channel_numbers.Tie as tie
+use Rattle.packing.proofs.channel_numbers.Reads as reads
+use Rattle.packing.proofs.channel_numbers.Lts as lts
+use Rattle.packing.proofs.put_sections.Reads as put-sections-reads
+
+array-set-from-numbers : tie.Need-array-set-from-numbers
+array-set-from-numbers c = search needs
+
+array-set-from-numbers-2 : tie.Need-array-set-from-numbers-2
+array-set-from-numbers-2 c = search needs
+
+array-set-from-numbers-3 : tie.Need-array-set-from-numbers-3
+array-set-from-numbers-3 c = search needs
+
+put-sections-requires : tie.Need-put-sections-requires
+put-sections-requires c κs = search needs
+
+returns : tie.Need-returns
+returns c =
+    record {
+      size = c .put-sections .ensures .size;
+      channel =
+          λ i.
+          record {
+            x1 = (c .put-sections .ensures .front 0 (lit≤ tt) ∙ reads-back w64 (channel .x1) (omega arith)) i;
+            x2 = (c .put-sections .ensures .front 1 (lit≤ tt) ∙ reads-back w64 (channel .x2) (omega arith)) i;
+            flag = (c .put-sections .ensures .front 2 (lit≤ tt) ∙ reads-back w64 (channel .flag) (omega arith)) i;
+            sections = c .put-sections .ensures .all i;
+          };
+    }
+  where
+    channel : Channel
+    channel = c .before .before .before .before .before .before .args .channel
+
+pub channel-numbers-spec : {M : Type 1} → statement M
+channel-numbers-spec =
+    tie.close
+    (tie.spec
+    array-set-from-numbers
+    array-set-from-numbers-2
+    array-set-from-numbers-3
+    put-sections-requires
+    returns)

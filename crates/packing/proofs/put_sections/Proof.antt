@@ -1,0 +1,112 @@
+-- `packing::put_sections` meets its contract. The loop's invariant: the sections below b are stored.
+use mathlib.Core.Path.{_≡_, refl, sym, _∙_, subst}
+use mathlib.Core.Bool.{Bool, true, false}
+use mathlib.Core.List.{List}
+use Prim.Native.Nat.{ℕ, _+_, _-_, _≤_, _<_}
+use native.Mathlib.Omega.{arith}
+use lib.Dec.{eqb}
+use lib.IntN.{ℤ, pos}
+use lib.ListN.{length, getD}
+use denote.Ref.{now}
+use borrow.Author.Needs.{needs}
+use borrow.Author.Tests.{eqb-true, eqb-false}
+use Rattle.unit.specs.declared.BandSection.{BandSection}
+use Rattle.unit.specs.Cleared.{bandCount, clearedSection}
+use Rattle.unit.proofs.Tabulate.{tabulate-cong, tabulate-all}
+use Rattle.engine.specs.Numbers.{channelSize, sectionAt, putSection}
+use Rattle.engine.proofs.Numbers.{put-same, put-other, put-outside, put-length}
+use Rattle.packing.proofs.put_sections.Statement.{statement}
+use Rattle.packing.proofs.put_sections.Tie as tie
+use Rattle.packing.proofs.put_sections.Reads as reads
+use Rattle.packing.proofs.put_sections.Lts as lts
+use Rattle.engine.proofs.put_section.Reads as put-section-reads
+
+-- the sections below b are stored, and the numbers ahead of them are as before
+pub record Filled (l : List ℤ) (sections : List BandSection) (b : ℕ) (m : List ℤ) : Type 0 where
+  pub most : b ≤ bandCount
+  pub size : length m ≡ channelSize
+  pub front : (j : ℕ) → j < 3 → getD m j (pos 0) ≡ getD l j (pos 0)
+  pub done : (k : ℕ) → k < b → sectionAt m k ≡ getD sections k clearedSection
+
+-- one section more
+filled-more : (l : List ℤ) (sections : List BandSection) (b : ℕ) (m : List ℤ) → b < bandCount → Filled l sections b m → Filled l sections (b + 1) (putSection m b (getD sections b clearedSection))
+filled-more l sections b m h f =
+    record {
+      most = omega arith;
+      size = put-length m b s ∙ f .size;
+      front =
+          λ j i. put-outside m b s j (λ e. omega arith) (λ e. omega arith) (λ e. omega arith) (λ e. omega arith) ∙ f .front j i;
+      done = λ k j. go k (omega arith) (eqb k b) refl;
+    }
+  where
+    s : BandSection
+    s = getD sections b clearedSection
+
+    go : (k : ℕ) → k ≤ b → (t : Bool) → eqb k b ≡ t → sectionAt (putSection m b s) k ≡ getD sections k clearedSection
+    go k j true e = subst (λ (n : ℕ). sectionAt (putSection m b s) n ≡ getD sections n clearedSection) (sym (eqb-true k b e)) (put-same m b s (f .size) h)
+    go k j false e = put-other m b s k (eqb-false k b e) ∙ f .done k (omega (arith, eqb-false k b e))
+
+abbrev Inv-loop : tie.InvT-loop
+Inv-loop numbers₀ sections b₀ numbers b = Filled numbers₀ sections b numbers
+
+abbrev μ-loop : tie.MeasureT-loop
+μ-loop numbers₀ sections b₀ numbers b = 10 - b
+
+loop-holds : tie.Need-loop-holds Inv-loop μ-loop
+loop-holds c =
+    record { most = search needs; size = c .pre; front = λ j i. refl; done = λ k j. absurd (omega arith) }
+
+mul-section : tie.Need-mul-section Inv-loop μ-loop
+mul-section c = search needs
+
+array-copy-out-section : tie.Need-array-copy-out-section Inv-loop μ-loop
+array-copy-out-section c = search needs
+
+put-section-requires : tie.Need-put-section-requires Inv-loop μ-loop
+put-section-requires c κs = search needs
+
+add-b : tie.Need-add-b Inv-loop μ-loop
+add-b c = search needs
+
+loop-less : tie.Need-loop-less Inv-loop μ-loop
+loop-less c = search needs
+
+loop-again : tie.Need-loop-again Inv-loop μ-loop
+loop-again c =
+    subst (λ (n : List ℤ). Filled (now (s .args .numbers)) (s .args .t2) (c .before .before .before .before .loop .b + 1) n) (sym (c .put-section .ensures))
+    (filled-more (now (s .args .numbers)) (s .args .t2) (c .before .before .before .before .loop .b) (c .before .before .before .before .loop .numbers) (omega arith) (c .before .before .before .before .loop .inv))
+  where
+    s : lts.Start (put-section-reads.Asked, put-section-reads.Learnt) reads.Pre reads.Post Inv-loop μ-loop
+    s = c .before .before .before .before .before
+
+returns : tie.Need-returns Inv-loop μ-loop
+returns c =
+    record {
+      size = inv .size;
+      front = inv .front;
+      all = tabulate-cong bandCount (λ k h. inv .done k h) ∙ tabulate-all (s .args .t2) clearedSection bandCount (omega arith);
+    }
+  where
+    s : lts.Start (put-section-reads.Asked, put-section-reads.Learnt) reads.Pre reads.Post Inv-loop μ-loop
+    s = c .before .before
+
+    ten : c .before .loop .b ≡ bandCount
+    ten = omega arith
+
+    inv : Filled (now (s .args .numbers)) (s .args .t2) bandCount (c .before .loop .numbers)
+    inv = subst (λ (n : ℕ). Filled (now (s .args .numbers)) (s .args .t2) n (c .before .loop .numbers)) ten (c .before .loop .inv)
+
+pub put-sections-spec : {M : Type 1} → statement M
+put-sections-spec =
+    tie.close
+    (tie.spec
+    Inv-loop
+    μ-loop
+    loop-holds
+    mul-section
+    array-copy-out-section
+    put-section-requires
+    add-b
+    loop-less
+    loop-again
+    returns)

@@ -1,0 +1,2 @@
+-- What packing promises.
+pub mod Shape
