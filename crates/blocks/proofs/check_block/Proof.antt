@@ -1,0 +1,36 @@
+-- `blocks::check_block` meets its contract: the unit first, then the lengths.
+use mathlib.Core.Path.{_≡_, sym, _∙_}
+use mathlib.Core.Bool.{true, false}
+use lib.Dec.{eqb, leb}
+use borrow.Author.Tests.{not-true, not-false, eq-eqb, ne-eqb, le-leb, lt-leb}
+use Rattle.blocks.specs.Block.{blockVerdict}
+use borrow.Author.Needs.{needs}
+use Rattle.blocks.proofs.check_block.Statement.{statement}
+use Rattle.blocks.proofs.check_block.Tie as tie
+use Rattle.blocks.proofs.check_block.Reads as reads
+use Rattle.blocks.proofs.check_block.Lts as lts
+use Rattle.fitness.proofs.is_fit.Reads as is-fit-reads
+
+is-fit-requires : tie.Need-is-fit-requires
+is-fit-requires c κs = search needs
+
+returns : tie.Need-returns
+unfolding blockVerdict
+returns c = sym (simp (sym (c .before .is-fit .ensures) ∙ not-true _ (c .if1 .taken)))
+
+returns-2 : tie.Need-returns-2
+unfolding blockVerdict
+returns-2 c = sym (simp (sym (c .before .before .is-fit .ensures) ∙ not-false _ (c .before .if1 .left), ne-eqb _ _ (c .if2 .taken)))
+
+returns-3 : tie.Need-returns-3
+unfolding blockVerdict
+returns-3 c =
+    sym (simp (sym (c .before .before .before .is-fit .ensures) ∙ not-false _ (c .before .before .if1 .left), eq-eqb _ _ (c .before .if2 .left), lt-leb _ _ (c .if3 .taken)))
+
+returns-4 : tie.Need-returns-4
+unfolding blockVerdict
+returns-4 c =
+    sym (simp (sym (c .before .before .before .is-fit .ensures) ∙ not-false _ (c .before .before .if1 .left), eq-eqb _ _ (c .before .if2 .left), le-leb _ _ (c .if3 .left)))
+
+pub check-block-spec : {M : Type 1} → statement M
+check-block-spec = tie.close (tie.spec is-fit-requires returns returns-2 returns-3 returns-4)

@@ -1,0 +1,101 @@
+-- `blocks::play` meets its contract: an accepted block is run, any other hands unit and output back.
+use mathlib.Core.Path.{_≡_, sym, ap, _∙_}
+use mathlib.Core.Bool.{Bool, true, false, cond}
+use mathlib.Core.List.{List, _++_}
+use Prim.Native.Nat.{ℕ}
+use lib.ListN.{length, drop}
+use denote.Ref.{now}
+use borrow.Author.Needs.{needs}
+use Rattle.refusals.specs.Numbers.{isAccepted}
+use Rattle.refusals.specs.declared.Verdict.{Verdict}
+use Rattle.unit.specs.declared.Unit.{Unit}
+use Rattle.blocks.specs.Block.{blockVerdict, played, sound, frameCount, blockPlayed, blockOutput}
+use Rattle.blocks.proofs.play.Statement.{statement}
+use Rattle.blocks.proofs.play.Tie as tie
+use Rattle.blocks.proofs.play.Reads as reads
+use Rattle.blocks.proofs.play.Lts as lts
+use Rattle.blocks.proofs.check_block.Reads as check-block-reads
+use Rattle.blocks.proofs.run.Reads as run-reads
+use Rattle.refusals.proofs.accepted.Reads as accepted-reads
+
+-- a test that passed, and one that did not
+passed : {A : Type 0} (t : Bool) (x y : A) → t ≡ true → x ≡ cond t x y
+passed t x y e = ap (λ (b : Bool). cond b x y) (sym e)
+
+failed : {A : Type 0} (t : Bool) (x y : A) → t ≡ false → y ≡ cond t x y
+failed t x y e = ap (λ (b : Bool). cond b x y) (sym e)
+
+module _ (c : lts.After-accepted (check-block-reads.Asked, check-block-reads.Learnt, accepted-reads.Asked, accepted-reads.Learnt, run-reads.Asked, run-reads.Learnt) reads.Pre reads.Post) where
+  abbrev s : lts.Start (check-block-reads.Asked, check-block-reads.Learnt, accepted-reads.Asked, accepted-reads.Learnt, run-reads.Asked, run-reads.Learnt) reads.Pre reads.Post
+  s = c .before .before .before .before
+
+  abbrev verdict : Verdict
+  verdict = blockVerdict 2 (s .args .unit) (length (now (s .args .input))) (length (now (s .args .output)))
+
+  verdict-is : c .before .check-block .result ≡ verdict
+  verdict-is = c .before .check-block .ensures
+
+  accepted-is : isAccepted verdict ≡ c .accepted .result
+  accepted-is = sym (c .accepted .ensures ∙ ap isAccepted verdict-is)
+
+check-block-requires : tie.Need-check-block-requires
+check-block-requires c κs = search needs
+
+accepted-requires : tie.Need-accepted-requires
+accepted-requires c κs = search needs
+
+run-requires : tie.Need-run-requires
+run-requires c κs = accepted-is (c .before .before .before .before .before) ∙ c .before .before .before .before .if1 .taken
+
+same-length : tie.Need-same-length
+same-length c = search needs
+
+returns : tie.Need-returns
+unfolding blockPlayed blockOutput
+returns c = (
+  (λ i. record { verdict = verdict-is a i; unit = (r .run .ensures .unit ∙ passed (isAccepted (verdict a)) (played 2 u input (frameCount 2 u input)) u yes) i }),
+  r .run .ensures .bytes
+  ∙ passed (isAccepted (verdict a)) (sound 2 u input (frameCount 2 u input) ++ drop (length input) room) room yes,
+)
+  where
+    r : lts.After-run (check-block-reads.Asked, check-block-reads.Learnt, accepted-reads.Asked, accepted-reads.Learnt, run-reads.Asked, run-reads.Learnt) reads.Pre reads.Post
+    r = c .before .before
+
+    a : lts.After-accepted (check-block-reads.Asked, check-block-reads.Learnt, accepted-reads.Asked, accepted-reads.Learnt, run-reads.Asked, run-reads.Learnt) reads.Pre reads.Post
+    a = r .before .before .before .before .before .before
+
+    u : Unit
+    u = s a .args .unit
+
+    input : List ℕ
+    input = now (s a .args .input)
+
+    room : List ℕ
+    room = now (s a .args .output)
+
+    yes : isAccepted (verdict a) ≡ true
+    yes = accepted-is a ∙ r .before .before .before .before .before .if1 .taken
+
+returns-2 : tie.Need-returns-2
+unfolding blockPlayed blockOutput
+returns-2 c = (
+  (λ i. record { verdict = verdict-is (c .before) i; unit = failed (isAccepted (verdict (c .before))) (played 2 u input (frameCount 2 u input)) u no i }),
+  failed (isAccepted (verdict (c .before))) (sound 2 u input (frameCount 2 u input) ++ drop (length input) room) room no,
+)
+  where
+    u : Unit
+    u = s (c .before) .args .unit
+
+    input : List ℕ
+    input = now (s (c .before) .args .input)
+
+    room : List ℕ
+    room = now (s (c .before) .args .output)
+
+    no : isAccepted (verdict (c .before)) ≡ false
+    no = accepted-is (c .before) ∙ c .if1 .left
+
+pub play-spec : {M : Type 1} → statement M
+play-spec =
+    tie.close
+    (tie.spec check-block-requires accepted-requires run-requires same-length returns returns-2)

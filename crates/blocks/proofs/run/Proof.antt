@@ -1,0 +1,144 @@
+-- `blocks::run` meets its contract: the packed numbers stand for the unit, before the frames and after them.
+use mathlib.Core.Path.{_≡_, refl, sym, ap, _∙_, subst}
+use mathlib.Core.List.{List, [], _∷_, _++_}
+use Prim.Native.Nat.{ℕ, _*_, _/_}
+use native.Mathlib.Omega.{arith}
+use lib.IntN.{ℤ, pos}
+use lib.ListN.{length, drop}
+use denote.Ref.{now}
+use Rattle.unit.specs.declared.Channel.{Channel}
+use Rattle.unit.specs.declared.Unit.{Unit}
+use Rattle.unit.specs.Fit.{Fit}
+use Rattle.unit.proofs.Tabulate.{tabulate-all}
+use Rattle.engine.specs.Numbers.{channelOf}
+use Rattle.blocks.specs.Block.{played, sound}
+use Rattle.blocks.specs.Run.{unitWith, unitOf}
+use Rattle.blocks.proofs.Block.{Accepts, block-accepted, four-a-frame}
+use borrow.Author.Needs.{needs}
+use Rattle.blocks.proofs.run.Statement.{statement}
+use Rattle.blocks.proofs.run.Tie as tie
+use Rattle.blocks.proofs.run.Reads as reads
+use Rattle.blocks.proofs.run.Lts as lts
+use Rattle.blocks.proofs.frames.Reads as frames-reads
+use Rattle.packing.proofs.band_numbers.Reads as band-numbers-reads
+use Rattle.packing.proofs.channel_numbers.Reads as channel-numbers-reads
+use Rattle.packing.proofs.channel_of.Reads as channel-of-reads
+
+-- what stands for a channel past the end
+abbrev zeroChannel : Channel
+zeroChannel = record { x1 = pos 0; x2 = pos 0; flag = pos 0; sections = [] }
+
+module _ (c : lts.After-channel-numbers2 (band-numbers-reads.Asked, band-numbers-reads.Learnt, channel-numbers-reads.Asked, channel-numbers-reads.Learnt, frames-reads.Asked, frames-reads.Learnt, channel-of-reads.Asked, channel-of-reads.Learnt) reads.Pre reads.Post) where
+  abbrev s : lts.Start (band-numbers-reads.Asked, band-numbers-reads.Learnt, channel-numbers-reads.Asked, channel-numbers-reads.Learnt, frames-reads.Asked, frames-reads.Learnt, channel-of-reads.Asked, channel-of-reads.Learnt) reads.Pre reads.Post
+  s = c .before .before .before .before .before .before .before
+
+  abbrev input : List ℕ
+  input = now (s .args .input)
+
+  abbrev room : List ℕ
+  room = now (s .args .output)
+
+  abbrev count : ℕ
+  count = length input / 4
+
+  abbrev U : Unit
+  U = unitOf (s .args .volume) (s .args .bands) (s .args .t3)
+
+  accepts : Accepts 2 U (length input) (length room)
+  accepts = block-accepted 2 U (length input) (length room) (s .pre)
+
+  whole : 4 * count ≡ length input
+  whole = four-a-frame (length input) (accepts .frames)
+
+  abbrev numbers : List ℤ
+  numbers = c .before .before .before .before .band-numbers .result
+
+  abbrev left : List ℤ
+  left = c .before .channel-numbers .result
+
+  abbrev right : List ℤ
+  right = c .channel-numbers2 .result
+
+  -- the packed numbers stand for the unit
+  packed : unitWith (s .args .volume) numbers left right ≡ U
+  packed =
+      (λ i. record {
+        volume = s .args .volume;
+        bands = c .before .before .before .before .band-numbers .ensures i;
+        channels = c .before .channel-numbers .ensures .channel i ∷ c .channel-numbers2 .ensures .channel i ∷ [];
+      })
+      ∙ ap (λ (l : List Channel). unitOf (s .args .volume) (s .args .bands) l) (tabulate-all (s .args .t3) zeroChannel 2 (omega arith))
+
+band-numbers-requires : tie.Need-band-numbers-requires
+band-numbers-requires c κs = search needs
+
+array-copy-out-first : tie.Need-array-copy-out-first
+array-copy-out-first c = search needs
+
+array-copy-out-second : tie.Need-array-copy-out-second
+array-copy-out-second c = search needs
+
+channel-numbers-requires : tie.Need-channel-numbers-requires
+channel-numbers-requires c κs = search needs
+
+channel-numbers-requires-2 : tie.Need-channel-numbers-requires-2
+channel-numbers-requires-2 c κs = search needs
+
+frames-requires : tie.Need-frames-requires
+frames-requires c κs =
+    record {
+      left-size = p .before .channel-numbers .ensures .size;
+      right-size = p .channel-numbers2 .ensures .size;
+      fit = subst Fit (sym (packed p)) (accepts p .fit);
+      input-has = omega (arith, whole p);
+      room-has = omega (arith, whole p, accepts p .enough);
+    }
+  where
+    p : lts.After-channel-numbers2 (band-numbers-reads.Asked, band-numbers-reads.Learnt, channel-numbers-reads.Asked, channel-numbers-reads.Learnt, frames-reads.Asked, frames-reads.Learnt, channel-of-reads.Asked, channel-of-reads.Learnt) reads.Pre reads.Post
+    p = c .before .before .before .before
+
+channel-of-requires : tie.Need-channel-of-requires
+channel-of-requires c κs = search needs
+
+channel-of-requires-2 : tie.Need-channel-of-requires-2
+channel-of-requires-2 c κs = search needs
+
+same-length : tie.Need-same-length
+same-length c = search needs
+
+returns : tie.Need-returns
+returns c =
+    record {
+      unit =
+          (λ i. record {
+            volume = f .frames .result;
+            bands = sym (p .before .before .before .before .band-numbers .ensures) i;
+            channels = c .before .before .channel-of .ensures i ∷ c .channel-of2 .ensures i ∷ [];
+          })
+          ∙ f .frames .ensures .unit
+          ∙ ap (λ (u : Unit). played 2 u (input p) (count p)) (packed p);
+      bytes =
+          f .frames .ensures .bytes
+          ∙ (λ i. sound 2 (packed p i) (input p) (count p) ++ drop (whole p i) (room p));
+    }
+  where
+    f : lts.After-frames (band-numbers-reads.Asked, band-numbers-reads.Learnt, channel-numbers-reads.Asked, channel-numbers-reads.Learnt, frames-reads.Asked, frames-reads.Learnt, channel-of-reads.Asked, channel-of-reads.Learnt) reads.Pre reads.Post
+    f = c .before .before .before .before .before .before
+
+    p : lts.After-channel-numbers2 (band-numbers-reads.Asked, band-numbers-reads.Learnt, channel-numbers-reads.Asked, channel-numbers-reads.Learnt, frames-reads.Asked, frames-reads.Learnt, channel-of-reads.Asked, channel-of-reads.Learnt) reads.Pre reads.Post
+    p = f .before .before .before .before .before
+
+pub run-spec : {M : Type 1} → statement M
+run-spec =
+    tie.close
+    (tie.spec
+    band-numbers-requires
+    array-copy-out-first
+    array-copy-out-second
+    channel-numbers-requires
+    channel-numbers-requires-2
+    frames-requires
+    channel-of-requires
+    channel-of-requires-2
+    same-length
+    returns)

@@ -1,0 +1,48 @@
+-- Playing a block of frames, for any number of channels. Definitions only.
+use mathlib.Core.Bool.{cond}
+use mathlib.Core.List.{List, [], _++_}
+use Prim.Native.Nat.{ℕ, zero, suc, _*_, _/_, _%_}
+use lib.Dec.{eqb, leb}
+use lib.ListN.{length, drop}
+use Rattle.refusals.specs.Numbers.{unless, isAccepted}
+use Rattle.refusals.specs.declared.Verdict.{Verdict}
+use Rattle.refusals.specs.declared.Verdict.the-variants.{Accepted, InputLength, OutputShort, Unfit}
+use Rattle.unit.specs.declared.Unit.{Unit}
+use Rattle.unit.specs.Frame.{unitFrame, heard}
+use Rattle.unit.specs.Fit.{unitFits}
+use Rattle.blocks.specs.declared.Played.{Played}
+use Rattle.blocks.specs.Bytes.{wordsAt, frameSize, bytesOf}
+
+-- "14 for an unfit unit" ahead of all; "5 input bytes no multiple of four; 6 output shorter than input"
+unfoldable pub blockVerdict : ℕ → Unit → ℕ → ℕ → Verdict
+blockVerdict channels u given room =
+    unless (unitFits u) Unfit
+    (unless (eqb (given % frameSize channels) 0) InputLength (unless (leb given room) OutputShort Accepted))
+
+module _ (channels : ℕ) (u : Unit) (input : List ℕ) where
+  -- the unit after the first n frames of the input
+  unfoldable pub played : ℕ → Unit
+  played zero = u
+  played (suc n) = unitFrame (wordsAt channels input (frameSize channels * n)) (played n)
+
+  -- what is heard of them
+  unfoldable pub sound : ℕ → List ℕ
+  sound zero = []
+  sound (suc n) = sound n ++ bytesOf (heard (played (suc n)))
+
+  -- how many frames the input has
+  abbrev pub frameCount : ℕ
+  frameCount = length input / frameSize channels
+
+  -- the answer: accepted, the unit after all frames; refused, "unit and output unchanged"
+  unfoldable pub blockPlayed : ℕ → Played
+  blockPlayed room =
+      record {
+        verdict = blockVerdict channels u (length input) room;
+        unit = cond (isAccepted (blockVerdict channels u (length input) room)) (played frameCount) u;
+      }
+
+  -- the output: accepted, the frames, and "output bytes beyond the block keep their contents"
+  unfoldable pub blockOutput : List ℕ → List ℕ
+  blockOutput room =
+      cond (isAccepted (blockVerdict channels u (length input) (length room))) (sound frameCount ++ drop (length input) room) room

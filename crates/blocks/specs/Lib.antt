@@ -1,0 +1,4 @@
+-- Blocks of frames.
+pub mod Bytes
+pub mod Block
+pub mod Run

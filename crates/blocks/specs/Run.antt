@@ -1,0 +1,64 @@
+-- What the routines within a block ask and promise. Definitions only.
+use mathlib.Core.Path.{_≡_}
+use mathlib.Core.List.{List, [], _∷_, _++_}
+use Prim.Native.Nat.{ℕ, _+_, _*_, _≤_, _<_}
+use lib.IntN.{ℤ, natAbs}
+use lib.ListN.{length, set, drop}
+use Rattle.bands.specs.Words.{wordSize}
+use Rattle.bands.specs.declared.Band.{Band}
+use Rattle.levels.specs.declared.Level.{Level}
+use Rattle.unit.specs.declared.Channel.{Channel}
+use Rattle.unit.specs.declared.Unit.{Unit}
+use Rattle.unit.specs.Lists.{Each}
+use Rattle.unit.specs.Cleared.{bandsOf}
+use Rattle.unit.specs.Frame.{channelFrame, mix, output}
+use Rattle.unit.specs.Fit.{BandFit, ChannelFit, Fit}
+use Rattle.engine.specs.Numbers.{channelSize, channelOf}
+use Rattle.blocks.specs.Bytes.{wordAt, lowByte, highByte}
+use Rattle.blocks.specs.Block.{played, sound, frameCount}
+
+-- a sample stored as two bytes
+abbrev pub putSample : List ℕ → ℕ → ℤ → List ℕ
+putSample bytes at s = set (set bytes at (lowByte s)) (at + 1) (highByte s)
+
+-- ---- one channel's part in a frame
+
+pub record Heard (bands l : List ℤ) (volume : ℤ) (input : List ℕ) (room : List ℕ) (at : ℕ) : Type 0 where
+  pub bands-fit : Each BandFit (bandsOf bands)
+  pub size : length l ≡ channelSize
+  pub channel-fit : ChannelFit (channelOf l)
+  pub volume-size : natAbs volume ≤ wordSize
+  pub input-has : at + 1 < length input
+  pub room-has : at + 1 < length room
+
+pub record Sounded (bands l : List ℤ) (volume : ℤ) (input : List ℕ) (room : List ℕ) (at : ℕ) (after : List ℤ) (filled : List ℕ) : Type 0 where
+  pub size : length after ≡ channelSize
+  pub channel : channelOf after ≡ channelFrame (bandsOf bands) (wordAt input at) (channelOf l)
+  pub bytes : filled ≡ putSample room at (output volume (mix (channelFrame (bandsOf bands) (wordAt input at) (channelOf l))))
+
+-- ---- all frames
+
+-- the unit of flat numbers
+abbrev pub unitWith : Level → List ℤ → List ℤ → List ℤ → Unit
+unitWith volume bands left right =
+    record { volume = volume; bands = bandsOf bands; channels = channelOf left ∷ channelOf right ∷ [] }
+
+pub record Plays (volume : Level) (bands left right : List ℤ) (frames : ℕ) (input room : List ℕ) : Type 0 where
+  pub left-size : length left ≡ channelSize
+  pub right-size : length right ≡ channelSize
+  pub fit : Fit (unitWith volume bands left right)
+  pub input-has : 4 * frames ≤ length input
+  pub room-has : 4 * frames ≤ length room
+
+pub record Ran (volume : Level) (bands left right : List ℤ) (frames : ℕ) (input room : List ℕ) (volume' : Level) (left' right' : List ℤ) (filled : List ℕ) : Type 0 where
+  pub unit : unitWith volume' bands left' right' ≡ played 2 (unitWith volume bands left right) input frames
+  pub bytes : filled ≡ sound 2 (unitWith volume bands left right) input frames ++ drop (4 * frames) room
+
+-- ---- an accepted block
+
+abbrev pub unitOf : Level → List Band → List Channel → Unit
+unitOf volume bands channels = record { volume = volume; bands = bands; channels = channels }
+
+pub record AllPlayed (u : Unit) (input room : List ℕ) (after : Unit) (filled : List ℕ) : Type 0 where
+  pub unit : after ≡ played 2 u input (frameCount 2 u input)
+  pub bytes : filled ≡ sound 2 u input (frameCount 2 u input) ++ drop (length input) room

@@ -1,0 +1,158 @@
+// Playing a block of frames through the unit. A frame is four bytes: left then right, low byte first.
+// Where a sample goes: `frames` takes it from the input, `channel_sound` to the engine and to the output.
+ghost use mathlib.Core.Path.{_≡_};
+ghost use Prim.Native.Nat.{_+_, _<_};
+ghost use mathlib.Core.Bool.{true};
+ghost use lib.ListN.{length};
+ghost use lib.Signed.{_≤ℤ_};
+ghost use Rattle.refusals.specs.Numbers.{isAccepted};
+ghost use Rattle.unit.specs.Frame.{sampleLow, sampleHigh};
+ghost use Rattle.blocks.specs.Bytes.{sampleAt};
+ghost use Rattle.blocks.specs.Block.{blockVerdict, blockPlayed, blockOutput};
+ghost use Rattle.blocks.specs.Run.{putSample, Heard, Sounded, Plays, Ran, unitOf, AllPlayed};
+use bands::Band;
+use levels::Level;
+use refusals::Verdict;
+use unit::Channel;
+use unit::Unit;
+
+// What a block answers, and the unit after it.
+pub struct Played {
+    pub verdict: Verdict,
+    pub unit: Unit,
+}
+
+// The sample in the two bytes at `at`.
+fn sample(input: &[u8], at: usize) -> i64
+    requires { ⌜ at + 1 < length (now input) ⌝ }
+    ensures { λ r. ⌜ r ≡ sampleAt (now (input .entry)) at ⌝ }
+{
+    let bits = input[at] as u32 + 256 * (input[at + 1] as u32);
+    if bits < 32768 {
+        return bits as i64;
+    }
+    bits as i64 - 65536
+}
+
+// Stores a sample in the two bytes at `at`.
+fn put_sample(output: &mut [u8], at: usize, sample: i64)
+    requires { ⌜ (at + 1 < length (now output)) × (sampleLow ≤ℤ sample) × (sample ≤ℤ sampleHigh) ⌝ }
+    ensures { λ r. ⌜ now (output .exit) ≡ putSample (now (output .entry)) at sample ⌝ }
+{
+    let bits = (sample + 65536) as u32;
+    output[at] = (bits % 256) as u8;
+    output[at + 1] = (bits / 256 % 256) as u8;
+}
+
+// One channel's part in a frame: its sample at `at` of the input goes in, and what is heard of it comes out at `at` of the output.
+fn channel_sound(
+    bands: &[i64; 30],
+    channel: &mut [i64; 43],
+    volume: i64,
+    input: &[u8],
+    output: &mut [u8],
+    at: usize,
+)
+    requires { ⌜ Heard (now bands) (now channel) volume (now input) (now output) at ⌝ }
+    ensures { λ r. ⌜ Sounded (now (bands .entry)) (now (channel .entry)) volume (now (input .entry)) (now (output .entry)) at (now (channel .exit)) (now (output .exit)) ⌝ }
+{
+    let x = 256 * sample(input, at);
+    let m = engine::channel_frame(bands, channel, x);
+    let heard = engine::sound(volume, m);
+    put_sample(output, at, heard);
+}
+
+// So many frames, from the front of the input to the front of the output. In each the volume moves first. Gives the volume after them.
+fn frames(
+    bands: &[i64; 30],
+    left: &mut [i64; 43],
+    right: &mut [i64; 43],
+    volume: Level,
+    count: usize,
+    input: &[u8],
+    output: &mut [u8],
+) -> Level
+    requires { ⌜ Plays volume (now bands) (now left) (now right) count (now input) (now output) ⌝ }
+    ensures { λ r. ⌜ Ran volume (now (bands .entry)) (now (left .entry)) (now (right .entry)) count (now (input .entry)) (now (output .entry)) r (now (left .exit)) (now (right .exit)) (now (output .exit)) ⌝ }
+{
+    let mut level = volume;
+    let mut i = 0;
+    while i < count {
+        level = level.moved(levels::VOLUME_SLOPE);
+        let present = level.present;
+        channel_sound(bands, left, present, input, output, 4 * i);
+        channel_sound(bands, right, present, input, output, 4 * i + 2);
+        i += 1;
+    }
+    level
+}
+
+// Accepted, or the first refusal that applies: an unfit unit, input bytes that are no multiple of four, an output shorter than the input.
+fn check_block(unit: Unit, given: usize, room: usize) -> Verdict
+    ensures { λ r. ⌜ r ≡ blockVerdict 2 unit given room ⌝ }
+{
+    if !fitness::is_fit(unit) {
+        return Verdict::Unfit;
+    }
+    if given % 4 != 0 {
+        return Verdict::InputLength;
+    }
+    if room < given {
+        return Verdict::OutputShort;
+    }
+    Verdict::Accepted
+}
+
+// An accepted block: the unit's bands and channels are held as flat numbers for its length.
+fn run(
+    volume: Level,
+    bands: [Band; 10],
+    channels: [Channel; 2],
+    input: &[u8],
+    output: &mut [u8],
+) -> Unit
+    requires { ⌜ isAccepted (blockVerdict 2 (unitOf volume bands channels) (length (now input)) (length (now output))) ≡ true ⌝ }
+    ensures { λ r. ⌜ AllPlayed (unitOf volume bands channels) (now (input .entry)) (now (output .entry)) r (now (output .exit)) ⌝ }
+{
+    let count = input.len() / 4;
+    let numbers = packing::band_numbers(bands);
+    let first = channels[0];
+    let second = channels[1];
+    let mut left = packing::channel_numbers(first);
+    let mut right = packing::channel_numbers(second);
+    let level = frames(
+        &numbers,
+        &mut left,
+        &mut right,
+        volume,
+        count,
+        input,
+        output,
+    );
+    let left_after = packing::channel_of(&left);
+    let right_after = packing::channel_of(&right);
+    Unit {
+        volume: level,
+        bands,
+        channels: [left_after, right_after],
+    }
+}
+
+// Plays a block of frames: 14 for an unfit unit ahead of all, then 5 and 6. Refused, unit and output are unchanged. Accepted, the
+// output begins with the frames, and the bytes beyond them keep their contents.
+pub fn play(unit: Unit, input: &[u8], output: &mut [u8]) -> Played
+    ensures { λ r. ⌜ (r ≡ blockPlayed 2 unit (now (input .entry)) (length (now (output .entry)))) × (now (output .exit) ≡ blockOutput 2 unit (now (input .entry)) (now (output .entry))) ⌝ }
+{
+    let verdict = check_block(unit, input.len(), output.len());
+    if refusals::accepted(verdict) {
+        let volume = unit.volume;
+        let bands = unit.bands;
+        let channels = unit.channels;
+        let after = run(volume, bands, channels, input, output);
+        return Played {
+            verdict,
+            unit: after,
+        };
+    }
+    Played { verdict, unit }
+}
