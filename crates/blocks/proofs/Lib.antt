@@ -1,5 +1,7 @@
 -- The laws of blocks.
 --     Bytes    samples and their bytes
 --     Block    what is played, frame by frame
+--     Append   a block of a ++ b is the block of a and then the block of b
 pub mod Bytes
 pub mod Block
+pub mod Append

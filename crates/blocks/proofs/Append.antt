@@ -1,0 +1,193 @@
+-- A block of a ++ b is the block of a and then the block of b; and a fit unit stays fit.
+use mathlib.Core.Path.{_≡_, refl, sym, ap, ap₂, _∙_}
+use mathlib.Core.Bool.{Bool, true, false, cond}
+use mathlib.Core.List.{List, [], _∷_, _++_, append-assoc, append-nil}
+use Prim.Native.Nat.{ℕ, zero, suc, _+_, _*_, _/_, _%_, _≤_, _<_}
+use native.Mathlib.Nat.{div-add-mod', mod-lt}
+use native.Mathlib.Omega.{arith}
+use lib.Dec.{lit≤}
+use lib.IntN.{ℤ, pos, _*ℤ_}
+use lib.ListN.{length, getD, drop, length-append, List·getD-append}
+use lib.Seq.{getD-append-add, drop-append-add, drop-length}
+use borrow.Author.Tests.{eq-eqb, le-leb}
+use Rattle.refusals.specs.Numbers.{isAccepted}
+use Rattle.unit.specs.declared.Unit.{Unit}
+use Rattle.unit.specs.Frame.{unitFrame, heard}
+use Rattle.unit.specs.Fit.{Fit, unitFits}
+use Rattle.unit.proofs.Fitness.{test-of-fit}
+use Rattle.blocks.specs.Bytes.{sampleAt, wordAt, wordsAt, frameSize, bytesOf}
+use Rattle.blocks.specs.Block.{blockVerdict, played, sound, frameCount, blockPlayed, blockOutput}
+use Rattle.blocks.proofs.Block.{Accepts, block-accepted, played-fit, four-a-frame}
+
+-- ---- the input words of a ++ b
+
+module _ (a b : List ℕ) where
+  sample-front : (at : ℕ) → at + 1 < length a → sampleAt (a ++ b) at ≡ sampleAt a at
+  unfolding sampleAt
+  sample-front at h = rw (List·getD-append a b 0 at (omega arith), List·getD-append a b 0 (at + 1) h)
+
+  words-front : (channels at : ℕ) → at + frameSize channels ≤ length a → wordsAt channels (a ++ b) at ≡ wordsAt channels a at
+  words-front zero at h = refl
+  words-front (suc channels) at h =
+      ap₂ _∷_ (ap (λ (s : ℤ). pos 256 *ℤ s) (sample-front at (omega arith))) (words-front channels (at + 2) (omega arith))
+
+  sample-behind : (at : ℕ) → sampleAt (a ++ b) (length a + at) ≡ sampleAt b at
+  unfolding sampleAt
+  sample-behind at = rw (getD-append-add a b at 0, next) (rw (getD-append-add a b (at + 1) 0))
+    where
+      next : length a + at + 1 ≡ length a + (at + 1)
+      next = omega arith
+
+  words-behind : (channels at : ℕ) → wordsAt channels (a ++ b) (length a + at) ≡ wordsAt channels b at
+  words-behind zero at = refl
+  words-behind (suc channels) at =
+      ap₂ _∷_ (ap (λ (s : ℤ). pos 256 *ℤ s) (sample-behind at))
+      (ap (wordsAt channels (a ++ b)) next ∙ words-behind channels (at + 2))
+    where
+      next : length a + at + 2 ≡ length a + (at + 2)
+      next = omega arith
+
+-- ---- a has m frames
+
+module _ (channels : ℕ) (u : Unit) (a b : List ℕ) where
+  -- as long as a lasts, b makes no difference
+  played-front : (n : ℕ) → frameSize channels * n ≤ length a → played channels u (a ++ b) n ≡ played channels u a n
+  unfolding played
+  played-front zero h = refl
+  played-front (suc n) h =
+      ap₂ unitFrame (words-front a b channels (frameSize channels * n) (omega arith)) (played-front n (omega arith))
+
+  sound-front : (n : ℕ) → frameSize channels * n ≤ length a → sound channels u (a ++ b) n ≡ sound channels u a n
+  unfolding sound
+  sound-front zero h = refl
+  sound-front (suc n) h =
+      ap₂ _++_ (sound-front n (omega arith)) (ap (λ (v : Unit). bytesOf (heard v)) (played-front (suc n) h))
+
+  module _ (m : ℕ) (h : length a ≡ frameSize channels * m) where
+    -- the unit after a
+    abbrev between : Unit
+    between = played channels u a m
+
+    pub played-append : (n : ℕ) → played channels u (a ++ b) (n + m) ≡ played channels between b n
+    unfolding played
+    played-append zero = ap (played channels u (a ++ b)) zero-and ∙ played-front m (omega (arith, h))
+      where
+        zero-and : 0 + m ≡ m
+        zero-and = omega arith
+    played-append (suc n) =
+        ap (played channels u (a ++ b)) one-more
+        ∙ ap₂ unitFrame (ap (wordsAt channels (a ++ b)) place ∙ words-behind a b channels (frameSize channels * n)) (played-append n)
+      where
+        one-more : suc n + m ≡ suc (n + m)
+        one-more = omega arith
+
+        place : frameSize channels * (n + m) ≡ length a + frameSize channels * n
+        place = omega (arith, h)
+
+    pub sound-append : (n : ℕ) → sound channels u (a ++ b) (n + m) ≡ sound channels u a m ++ sound channels between b n
+    unfolding sound
+    sound-append zero = ap (sound channels u (a ++ b)) zero-and ∙ sound-front m (omega (arith, h)) ∙ sym (append-nil (sound channels u a m))
+      where
+        zero-and : 0 + m ≡ m
+        zero-and = omega arith
+    sound-append (suc n) =
+        ap (sound channels u (a ++ b)) one-more
+        ∙ ap₂ _++_ (sound-append n) (ap (λ (v : Unit). bytesOf (heard v)) (ap (played channels u (a ++ b)) (sym one-more) ∙ played-append (suc n)))
+        ∙ append-assoc (sound channels u a m) (sound channels between b n) (bytesOf (heard (played channels between b (suc n))))
+      where
+        one-more : suc n + m ≡ suc (n + m)
+        one-more = omega arith
+
+-- ---- the blocks themselves, of two channels
+
+accepts-block : (channels : ℕ) (u : Unit) (given room : ℕ) → Accepts channels u given room → isAccepted (blockVerdict channels u given room) ≡ true
+unfolding blockVerdict
+accepts-block channels u given room c =
+    simp (test-of-fit u (c .fit), eq-eqb (given % frameSize channels) 0 (c .frames), le-leb given room (c .enough))
+
+-- an accepted block's unit and output
+module _ (u : Unit) (input : List ℕ) where
+  pub accepted-unit : (room : ℕ) → Accepts 2 u (length input) room → blockPlayed 2 u input room .unit ≡ played 2 u input (frameCount 2 u input)
+  unfolding blockPlayed
+  accepted-unit room c = ap (λ (t : Bool). cond t (played 2 u input (frameCount 2 u input)) u) (accepts-block 2 u (length input) room c)
+
+  pub accepted-output : (room : List ℕ) → Accepts 2 u (length input) (length room) → blockOutput 2 u input room ≡ sound 2 u input (frameCount 2 u input) ++ drop (length input) room
+  unfolding blockOutput
+  accepted-output room c =
+      ap (λ (t : Bool). cond t (sound 2 u input (frameCount 2 u input) ++ drop (length input) room) room) (accepts-block 2 u (length input) (length room) c)
+
+  -- a fit unit stays fit
+  pub block-fit : (room : ℕ) → Fit u → Fit (blockPlayed 2 u input room .unit)
+  unfolding blockPlayed
+  block-fit room f = go (isAccepted (blockVerdict 2 u (length input) room))
+    where
+      go : (t : Bool) → Fit (cond t (played 2 u input (frameCount 2 u input)) u)
+      go true = played-fit 2 u input (frameCount 2 u input) f
+      go false = f
+
+-- the room for a, as long as a, and the room for b, at least as long as b
+module _ (u : Unit) (a b p q : List ℕ) (fit : Fit u) (fa : length a % 4 ≡ 0) (fb : length b % 4 ≡ 0) (ha : length p ≡ length a) (hb : length b ≤ length q) where
+  -- the unit after the block of a
+  abbrev half : Unit
+  half = blockPlayed 2 u a (length p) .unit
+
+  first : Accepts 2 u (length a) (length p)
+  first = record { fit = fit; frames = fa; enough = omega (arith, ha) }
+
+  half-is : half ≡ played 2 u a (length a / 4)
+  half-is = accepted-unit u a (length p) first
+
+  second : Accepts 2 half (length b) (length q)
+  second = record { fit = block-fit u a (length p) fit; frames = fb; enough = hb }
+
+  both : Accepts 2 u (length (a ++ b)) (length (p ++ q))
+  both =
+      record {
+        fit = fit;
+        frames =
+            omega (
+              arith,
+              length-append a b,
+              div-add-mod' (length (a ++ b)) 4,
+              mod-lt (length (a ++ b)) {m = 4} (lit≤ tt),
+              four-a-frame (length a) fa,
+              four-a-frame (length b) fb,
+            );
+        enough = omega (arith, length-append a b, length-append p q, ha, hb);
+      }
+
+  count : length (a ++ b) / 4 ≡ length b / 4 + length a / 4
+  count = omega (arith, length-append a b, four-a-frame (length a) fa, four-a-frame (length b) fb, four-a-frame (length (a ++ b)) (both .frames))
+
+  whole : length a ≡ frameSize 2 * (length a / 4)
+  whole = sym (four-a-frame (length a) fa)
+
+  pub block-append-unit : blockPlayed 2 u (a ++ b) (length (p ++ q)) .unit ≡ blockPlayed 2 half b (length q) .unit
+  block-append-unit =
+      accepted-unit u (a ++ b) (length (p ++ q)) both
+      ∙ ap (played 2 u (a ++ b)) count
+      ∙ played-append 2 u a b (length a / 4) whole (length b / 4)
+      ∙ ap (λ (v : Unit). played 2 v b (length b / 4)) (sym half-is)
+      ∙ sym (accepted-unit half b (length q) second)
+
+  pub block-append-output : blockOutput 2 u (a ++ b) (p ++ q) ≡ blockOutput 2 u a p ++ blockOutput 2 half b q
+  block-append-output =
+      accepted-output u (a ++ b) (p ++ q) both
+      ∙ ap₂ _++_ sounds behind
+      ∙ append-assoc (sound 2 u a (length a / 4)) (sound 2 half b (length b / 4)) (drop (length b) q)
+      ∙ ap₂ _++_ (sym left) (sym (accepted-output half b q second))
+    where
+      sounds : sound 2 u (a ++ b) (length (a ++ b) / 4) ≡ sound 2 u a (length a / 4) ++ sound 2 half b (length b / 4)
+      sounds =
+          ap (sound 2 u (a ++ b)) count
+          ∙ sound-append 2 u a b (length a / 4) whole (length b / 4)
+          ∙ ap (λ (v : Unit). sound 2 u a (length a / 4) ++ sound 2 v b (length b / 4)) (sym half-is)
+
+      behind : drop (length (a ++ b)) (p ++ q) ≡ drop (length b) q
+      behind = ap (λ (n : ℕ). drop n (p ++ q)) (length-append a b ∙ ap (λ (n : ℕ). n + length b) (sym ha)) ∙ drop-append-add p q (length b)
+
+      left : blockOutput 2 u a p ≡ sound 2 u a (length a / 4)
+      left =
+          accepted-output u a p first
+          ∙ ap (λ (l : List ℕ). sound 2 u a (length a / 4) ++ l) (ap (λ (n : ℕ). drop n p) (sym ha) ∙ drop-length p)
+          ∙ append-nil (sound 2 u a (length a / 4))
