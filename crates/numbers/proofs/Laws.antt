@@ -1,0 +1,1 @@
+-- The laws of the unit's flat numbers.
