@@ -1,8 +1,17 @@
+-- `numbers::put_band` meets its contract: three stores, one behind the other.
+use native.Mathlib.Omega.{arith}
+use denote.Ref.{now}
+use mir.Syntax.{w32}
+use Rattle.integers.proofs.Machine.{reads-back}
+use Rattle.numbers.proofs.Put.{put-three}
 use borrow.Author.Needs.{needs}
 use Rattle.numbers.proofs.put_band.Statement.{statement}
 use Rattle.numbers.proofs.put_band.Tie as tie
 use Rattle.numbers.proofs.put_band.Reads as reads
 use Rattle.numbers.proofs.put_band.Lts as lts
+
+abbrev start : lts.After-struct-told3 reads.Pre reads.Post → lts.Start reads.Pre reads.Post
+start c = c .before .before .before
 
 -- src/lib.rt:185:5
 mul-alpha : tie.Need-mul-alpha
@@ -38,7 +47,11 @@ element-set-from-gamma c = search needs
 
 -- src/lib.rt:178:1
 returns : tie.Need-returns
-returns c = ?
+returns c =
+    put-three (now (start c .args .out)) (start c .args .at) (start c .pre .0) (start c .pre .1)
+    (reads-back w32 (start c .args .band .alpha) (omega arith))
+    (reads-back w32 (start c .args .band .beta) (omega arith))
+    (reads-back w32 (start c .args .band .gamma) (omega arith))
 
 pub put-band-spec : {M : Type 1} → statement M
 put-band-spec =
