@@ -77,6 +77,13 @@ pub joined-snoc : {A : Type 0} (f : A → List ℤ) (l : List A) (a : A) → joi
 joined-snoc f [] a = append-nil (f a)
 joined-snoc f (b ∷ l) a = ap (λ (x : List ℤ). f b ++ x) (joined-snoc f l a) ∙ sym (append-assoc (f b) (joined f l) (f a))
 
+-- of two entries
+pub joined-two : {A : Type 0} (f : A → List ℤ) (l : List A) (d : A) → length l ≡ 2 → joined f l ≡ f (getD l 0 d) ++ f (getD l 1 d)
+joined-two f [] d e = absurd (omega arith)
+joined-two f (a ∷ []) d e = absurd (omega arith)
+joined-two f (a ∷ b ∷ []) d e = ap (λ (x : List ℤ). f a ++ x) (append-nil (f b))
+joined-two f (a ∷ b ∷ c ∷ l) d e = absurd (omega arith)
+
 module _ {A : Type 0} (f : A → List ℤ) (entries : List A) (d : A) where
   joined-next : (b : ℕ) → b < length entries → joined f (take (b + 1) entries) ≡ joined f (take b entries) ++ f (getD entries b d)
   joined-next b h = rw (add-one, take-suc entries b d) (joined-snoc f (take b entries) (getD entries b d))

@@ -140,13 +140,11 @@ pub fn numbers_of(unit: Unit) -> [i32; 118]
 {
     let volume = unit.volume;
     let bands = unit.bands;
-    let left = unit.channels[0];
-    let right = unit.channels[1];
+    let channels = unit.channels;
     let mut out = [0i32; 118];
     put_volume(&mut out, volume);
     put_bands(&mut out, bands);
-    put_channel(&mut out, LEFT, left);
-    put_channel(&mut out, RIGHT, right);
+    put_channels(&mut out, channels);
     out
 }
 
@@ -185,6 +183,17 @@ fn put_band(out: &mut [i32; 118], at: usize, band: Band)
     out[at] = alpha;
     out[at + 1] = beta;
     out[at + 2] = gamma;
+}
+
+// Stores both channels.
+fn put_channels(out: &mut [i32; 118], channels: [Channel; 2])
+    requires { ⌜ (length (now out) ≡ unitSize) × Each ChannelFit channels ⌝ }
+    ensures { λ r. ⌜ Put (now (out .entry)) leftPlace (joined channelNumbers channels) unitSize (now (out .exit)) ⌝ }
+{
+    let left = channels[0];
+    let right = channels[1];
+    put_channel(out, LEFT, left);
+    put_channel(out, RIGHT, right);
 }
 
 // Stores a channel from place start on.

@@ -75,7 +75,6 @@ returns c =
     at : ℕ
     at = 3 * b + 2
 
-
 pub band-at-spec : {M : Type 1} → statement M
 band-at-spec =
     tie.close

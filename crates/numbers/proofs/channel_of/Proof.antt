@@ -57,7 +57,6 @@ returns c =
     start : ℕ
     start = c .before .before .before .before .args .start
 
-
 pub channel-of-spec : {M : Type 1} → statement M
 channel-of-spec =
     tie.close

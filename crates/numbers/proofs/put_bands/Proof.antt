@@ -62,7 +62,7 @@ loop-again : tie.Need-loop-again Inv-loop μ-loop
 loop-again c = (
   search needs,
   put-entry bandNumbers (c .before .before .before .before .before .args .t2) zeroBand (c .before .before .before .before .loop .b) (omega arith) (c .before .before .before .before .loop .inv .1) (c .put-band .ensures)
-  (3 * (c .before .before .before .before .loop .b + 1) + 2) (omega arith),
+      (3 * (c .before .before .before .before .loop .b + 1) + 2) (omega arith),
 )
 
 -- src/lib.rt:165:1

@@ -128,7 +128,6 @@ returns c =
     all : s .args .start + 3 + 40 ≡ s .args .start + 43
     all = omega arith
 
-
 pub put-channel-spec : {M : Type 1} → statement M
 put-channel-spec =
     tie.close

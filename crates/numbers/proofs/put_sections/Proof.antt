@@ -66,7 +66,7 @@ loop-again : tie.Need-loop-again Inv-loop μ-loop
 loop-again c = (
   search needs,
   put-entry sectionNumbers (c .before .before .before .before .before .args .t3) clearedSection (c .before .before .before .before .loop .b) (omega arith) (c .before .before .before .before .loop .inv .1) (c .put-section .ensures)
-  (c .before .before .before .before .before .args .start + 4 * (c .before .before .before .before .loop .b + 1)) (omega arith),
+      (c .before .before .before .before .before .args .start + 4 * (c .before .before .before .before .loop .b + 1)) (omega arith),
 )
 
 -- src/lib.rt:206:1

@@ -82,7 +82,6 @@ returns c =
     at : ℕ
     at = start + 4 * b + 3
 
-
 pub section-at-spec : {M : Type 1} → statement M
 section-at-spec =
     tie.close

@@ -48,7 +48,6 @@ returns c =
       channels = c .before .channel-of .ensures i ∷ c .channel-of2 .ensures i ∷ [];
     }
 
-
 pub unit-of-spec : {M : Type 1} → statement M
 unit-of-spec =
     tie.close
