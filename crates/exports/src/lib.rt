@@ -5,9 +5,15 @@ ghost use Rattle.rounding.specs.Rounding.{nearest, limit};
 ghost use Rattle.refusals.specs.Numbers.{numberOf};
 ghost use Rattle.bands.specs.Bands.{bandVerdict, bandOf};
 ghost use Rattle.bands.specs.House.{houseSet};
+ghost use Rattle.levels.specs.Levels.{ramp};
+ghost use Rattle.section.specs.Equation.{flag};
 ghost use Rattle.section.specs.Step.{stepped};
+ghost use Rattle.unit.specs.Fit.{unitFits};
+ghost use Rattle.loading.specs.Loading.{loaded};
+ghost use Rattle.numbers.specs.Layout.{unitOf, numbersOf as unitNumbers};
 ghost use Rattle.exports.specs.Layout.{sectionOf, numbersOf, packed};
 use bands::Band;
+use levels::Level;
 use section::Section;
 use section::Stepped;
 
@@ -78,6 +84,40 @@ pub extern "C" fn fonddrys_section_step(numbers: &mut [i32; 7], x: i32) -> i64
         after.y2,
     ];
     pack(answer)
+}
+
+// The present number of a level, moved towards its target by slope, or by the whole distance where that is less.
+#[no_mangle]
+pub extern "C" fn fonddrys_level_moved(present: i32, target: i32, slope: u32) -> i32
+    ensures { λ r. ⌜ r ≡ ramp slope present target ⌝ }
+{
+    let level = Level {
+        present: present as i64,
+        target: target as i64,
+    };
+    let after = level.moved(slope);
+    after.present as i32
+}
+
+// 1 where the unit of the 118 lent numbers, in the order of the strip sheet, is fit, else 0.
+#[no_mangle]
+pub extern "C" fn fonddrys_unit_fit(numbers: &[i32; 118]) -> u32
+    ensures { λ r. ⌜ r ≡ flag (unitFits (unitOf (now (numbers .entry)))) ⌝ }
+{
+    let unit = numbers::unit_of(numbers);
+    fitness::is_fit(unit) as u32
+}
+
+// Loads a band set: the lent numbers are then those of the loaded unit. 0 for an accepted set, else the number of its refusal.
+#[no_mangle]
+pub extern "C" fn fonddrys_load(numbers: &mut [i32; 118], set: &[i32]) -> u32
+    ensures { λ r. ⌜ (r ≡ numberOf (loaded (now (set .entry)) .verdict)) × (now (numbers .exit) ≡ unitNumbers (loaded (now (set .entry)) .unit)) ⌝ }
+{
+    let answer = loading::load(set);
+    let verdict = answer.verdict;
+    let unit = answer.unit;
+    *numbers = numbers::numbers_of(unit);
+    refusals::number(verdict)
 }
 
 // An answer in one number.

@@ -1,0 +1,3 @@
+-- The laws of the unit's flat numbers.
+pub mod Put
+pub mod Laws

@@ -1,0 +1,101 @@
+-- Reading behind a start, and storing from the front: one number, some numbers, and one store after another.
+use mathlib.Core.Path.{_≡_, refl, sym, ap, _∙_, subst}
+use mathlib.Core.List.{List, [], _∷_, _++_, append-assoc, append-nil}
+use Prim.Native.Nat.{ℕ, zero, suc, _+_, _≤_, _<_}
+use native.Mathlib.Numerals.{add-one}
+use native.Mathlib.Omega.{arith}
+use lib.IntN.{ℤ, pos, natAbs}
+use lib.ListN.{length, getD, take, drop, set, length-set}
+use lib.Seq.{take-suc-set, take-all, take-suc, getD-drop}
+use mir.Syntax.{w32, w64}
+use mir.Val.{SFits, toZ, ofZ}
+use Rattle.integers.proofs.Machine.{num, below-fits, unary-need, unary-reads}
+use Rattle.bands.specs.Words.{wordSize}
+use Rattle.unit.specs.Lists.{Each}
+use Rattle.numbers.specs.Layout.{unitSize, joined, Put}
+
+-- the number behind a start
+pub behind : (l : List ℤ) (start i j : ℕ) → j ≡ start + i → getD l j (pos 0) ≡ getD (drop start l) i (pos 0)
+behind l start i j e = ap (λ (n : ℕ). getD l n (pos 0)) e ∙ sym (getD-drop start l i (pos 0))
+
+-- what holds of every entry holds of entry k
+pub each-getD : {A : Type 0} (P : A → Type 0) (l : List A) (d : A) → Each P l → (k : ℕ) → k < length l → P (getD l k d)
+each-getD P [] d h k e = absurd (omega arith)
+each-getD P (a ∷ l) d h zero e = h .0
+each-getD P (a ∷ l) d h (suc k) e = each-getD P l d (h .1) k (omega arith)
+
+-- ---- a number of the size of a word loses nothing in 32 bits
+
+module _ (z : ℤ) (size : natAbs z ≤ wordSize) where
+  pub narrow-need : SFits w32 (toZ w64 (ofZ w64 z))
+  narrow-need = unary-need (λ (x : ℤ). x) (num z (below-fits size tt)) (below-fits size tt)
+
+  pub narrow-reads : toZ w32 (ofZ w32 (toZ w64 (ofZ w64 z))) ≡ z
+  narrow-reads = unary-reads (λ (x : ℤ). x) (num z (below-fits size tt)) (below-fits size tt)
+
+-- ---- stores
+
+-- nothing stored
+pub put-none : (l : List ℤ) (i : ℕ) → length l ≡ unitSize → Put l i [] i l
+put-none l i h = record { size = h; front = sym (append-nil (take i l)) }
+
+-- all stored
+pub put-all : {l m new : List ℤ} → Put l 0 new unitSize m → m ≡ new
+put-all {l} {m} {new} p = sym (take-all unitSize m (omega (arith, p .size))) ∙ p .front
+
+-- one store after another
+pub put-then : {l m n : List ℤ} {i j k : ℕ} {new more : List ℤ} → Put l i new j m → Put m j more k n → Put l i (new ++ more) k n
+put-then {l} {m} {n} {i} {j} {k} {new} {more} p q =
+    record { size = q .size; front = q .front ∙ ap (λ (x : List ℤ). x ++ more) (p .front) ∙ append-assoc (take i l) new more }
+
+-- one number, as it is read from its bits
+pub put-one : {v w : ℤ} (l : List ℤ) (i : ℕ) → length l ≡ unitSize → i < unitSize → w ≡ v → Put l i (v ∷ []) (i + 1) (set l i w)
+put-one {v} {w} l i h k e =
+    record {
+      size = length-set l i w ∙ h;
+      front = rw add-one (take-suc-set l i w (omega arith) ∙ ap (λ (z : ℤ). take i l ++ (z ∷ [])) e);
+    }
+
+-- one number more
+pub put-next : {l m : List ℤ} {i j : ℕ} {new : List ℤ} {v w : ℤ} → Put l i new j m → j < unitSize → (k : ℕ) → j + 1 ≡ k → w ≡ v → Put l i (new ++ (v ∷ [])) k (set m j w)
+put-next {l} {m} {i} {j} {new} {v} {w} p h k e r =
+    subst (λ (n : ℕ). Put l i (new ++ (v ∷ [])) n (set m j w)) e (put-then p (put-one m j (p .size) h r))
+
+module _ (l : List ℤ) (i : ℕ) (h : length l ≡ unitSize) where
+  pub put-two : {a b v w : ℤ} → i + 2 ≤ unitSize → v ≡ a → w ≡ b → Put l i (a ∷ b ∷ []) (i + 2) (set (set l i v) (i + 1) w)
+  put-two k p q = put-next (put-one l i h (omega arith) p) (omega arith) (i + 2) (omega arith) q
+
+  pub put-three : {a b c v w x : ℤ} → i + 3 ≤ unitSize → v ≡ a → w ≡ b → x ≡ c → Put l i (a ∷ b ∷ c ∷ []) (i + 3) (set (set (set l i v) (i + 1) w) (i + 2) x)
+  put-three k p q r = put-next (put-two (omega arith) p q) (omega arith) (i + 3) (omega arith) r
+
+  pub put-four : {a b c d v w x y : ℤ} → i + 4 ≤ unitSize → v ≡ a → w ≡ b → x ≡ c → y ≡ d → Put l i (a ∷ b ∷ c ∷ d ∷ []) (i + 4) (set (set (set (set l i v) (i + 1) w) (i + 2) x) (i + 3) y)
+  put-four k p q r s = put-next (put-three (omega arith) p q r) (omega arith) (i + 4) (omega arith) s
+
+-- ---- the numbers of entries, one entry after the other
+
+pub joined-snoc : {A : Type 0} (f : A → List ℤ) (l : List A) (a : A) → joined f (l ++ (a ∷ [])) ≡ joined f l ++ f a
+joined-snoc f [] a = append-nil (f a)
+joined-snoc f (b ∷ l) a = ap (λ (x : List ℤ). f b ++ x) (joined-snoc f l a) ∙ sym (append-assoc (f b) (joined f l) (f a))
+
+-- of two entries
+pub joined-two : {A : Type 0} (f : A → List ℤ) (l : List A) (d : A) → length l ≡ 2 → joined f l ≡ f (getD l 0 d) ++ f (getD l 1 d)
+joined-two f [] d e = absurd (omega arith)
+joined-two f (a ∷ []) d e = absurd (omega arith)
+joined-two f (a ∷ b ∷ []) d e = ap (λ (x : List ℤ). f a ++ x) (append-nil (f b))
+joined-two f (a ∷ b ∷ c ∷ l) d e = absurd (omega arith)
+
+module _ {A : Type 0} (f : A → List ℤ) (entries : List A) (d : A) where
+  joined-next : (b : ℕ) → b < length entries → joined f (take (b + 1) entries) ≡ joined f (take b entries) ++ f (getD entries b d)
+  joined-next b h = rw (add-one, take-suc entries b d) (joined-snoc f (take b entries) (getD entries b d))
+
+  -- one entry more
+  pub put-entry : {l m n : List ℤ} {i j k : ℕ} (b : ℕ) → b < length entries → Put l i (joined f (take b entries)) j m → Put m j (f (getD entries b d)) k n → (to : ℕ) → k ≡ to → Put l i (joined f (take (b + 1) entries)) to n
+  put-entry {l} {m} {n} {i} {j} {k} b h p q to e =
+      subst (λ (t : ℕ). Put l i (joined f (take (b + 1) entries)) t n) e
+      (subst (λ (x : List ℤ). Put l i x k n) (sym (joined-next b h)) (put-then p q))
+
+  -- every entry
+  pub put-entries : {l m : List ℤ} {i j : ℕ} (b : ℕ) → length entries ≤ b → Put l i (joined f (take b entries)) j m → (to : ℕ) → j ≡ to → Put l i (joined f entries) to m
+  put-entries {l} {m} {i} {j} b h p to e =
+      subst (λ (t : ℕ). Put l i (joined f entries) t m) e
+      (subst (λ (x : List A). Put l i (joined f x) j m) (take-all b entries h) p)

@@ -1,0 +1,35 @@
+-- `numbers::number_at` meets its contract: a number of 32 bits, widened.
+use native.Mathlib.Omega.{arith}
+use lib.IntN.{pos}
+use lib.ListN.{getD}
+use denote.Ref.{now}
+use mir.Syntax.{w32}
+use mir.Val.{SFits}
+use Rattle.integers.proofs.Machine.{widened, widen-need}
+use borrow.Author.Needs.{needs}
+use Rattle.numbers.proofs.number_at.Statement.{statement}
+use Rattle.numbers.proofs.number_at.Tie as tie
+use Rattle.numbers.proofs.number_at.Reads as reads
+use Rattle.numbers.proofs.number_at.Lts as lts
+
+fits : (c : lts.After-result reads.Pre reads.Post) → SFits w32 (getD (now (c .before .args .numbers)) (c .before .args .at) (pos 0))
+fits c = record { sfits = omega arith }
+
+-- src/lib.rt:132:5
+mul-result : tie.Need-mul-result
+mul-result c = search needs
+
+-- src/lib.rt:132:5
+element-copy-out-result : tie.Need-element-copy-out-result
+element-copy-out-result c = search needs
+
+-- src/lib.rt:132:5
+cast-result : tie.Need-cast-result
+cast-result c = widen-need tt (getD (now (c .before .args .numbers)) (c .before .args .at) (pos 0)) (fits c)
+
+-- src/lib.rt:128:1
+returns : tie.Need-returns
+returns c = widened tt (getD (now (c .before .args .numbers)) (c .before .args .at) (pos 0)) (fits c) .reads
+
+pub number-at-spec : {M : Type 1} → statement M
+number-at-spec = tie.close (tie.spec mul-result element-copy-out-result cast-result returns)

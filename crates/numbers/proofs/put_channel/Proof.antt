@@ -1,0 +1,148 @@
+-- `numbers::put_channel` meets its contract: three stores, and then the sections.
+use mathlib.Core.Path.{_≡_, subst}
+use mathlib.Core.Bool.{true}
+use mathlib.Core.List.{List, [], _∷_}
+use Prim.Native.Nat.{ℕ, _+_, _≤_}
+use native.Mathlib.Omega.{arith}
+use lib.IntN.{ℤ, pos, natAbs}
+use lib.ListN.{set}
+use denote.Ref.{now}
+use mir.Syntax.{w32, w64}
+use mir.Val.{toZ, ofZ}
+use Rattle.integers.proofs.Parts.{linear}
+use Rattle.integers.proofs.Abs.{abs-le}
+use Rattle.rounding.proofs.Limit.{within-bounds}
+use Rattle.bands.specs.Words.{wordSize}
+use Rattle.unit.specs.Fit.{isFlag}
+use Rattle.unit.proofs.Ranges.{input-size}
+use Rattle.numbers.specs.Layout.{channelNumbers, Put}
+use Rattle.numbers.proofs.Put.{narrow-need, narrow-reads, put-three, put-then}
+use borrow.Author.Needs.{needs}
+use Rattle.numbers.proofs.put_channel.Statement.{statement}
+use Rattle.numbers.proofs.put_channel.Tie as tie
+use Rattle.numbers.proofs.put_channel.Reads as reads
+use Rattle.numbers.proofs.put_channel.Lts as lts
+use Rattle.numbers.proofs.put_sections.Reads as put-sections-reads
+
+-- ---- the channel's own numbers are no larger than a word
+
+flag-size : (v : ℤ) → isFlag v ≡ true → natAbs v ≤ wordSize
+unfolding isFlag
+flag-size v e =
+    abs-le v wordSize (omega (linear, within-bounds (pos 0) (pos 1) v e .0)) (omega (linear, within-bounds (pos 0) (pos 1) v e .1))
+
+module _ (s : lts.Start (put-sections-reads.Asked, put-sections-reads.Learnt) reads.Pre reads.Post) where
+  x1-size : natAbs (s .args .channel .x1) ≤ wordSize
+  x1-size = input-size (s .args .channel .x1) (s .pre .2 .x1)
+
+  x2-size : natAbs (s .args .channel .x2) ≤ wordSize
+  x2-size = input-size (s .args .channel .x2) (s .pre .2 .x2)
+
+  the-flag-size : natAbs (s .args .channel .flag) ≤ wordSize
+  the-flag-size = flag-size (s .args .channel .flag) (s .pre .2 .flag)
+
+-- ---- and stored ahead of the sections
+
+module _ (c : lts.After-sections (put-sections-reads.Asked, put-sections-reads.Learnt) reads.Pre reads.Post) where
+  abbrev start : lts.Start (put-sections-reads.Asked, put-sections-reads.Learnt) reads.Pre reads.Post
+  start = c .before .before .before .before .before .before .before
+
+  abbrev stored : List ℤ
+  stored =
+      set
+      (set
+      (set (now (start .args .out)) (start .args .start) (toZ w32 (ofZ w32 (toZ w64 (ofZ w64 (start .args .channel .x1))))))
+      (start .args .start + 1) (toZ w32 (ofZ w32 (toZ w64 (ofZ w64 (start .args .channel .x2))))))
+      (start .args .start + 2) (toZ w32 (ofZ w32 (toZ w64 (ofZ w64 (start .args .channel .flag)))))
+
+  ahead : Put (now (start .args .out)) (start .args .start) (start .args .channel .x1 ∷ start .args .channel .x2 ∷ start .args .channel .flag ∷ []) (start .args .start + 3) stored
+  ahead =
+      put-three (now (start .args .out)) (start .args .start) (start .pre .0) (omega (arith, start .pre .1))
+      (narrow-reads (start .args .channel .x1) (x1-size start))
+      (narrow-reads (start .args .channel .x2) (x2-size start))
+      (narrow-reads (start .args .channel .flag) (the-flag-size start))
+
+-- ---- the needs
+
+-- src/lib.rt:195:14
+cast-x1 : tie.Need-cast-x1
+cast-x1 c = narrow-need (c .before .before .args .channel .x1) (x1-size (c .before .before))
+
+-- src/lib.rt:196:14
+cast-x2 : tie.Need-cast-x2
+cast-x2 c = narrow-need (c .before .before .before .before .args .channel .x2) (x2-size (c .before .before .before .before))
+
+-- src/lib.rt:197:16
+cast-flag : tie.Need-cast-flag
+cast-flag c = narrow-need (c .before .before .before .before .before .before .args .channel .flag) (the-flag-size (c .before .before .before .before .before .before))
+
+-- src/lib.rt:199:5
+mul-x1 : tie.Need-mul-x1
+mul-x1 c = search needs
+
+-- src/lib.rt:199:5
+element-set-from-x1 : tie.Need-element-set-from-x1
+element-set-from-x1 c = search needs
+
+-- src/lib.rt:200:9
+add-x2 : tie.Need-add-x2
+add-x2 c = search needs
+
+-- src/lib.rt:200:5
+mul-x2 : tie.Need-mul-x2
+mul-x2 c = search needs
+
+-- src/lib.rt:200:5
+element-set-from-x2 : tie.Need-element-set-from-x2
+element-set-from-x2 c = search needs
+
+-- src/lib.rt:201:9
+add-flag : tie.Need-add-flag
+add-flag c = search needs
+
+-- src/lib.rt:201:5
+mul-flag : tie.Need-mul-flag
+mul-flag c = search needs
+
+-- src/lib.rt:201:5
+element-set-from-flag : tie.Need-element-set-from-flag
+element-set-from-flag c = search needs
+
+-- src/lib.rt:202:23
+add-put-sections : tie.Need-add-put-sections
+add-put-sections c = search needs
+
+-- src/lib.rt:202:5
+put-sections-requires : tie.Need-put-sections-requires
+put-sections-requires c κs = (ahead (c .before) .size, omega (arith, start (c .before) .pre .1), start (c .before) .pre .2 .sections)
+
+-- src/lib.rt:191:1
+returns : tie.Need-returns
+returns c =
+    subst (λ (n : ℕ). Put (now (s .args .out)) (s .args .start) (channelNumbers (s .args .channel)) n (c .put-sections .last .0)) all
+    (put-then (ahead (c .before .before)) (c .put-sections .ensures))
+  where
+    s : lts.Start (put-sections-reads.Asked, put-sections-reads.Learnt) reads.Pre reads.Post
+    s = start (c .before .before)
+
+    all : s .args .start + 3 + 40 ≡ s .args .start + 43
+    all = omega arith
+
+pub put-channel-spec : {M : Type 1} → statement M
+put-channel-spec =
+    tie.close
+    (tie.spec
+    cast-x1
+    cast-x2
+    cast-flag
+    mul-x1
+    element-set-from-x1
+    add-x2
+    mul-x2
+    element-set-from-x2
+    add-flag
+    mul-flag
+    element-set-from-flag
+    add-put-sections
+    put-sections-requires
+    returns)

@@ -1,0 +1,62 @@
+-- `numbers::put_channels` meets its contract: the right channel is stored behind the left.
+use mathlib.Core.Path.{sym, subst}
+use mathlib.Core.List.{List, []}
+use native.Mathlib.Omega.{arith}
+use lib.Dec.{lit≤}
+use lib.IntN.{ℤ, pos}
+use denote.Ref.{now}
+use Rattle.unit.specs.declared.Channel.{Channel}
+use Rattle.unit.specs.Fit.{ChannelFit}
+use Rattle.numbers.specs.Layout.{unitSize, leftPlace, channelNumbers, Put}
+use Rattle.numbers.proofs.Put.{put-then, each-getD, joined-two}
+use borrow.Author.Needs.{needs}
+use Rattle.numbers.proofs.put_channels.Statement.{statement}
+use Rattle.numbers.proofs.put_channels.Tie as tie
+use Rattle.numbers.proofs.put_channels.Reads as reads
+use Rattle.numbers.proofs.put_channels.Lts as lts
+use Rattle.numbers.proofs.put_channel.Reads as put-channel-reads
+
+-- what stands for a channel past the end
+abbrev zeroChannel : Channel
+zeroChannel = record { x1 = pos 0; x2 = pos 0; flag = pos 0; sections = [] }
+
+-- src/lib.rt:193:16
+array-copy-out-left : tie.Need-array-copy-out-left
+array-copy-out-left c = search needs
+
+-- src/lib.rt:194:17
+array-copy-out-right : tie.Need-array-copy-out-right
+array-copy-out-right c = search needs
+
+-- src/lib.rt:195:5
+put-channel-requires : tie.Need-put-channel-requires
+put-channel-requires c κs = (
+  c .before .before .before .pre .0,
+  lit≤ tt,
+  each-getD ChannelFit (c .before .before .before .args .t2) zeroChannel (c .before .before .before .pre .1) 0 (omega arith),
+)
+
+-- src/lib.rt:196:5
+put-channel-requires-2 : tie.Need-put-channel-requires-2
+put-channel-requires-2 c κs = (
+  c .before .put-channel .ensures .size,
+  lit≤ tt,
+  each-getD ChannelFit (c .before .before .before .before .before .args .t2) zeroChannel (c .before .before .before .before .before .pre .1) 1 (omega arith),
+)
+
+-- src/lib.rt:189:1
+returns : tie.Need-returns
+returns c =
+    subst (λ (l : List ℤ). Put (now (c .before .before .before .before .before .before .args .out)) leftPlace l unitSize (c .put-channel2 .last .0))
+    (sym (joined-two channelNumbers (c .before .before .before .before .before .before .args .t2) zeroChannel (omega arith)))
+    (put-then (c .before .before .put-channel .ensures) (c .put-channel2 .ensures))
+
+pub put-channels-spec : {M : Type 1} → statement M
+put-channels-spec =
+    tie.close
+    (tie.spec
+    array-copy-out-left
+    array-copy-out-right
+    put-channel-requires
+    put-channel-requires-2
+    returns)

@@ -1,0 +1,55 @@
+-- `numbers::put_volume` meets its contract: two stores, one behind the other.
+use Prim.Native.Nat.{_≤_}
+use lib.Dec.{lit≤}
+use lib.IntN.{natAbs}
+use denote.Ref.{now}
+use Rattle.bands.specs.Words.{wordSize}
+use Rattle.unit.proofs.Ranges.{volume-size}
+use Rattle.numbers.proofs.Put.{narrow-need, narrow-reads, put-two}
+use borrow.Author.Needs.{needs}
+use Rattle.numbers.proofs.put_volume.Statement.{statement}
+use Rattle.numbers.proofs.put_volume.Tie as tie
+use Rattle.numbers.proofs.put_volume.Reads as reads
+use Rattle.numbers.proofs.put_volume.Lts as lts
+
+-- ---- the volume's numbers are no larger than a word
+
+module _ (s : lts.Start reads.Pre reads.Post) where
+  present-size : natAbs (s .args .volume .present) ≤ wordSize
+  present-size = volume-size (s .args .volume .present) (s .pre .1 .present)
+
+  target-size : natAbs (s .args .volume .target) ≤ wordSize
+  target-size = volume-size (s .args .volume .target) (s .pre .1 .target)
+
+abbrev start : lts.After-struct-told2 reads.Pre reads.Post → lts.Start reads.Pre reads.Post
+start c = c .before .before .before .before
+
+-- ---- the needs
+
+-- src/lib.rt:158:19
+cast-present : tie.Need-cast-present
+cast-present c = narrow-need (c .before .before .args .volume .present) (present-size (c .before .before))
+
+-- src/lib.rt:159:18
+cast-target : tie.Need-cast-target
+cast-target c = narrow-need (start c .args .volume .target) (target-size (start c))
+
+-- src/lib.rt:160:5
+element-set-from-present : tie.Need-element-set-from-present
+element-set-from-present c = search needs
+
+-- src/lib.rt:161:5
+element-set-from-target : tie.Need-element-set-from-target
+element-set-from-target c = search needs
+
+-- src/lib.rt:154:1
+returns : tie.Need-returns
+returns c =
+    put-two (now (start c .args .out)) 0 (start c .pre .0) (lit≤ tt)
+    (narrow-reads (start c .args .volume .present) (present-size (start c)))
+    (narrow-reads (start c .args .volume .target) (target-size (start c)))
+
+pub put-volume-spec : {M : Type 1} → statement M
+put-volume-spec =
+    tie.close
+    (tie.spec cast-present cast-target element-set-from-present element-set-from-target returns)

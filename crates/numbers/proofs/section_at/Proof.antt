@@ -1,0 +1,99 @@
+-- `numbers::section_at` meets its contract: the numbers are read behind the channel's start.
+use mathlib.Core.Path.{_∙_}
+use mathlib.Core.List.{List}
+use Prim.Native.Nat.{ℕ, _+_, _*_}
+use native.Mathlib.Omega.{arith}
+use lib.IntN.{ℤ}
+use denote.Ref.{now}
+use mir.Syntax.{w64}
+use mir.Facts.{toZ-ofZ}
+use Rattle.engine.specs.Numbers.{place}
+use Rattle.numbers.proofs.Put.{behind}
+use borrow.Author.Needs.{needs}
+use Rattle.numbers.proofs.section_at.Statement.{statement}
+use Rattle.numbers.proofs.section_at.Tie as tie
+use Rattle.numbers.proofs.section_at.Reads as reads
+use Rattle.numbers.proofs.section_at.Lts as lts
+use Rattle.numbers.proofs.number_at.Reads as number-at-reads
+
+-- src/lib.rt:118:22
+mul-at : tie.Need-mul-at
+mul-at c = search needs
+
+-- src/lib.rt:118:14
+add-at : tie.Need-add-at
+add-at c = search needs
+
+-- src/lib.rt:118:14
+add-at-2 : tie.Need-add-at-2
+add-at-2 c = search needs
+
+-- src/lib.rt:119:9
+number-at-requires : tie.Need-number-at-requires
+number-at-requires c κs = search needs
+
+-- src/lib.rt:120:33
+add-number-at : tie.Need-add-number-at
+add-number-at c = search needs
+
+-- src/lib.rt:120:9
+number-at-requires-2 : tie.Need-number-at-requires-2
+number-at-requires-2 c κs = search needs
+
+-- src/lib.rt:121:38
+add-number-at-2 : tie.Need-add-number-at-2
+add-number-at-2 c = search needs
+
+-- src/lib.rt:121:9
+number-at-requires-3 : tie.Need-number-at-requires-3
+number-at-requires-3 c κs = search needs
+
+-- src/lib.rt:122:37
+add-number-at-3 : tie.Need-add-number-at-3
+add-number-at-3 c = search needs
+
+-- src/lib.rt:122:9
+number-at-requires-4 : tie.Need-number-at-requires-4
+number-at-requires-4 c κs = search needs
+
+-- src/lib.rt:114:1
+returns : tie.Need-returns
+returns c =
+    λ i.
+    record {
+      y1 = (toZ-ofZ {w = w64} (record { sfits = c .before .before .before .number-at .ok }) ∙ c .before .before .before .number-at .ensures ∙ behind l start (place b) at (omega arith)) i;
+      y2 = (toZ-ofZ {w = w64} (record { sfits = c .before .before .number-at2 .ok }) ∙ c .before .before .number-at2 .ensures ∙ behind l start (place b + 1) (at + 1) (omega arith)) i;
+      gain =
+          record {
+            present = (toZ-ofZ {w = w64} (record { sfits = c .before .number-at3 .ok }) ∙ c .before .number-at3 .ensures ∙ behind l start (place b + 2) (at + 2) (omega arith)) i;
+            target = (toZ-ofZ {w = w64} (record { sfits = c .number-at4 .ok }) ∙ c .number-at4 .ensures ∙ behind l start (place b + 3) (at + 3) (omega arith)) i;
+          };
+    }
+  where
+    l : List ℤ
+    l = now (c .before .before .before .before .args .numbers)
+
+    start : ℕ
+    start = c .before .before .before .before .args .start
+
+    b : ℕ
+    b = c .before .before .before .before .args .b
+
+    at : ℕ
+    at = start + 4 * b + 3
+
+pub section-at-spec : {M : Type 1} → statement M
+section-at-spec =
+    tie.close
+    (tie.spec
+    mul-at
+    add-at
+    add-at-2
+    number-at-requires
+    add-number-at
+    number-at-requires-2
+    add-number-at-2
+    number-at-requires-3
+    add-number-at-3
+    number-at-requires-4
+    returns)

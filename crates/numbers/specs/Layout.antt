@@ -1,0 +1,78 @@
+-- The unit as flat numbers, in the order of document 01, "The strip sheet". Definitions only.
+-- "In order: V (volume, target); ten C (A, B, G); L (x1, x2, flag); ten S (y1, y2, gain, target); R as L; ten S."
+use mathlib.Core.Path.{_≡_}
+use mathlib.Core.List.{List, [], _∷_, _++_}
+use Prim.Native.Nat.{ℕ}
+use lib.IntN.{ℤ, pos}
+use lib.ListN.{length, getD, take, drop}
+use Rattle.bands.specs.declared.Band.{Band}
+use Rattle.levels.specs.declared.Level.{Level}
+use Rattle.unit.specs.declared.BandSection.{BandSection}
+use Rattle.unit.specs.declared.Channel.{Channel}
+use Rattle.unit.specs.declared.Unit.{Unit}
+use Rattle.unit.specs.Lists.{Each}
+use Rattle.unit.specs.Cleared.{bandCount, bandsOf}
+use Rattle.engine.specs.Numbers.{channelOf}
+
+-- how many they are: 2, ten times 3, and twice 43
+abbrev pub unitSize : ℕ
+unitSize = 118
+
+-- where the numbers of the bands, of the left channel and of the right channel begin
+abbrev pub bandsPlace : ℕ
+bandsPlace = 2
+
+abbrev pub leftPlace : ℕ
+leftPlace = 32
+
+abbrev pub rightPlace : ℕ
+rightPlace = 75
+
+-- ---- a unit's numbers
+
+-- the numbers of each entry, one entry after the other
+abbrev pub joined : {A : Type 0} → (A → List ℤ) → List A → List ℤ
+joined f [] = []
+joined f (a ∷ rest) = f a ++ joined f rest
+
+-- "V (volume, target)"
+abbrev pub volumeNumbers : Level → List ℤ
+volumeNumbers v = v .present ∷ v .target ∷ []
+
+-- "C (A, B, G)"
+abbrev pub bandNumbers : Band → List ℤ
+bandNumbers band = band .alpha ∷ band .beta ∷ band .gamma ∷ []
+
+-- "S (y1, y2, gain, target)"
+abbrev pub sectionNumbers : BandSection → List ℤ
+sectionNumbers s = s .y1 ∷ s .y2 ∷ s .gain .present ∷ s .gain .target ∷ []
+
+-- "L (x1, x2, flag); ten S"
+abbrev pub channelNumbers : Channel → List ℤ
+channelNumbers c = c .x1 ∷ c .x2 ∷ c .flag ∷ joined sectionNumbers (c .sections)
+
+unfoldable pub numbersOf : Unit → List ℤ
+numbersOf u = volumeNumbers (u .volume) ++ (joined bandNumbers (u .bands) ++ joined channelNumbers (u .channels))
+
+-- ---- the unit that the numbers stand for
+
+unfoldable pub unitOf : List ℤ → Unit
+unitOf l =
+    record {
+      volume = record { present = getD l 0 (pos 0); target = getD l 1 (pos 0) };
+      bands = bandsOf (drop bandsPlace l);
+      channels = channelOf (drop leftPlace l) ∷ channelOf (drop rightPlace l) ∷ [];
+    }
+
+-- ten bands, and two channels of ten sections
+pub record Shaped (u : Unit) : Type 0 where
+  pub bands : length (u .bands) ≡ bandCount
+  pub channels : length (u .channels) ≡ 2
+  pub sections : Each (λ (c : Channel). length (c .sections) ≡ bandCount) (u .channels)
+
+-- ---- storing a unit's numbers from the front
+
+-- after the store, what stands before place `to` is what stood before place `from`, and then the new numbers
+pub record Put (l : List ℤ) (from : ℕ) (new : List ℤ) (to : ℕ) (after : List ℤ) : Type 0 where
+  pub size : length after ≡ unitSize
+  pub front : take to after ≡ take from l ++ new

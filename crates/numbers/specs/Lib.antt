@@ -1,0 +1,2 @@
+-- The unit as flat numbers.
+pub mod Layout

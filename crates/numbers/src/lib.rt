@@ -1,0 +1,240 @@
+// The unit as 118 numbers of 32 bits, in the order of the strip sheet: the volume and its target; A, B, G of each band; then of the
+// left and of the right channel x1, x2, flag, and y1, y2, gain and target of each section.
+ghost use mathlib.Core.Path.{_≡_};
+ghost use Prim.Native.Nat.{_+_, _*_, _<_, _≤_};
+ghost use lib.IntN.{pos};
+ghost use lib.ListN.{length, getD, drop};
+ghost use Rattle.bands.specs.Bands.{bandAt};
+ghost use Rattle.unit.specs.Lists.{Each};
+ghost use Rattle.unit.specs.Cleared.{bandsOf};
+ghost use Rattle.unit.specs.Fit.{VolumeFit, SectionFit, ChannelFit, Fit};
+ghost use Rattle.engine.specs.Numbers.{sectionAt, channelOf};
+ghost use Rattle.numbers.specs.Layout.{unitSize, bandsPlace, leftPlace, rightPlace, joined, volumeNumbers, bandNumbers, sectionNumbers, channelNumbers, numbersOf, unitOf, Put};
+use bands::Band;
+use levels::Level;
+use unit::BandSection;
+use unit::Channel;
+use unit::Unit;
+
+// Where the numbers of the left channel and of the right channel begin.
+const LEFT: usize = 32;
+
+const RIGHT: usize = 75;
+
+// The unit that the numbers stand for.
+pub fn unit_of(numbers: &[i32; 118]) -> Unit
+    ensures { λ r. ⌜ r ≡ unitOf (now (numbers .entry)) ⌝ }
+{
+    let present = number_at(numbers, 0);
+    let target = number_at(numbers, 1);
+    let volume = Level { present, target };
+    let bands = bands_of(numbers);
+    let left = channel_of(numbers, LEFT);
+    let right = channel_of(numbers, RIGHT);
+    Unit {
+        volume,
+        bands,
+        channels: [left, right],
+    }
+}
+
+// The ten bands.
+fn bands_of(numbers: &[i32; 118]) -> [Band; 10]
+    ensures { λ r. ⌜ r ≡ bandsOf (drop bandsPlace (now (numbers .entry))) ⌝ }
+{
+    let zero = Band {
+        alpha: 0,
+        beta: 0,
+        gamma: 0,
+    };
+    let mut bands = [zero; 10];
+    let mut b = 0;
+    while b < 10 {
+        let band = band_at(numbers, b);
+        bands[b] = band;
+        b += 1;
+    }
+    bands
+}
+
+// Band b.
+fn band_at(numbers: &[i32; 118], b: usize) -> Band
+    requires { ⌜ b < 10 ⌝ }
+    ensures { λ r. ⌜ r ≡ bandAt (drop bandsPlace (now (numbers .entry))) b ⌝ }
+{
+    let at = 3 * b + 2;
+    Band {
+        alpha: numbers[at],
+        beta: numbers[at + 1],
+        gamma: numbers[at + 2],
+    }
+}
+
+// The channel whose numbers begin at start.
+fn channel_of(numbers: &[i32; 118], start: usize) -> Channel
+    requires { ⌜ start ≤ rightPlace ⌝ }
+    ensures { λ r. ⌜ r ≡ channelOf (drop start (now (numbers .entry))) ⌝ }
+{
+    let x1 = number_at(numbers, start);
+    let x2 = number_at(numbers, start + 1);
+    let flag = number_at(numbers, start + 2);
+    let sections = sections_of(numbers, start);
+    Channel {
+        x1,
+        x2,
+        flag,
+        sections,
+    }
+}
+
+// Its ten sections.
+fn sections_of(numbers: &[i32; 118], start: usize) -> [BandSection; 10]
+    requires { ⌜ start ≤ rightPlace ⌝ }
+    ensures { λ r. ⌜ r ≡ channelOf (drop start (now (numbers .entry))) .sections ⌝ }
+{
+    let zero = Level {
+        present: 0,
+        target: 0,
+    };
+    let empty = BandSection {
+        y1: 0,
+        y2: 0,
+        gain: zero,
+    };
+    let mut sections = [empty; 10];
+    let mut b = 0;
+    while b < 10 {
+        let section = section_at(numbers, start, b);
+        sections[b] = section;
+        b += 1;
+    }
+    sections
+}
+
+// Its section b.
+fn section_at(numbers: &[i32; 118], start: usize, b: usize) -> BandSection
+    requires { ⌜ (start ≤ rightPlace) × (b < 10) ⌝ }
+    ensures { λ r. ⌜ r ≡ sectionAt (drop start (now (numbers .entry))) b ⌝ }
+{
+    let at = start + 4 * b + 3;
+    let y1 = number_at(numbers, at);
+    let y2 = number_at(numbers, at + 1);
+    let present = number_at(numbers, at + 2);
+    let target = number_at(numbers, at + 3);
+    let gain = Level { present, target };
+    BandSection { y1, y2, gain }
+}
+
+// The number at a place.
+fn number_at(numbers: &[i32; 118], at: usize) -> i64
+    requires { ⌜ at < unitSize ⌝ }
+    ensures { λ r. ⌜ r ≡ getD (now (numbers .entry)) at (pos 0) ⌝ }
+{
+    numbers[at] as i64
+}
+
+// The numbers of a fit unit.
+pub fn numbers_of(unit: Unit) -> [i32; 118]
+    requires { ⌜ Fit unit ⌝ }
+    ensures { λ r. ⌜ r ≡ numbersOf unit ⌝ }
+{
+    let volume = unit.volume;
+    let bands = unit.bands;
+    let channels = unit.channels;
+    let mut out = [0i32; 118];
+    put_volume(&mut out, volume);
+    put_bands(&mut out, bands);
+    put_channels(&mut out, channels);
+    out
+}
+
+// Stores the volume.
+fn put_volume(out: &mut [i32; 118], volume: Level)
+    requires { ⌜ (length (now out) ≡ unitSize) × VolumeFit volume ⌝ }
+    ensures { λ r. ⌜ Put (now (out .entry)) 0 (volumeNumbers volume) bandsPlace (now (out .exit)) ⌝ }
+{
+    let present = volume.present as i32;
+    let target = volume.target as i32;
+    out[0] = present;
+    out[1] = target;
+}
+
+// Stores the ten bands.
+fn put_bands(out: &mut [i32; 118], bands: [Band; 10])
+    requires { ⌜ length (now out) ≡ unitSize ⌝ }
+    ensures { λ r. ⌜ Put (now (out .entry)) bandsPlace (joined bandNumbers bands) leftPlace (now (out .exit)) ⌝ }
+{
+    let mut b = 0;
+    while b < 10 {
+        let band = bands[b];
+        put_band(out, 3 * b + 2, band);
+        b += 1;
+    }
+}
+
+// Stores a band from place at on.
+fn put_band(out: &mut [i32; 118], at: usize, band: Band)
+    requires { ⌜ (length (now out) ≡ unitSize) × (at + 3 ≤ unitSize) ⌝ }
+    ensures { λ r. ⌜ Put (now (out .entry)) at (bandNumbers band) (at + 3) (now (out .exit)) ⌝ }
+{
+    let alpha = band.alpha;
+    let beta = band.beta;
+    let gamma = band.gamma;
+    out[at] = alpha;
+    out[at + 1] = beta;
+    out[at + 2] = gamma;
+}
+
+// Stores both channels.
+fn put_channels(out: &mut [i32; 118], channels: [Channel; 2])
+    requires { ⌜ (length (now out) ≡ unitSize) × Each ChannelFit channels ⌝ }
+    ensures { λ r. ⌜ Put (now (out .entry)) leftPlace (joined channelNumbers channels) unitSize (now (out .exit)) ⌝ }
+{
+    let left = channels[0];
+    let right = channels[1];
+    put_channel(out, LEFT, left);
+    put_channel(out, RIGHT, right);
+}
+
+// Stores a channel from place start on.
+fn put_channel(out: &mut [i32; 118], start: usize, channel: Channel)
+    requires { ⌜ (length (now out) ≡ unitSize) × (start ≤ rightPlace) × ChannelFit channel ⌝ }
+    ensures { λ r. ⌜ Put (now (out .entry)) start (channelNumbers channel) (start + 43) (now (out .exit)) ⌝ }
+{
+    let x1 = channel.x1 as i32;
+    let x2 = channel.x2 as i32;
+    let flag = channel.flag as i32;
+    let sections = channel.sections;
+    out[start] = x1;
+    out[start + 1] = x2;
+    out[start + 2] = flag;
+    put_sections(out, start + 3, sections);
+}
+
+// Stores ten sections from place start on.
+fn put_sections(out: &mut [i32; 118], start: usize, sections: [BandSection; 10])
+    requires { ⌜ (length (now out) ≡ unitSize) × (start + 40 ≤ unitSize) × Each SectionFit sections ⌝ }
+    ensures { λ r. ⌜ Put (now (out .entry)) start (joined sectionNumbers sections) (start + 40) (now (out .exit)) ⌝ }
+{
+    let mut b = 0;
+    while b < 10 {
+        let section = sections[b];
+        put_section(out, start + 4 * b, section);
+        b += 1;
+    }
+}
+
+// Stores a section from place at on.
+fn put_section(out: &mut [i32; 118], at: usize, section: BandSection)
+    requires { ⌜ (length (now out) ≡ unitSize) × (at + 4 ≤ unitSize) × SectionFit section ⌝ }
+    ensures { λ r. ⌜ Put (now (out .entry)) at (sectionNumbers section) (at + 4) (now (out .exit)) ⌝ }
+{
+    let y1 = section.y1 as i32;
+    let y2 = section.y2 as i32;
+    let present = section.gain.present as i32;
+    let target = section.gain.target as i32;
+    out[at] = y1;
+    out[at + 1] = y2;
+    out[at + 2] = present;
+    out[at + 3] = target;
+}
