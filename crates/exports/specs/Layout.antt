@@ -1,13 +1,18 @@
 -- Sections and answers as numbers, as the static library passes them. Definitions only.
+use mathlib.Core.Path.{_≡_}
+use mathlib.Core.Bool.{cond}
 use mathlib.Core.List.{List, [], _∷_}
-use Prim.Native.Nat.{_+_, _*_, _^_}
+use Prim.Native.Nat.{ℕ, _+_, _*_, _^_}
 use lib.IntN.{ℤ, pos, _+ℤ_}
-use lib.ListN.{getD}
-use Rattle.refusals.specs.Numbers.{numberOf}
+use lib.ListN.{length, getD}
+use Rattle.refusals.specs.Numbers.{numberOf, isAccepted}
 use Rattle.bands.specs.Bands.{bandOf}
 use Rattle.section.specs.Equation.{flag}
 use Rattle.section.specs.declared.Section.{Section}
 use Rattle.section.specs.declared.Stepped.{Stepped}
+use Rattle.blocks.specs.declared.Played.{Played}
+use Rattle.blocks.specs.Block.{blockPlayed, blockOutput}
+use Rattle.numbers.specs.Layout.{unitOf, numbersOf as unitNumbers}
 
 -- a section is seven numbers: A, B, G, x1, x2, y1, y2
 abbrev pub sectionOf : List ℤ → Section
@@ -26,3 +31,15 @@ numbersOf s = s .band .alpha ∷ s .band .beta ∷ s .band .gamma ∷ s .x1 ∷ 
 -- an answer in one number: y in the low 32 bits, above it 1 where the section has limited, and twice the refusal's number
 abbrev pub packed : Stepped → ℤ
 packed r = pos ((2 * numberOf (r .verdict) + flag (r .limited)) * 2 ^ 32) +ℤ r .y
+
+-- ---- a block, on a unit's numbers
+
+-- the numbers after it: refused, those lent
+abbrev pub numbersAfter : List ℤ → Played → List ℤ
+numbersAfter l r = cond (isAccepted (r .verdict)) (unitNumbers (r .unit)) l
+
+-- the refusal's number, the numbers after it, and the output
+pub record BlockDone (l : List ℤ) (input room : List ℕ) (number : ℕ) (after : List ℤ) (filled : List ℕ) : Type 0 where
+  pub number-is : number ≡ numberOf (blockPlayed 2 (unitOf l) input (length room) .verdict)
+  pub numbers-are : after ≡ numbersAfter l (blockPlayed 2 (unitOf l) input (length room))
+  pub output-is : filled ≡ blockOutput 2 (unitOf l) input room

@@ -11,7 +11,7 @@ ghost use Rattle.section.specs.Step.{stepped};
 ghost use Rattle.unit.specs.Fit.{unitFits};
 ghost use Rattle.loading.specs.Loading.{loaded};
 ghost use Rattle.numbers.specs.Layout.{unitOf, numbersOf as unitNumbers};
-ghost use Rattle.exports.specs.Layout.{sectionOf, numbersOf, packed};
+ghost use Rattle.exports.specs.Layout.{sectionOf, numbersOf, packed, BlockDone};
 use bands::Band;
 use levels::Level;
 use section::Section;
@@ -117,6 +117,23 @@ pub extern "C" fn fonddrys_load(numbers: &mut [i32; 118], set: &[i32]) -> u32
     let verdict = answer.verdict;
     let unit = answer.unit;
     *numbers = numbers::numbers_of(unit);
+    refusals::number(verdict)
+}
+
+// Plays a block of frames through the unit whose numbers are lent: they are then those of the unit after it, and the output begins with
+// the frames. 0 for an accepted block, else the number of its refusal: the lent numbers and the output are then as they were.
+#[no_mangle]
+pub extern "C" fn fonddrys_block(numbers: &mut [i32; 118], input: &[u8], output: &mut [u8]) -> u32
+    ensures { λ r. ⌜ BlockDone (now (numbers .entry)) (now (input .entry)) (now (output .entry)) r (now (numbers .exit)) (now (output .exit)) ⌝ }
+{
+    let unit = numbers::unit_of(numbers);
+    let answer = blocks::play(unit, input, output);
+    let verdict = answer.verdict;
+    if !refusals::accepted(verdict) {
+        return refusals::number(verdict);
+    }
+    let after = answer.unit;
+    *numbers = numbers::numbers_of(after);
     refusals::number(verdict)
 }
 

@@ -55,7 +55,7 @@ unfolding blockPlayed blockOutput
 returns c = (
   (λ i. record { verdict = verdict-is a i; unit = (r .run .ensures .unit ∙ passed (isAccepted (verdict a)) (played 2 u input (frameCount 2 u input)) u yes) i }),
   r .run .ensures .bytes
-  ∙ passed (isAccepted (verdict a)) (sound 2 u input (frameCount 2 u input) ++ drop (length input) room) room yes,
+      ∙ passed (isAccepted (verdict a)) (sound 2 u input (frameCount 2 u input) ++ drop (length input) room) room yes,
 )
   where
     r : lts.After-run (check-block-reads.Asked, check-block-reads.Learnt, accepted-reads.Asked, accepted-reads.Learnt, run-reads.Asked, run-reads.Learnt) reads.Pre reads.Post
