@@ -9,9 +9,9 @@ use lib.ListN.{length, getD, take, drop, take-append-drop, length-drop}
 use lib.Seq.{take-add, drop-cons, take-all, drop-drop}
 use Rattle.bands.specs.Bands.{bandAt}
 use Rattle.unit.specs.Lists.{tabulate}
-use Rattle.unit.specs.Cleared.{bandCount, bandsOf}
+use Rattle.unit.specs.Cleared.{bandCount}
 use Rattle.engine.specs.Numbers.{channelSize, place, sectionAt, channelOf}
-use Rattle.numbers.specs.Layout.{unitSize, bandsPlace, leftPlace, rightPlace, joined, volumeNumbers, bandNumbers, sectionNumbers, channelNumbers, numbersOf, unitOf}
+use Rattle.numbers.specs.Layout.{unitSize, bandsPlace, leftPlace, rightPlace, joined, bandNumbers, sectionNumbers, channelNumbers, numbersOf, unitOf}
 use Rattle.numbers.proofs.Put.{joined-snoc}
 
 -- ---- some numbers from a place on

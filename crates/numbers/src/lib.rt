@@ -1,7 +1,7 @@
 // The unit as 118 numbers of 32 bits, in the order of the strip sheet: the volume and its target; A, B, G of each band; then of the
 // left and of the right channel x1, x2, flag, and y1, y2, gain and target of each section.
 ghost use mathlib.Core.Path.{_≡_};
-ghost use Prim.Native.Nat.{_+_, _*_, _<_, _≤_};
+ghost use Prim.Native.Nat.{_+_, _<_, _≤_};
 ghost use lib.IntN.{pos};
 ghost use lib.ListN.{length, getD, drop};
 ghost use Rattle.bands.specs.Bands.{bandAt};

@@ -66,15 +66,12 @@ module _ (c : lts.After-moved (moved-reads.Asked, moved-reads.Learnt) reads.Pre 
 
 -- ---- the needs
 
--- src/lib.rt:95:18
 cast-t6 : tie.Need-cast-t6
 cast-t6 c = widen-need tt (present c) (c .fits .present)
 
--- src/lib.rt:96:17
 cast-t7 : tie.Need-cast-t7
 cast-t7 c = widen-need tt (target c) (c .fits .target)
 
--- src/lib.rt:98:9
 moved-requires : tie.Need-moved-requires
 moved-requires c κs =
     record {
@@ -84,12 +81,10 @@ moved-requires c κs =
           subst (λ (z : ℤ). natAbs z ≤ 2 ^ 61) (sym (target-reads c)) (le-trans (natAbs-le (target c) (c .fits .target .sfits)) (lit≤ tt));
     }
 
--- src/lib.rt:99:5
 cast-result : tie.Need-cast-result
 cast-result c =
     unary-need (λ (z : ℤ). z) (num (after (c .before .before)) (after-wide (c .before .before))) (after-fits (c .before .before))
 
--- src/lib.rt:90:1
 returns : tie.Need-returns
 returns c =
     unary-reads (λ (z : ℤ). z) (num (after (c .before .before)) (after-wide (c .before .before))) (after-fits (c .before .before))

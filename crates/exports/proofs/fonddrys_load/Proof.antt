@@ -9,26 +9,17 @@ use Rattle.numbers.specs.Layout.{numbersOf}
 use borrow.Author.Needs.{needs}
 use Rattle.exports.proofs.fonddrys_load.Statement.{statement}
 use Rattle.exports.proofs.fonddrys_load.Tie as tie
-use Rattle.exports.proofs.fonddrys_load.Reads as reads
-use Rattle.exports.proofs.fonddrys_load.Lts as lts
-use Rattle.loading.proofs.load.Reads as load-reads
-use Rattle.numbers.proofs.numbers_of.Reads as numbers-of-reads
-use Rattle.refusals.proofs.number.Reads as number-reads
 
--- src/lib.rt:116:9
 load-requires : tie.Need-load-requires
 load-requires c κs = search needs
 
--- src/lib.rt:119:16
 numbers-of-requires : tie.Need-numbers-of-requires
 numbers-of-requires c κs =
     subst (λ (l : Loaded). Fit (l .unit)) (sym (c .before .load .ensures)) (loaded-fit (now (c .before .before .args .set)))
 
--- src/lib.rt:120:5
 number-requires : tie.Need-number-requires
 number-requires c κs = search needs
 
--- src/lib.rt:112:1
 returns : tie.Need-returns
 returns c = (
   c .number .ensures ∙ ap (λ (l : Loaded). numberOf (l .verdict)) (c .before .before .before .load .ensures),

@@ -7,28 +7,20 @@ use Rattle.unit.specs.Fit.{unitFits}
 use borrow.Author.Needs.{needs}
 use Rattle.exports.proofs.fonddrys_unit_fit.Statement.{statement}
 use Rattle.exports.proofs.fonddrys_unit_fit.Tie as tie
-use Rattle.exports.proofs.fonddrys_unit_fit.Reads as reads
-use Rattle.exports.proofs.fonddrys_unit_fit.Lts as lts
-use Rattle.fitness.proofs.is_fit.Reads as is-fit-reads
-use Rattle.numbers.proofs.unit_of.Reads as unit-of-reads
 
 flag-byte : (b : Bool) → boolByte b ≡ flag b
 flag-byte true = refl
 flag-byte false = refl
 
--- src/lib.rt:107:9
 unit-of-requires : tie.Need-unit-of-requires
 unit-of-requires c κs = search needs
 
--- src/lib.rt:108:5
 is-fit-requires : tie.Need-is-fit-requires
 is-fit-requires c κs = search needs
 
--- src/lib.rt:108:5
 cast-result : tie.Need-cast-result
 cast-result c = search needs
 
--- src/lib.rt:103:1
 returns : tie.Need-returns
 returns c = flag-byte (c .is-fit .result) ∙ ap flag (c .is-fit .ensures ∙ ap unitFits (c .before .unit-of .ensures))
 

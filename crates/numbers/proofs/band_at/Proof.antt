@@ -1,5 +1,5 @@
 -- `numbers::band_at` meets its contract: the bands begin behind the volume and its target.
-use mathlib.Core.Path.{_≡_, sym, _∙_}
+use mathlib.Core.Path.{_∙_}
 use mathlib.Core.List.{List}
 use native.Mathlib.Omega.{arith}
 use lib.IntN.{ℤ, pos}
@@ -13,50 +13,37 @@ use Rattle.numbers.proofs.Put.{behind}
 use borrow.Author.Needs.{needs}
 use Rattle.numbers.proofs.band_at.Statement.{statement}
 use Rattle.numbers.proofs.band_at.Tie as tie
-use Rattle.numbers.proofs.band_at.Reads as reads
-use Rattle.numbers.proofs.band_at.Lts as lts
 
--- src/lib.rt:64:14
 mul-at : tie.Need-mul-at
 mul-at c = search needs
 
--- src/lib.rt:64:14
 add-at : tie.Need-add-at
 add-at c = search needs
 
--- src/lib.rt:66:16
 mul-t4 : tie.Need-mul-t4
 mul-t4 c = search needs
 
--- src/lib.rt:66:16
 element-copy-out-t7 : tie.Need-element-copy-out-t7
 element-copy-out-t7 c = search needs
 
--- src/lib.rt:67:23
 add-t8 : tie.Need-add-t8
 add-t8 c = search needs
 
--- src/lib.rt:67:15
 mul-t9 : tie.Need-mul-t9
 mul-t9 c = search needs
 
--- src/lib.rt:67:15
 element-copy-out-t12 : tie.Need-element-copy-out-t12
 element-copy-out-t12 c = search needs
 
--- src/lib.rt:68:24
 add-t13 : tie.Need-add-t13
 add-t13 c = search needs
 
--- src/lib.rt:68:16
 mul-t14 : tie.Need-mul-t14
 mul-t14 c = search needs
 
--- src/lib.rt:68:16
 element-copy-out-t17 : tie.Need-element-copy-out-t17
 element-copy-out-t17 c = search needs
 
--- src/lib.rt:60:1
 returns : tie.Need-returns
 returns c =
     λ i.

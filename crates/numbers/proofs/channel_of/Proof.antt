@@ -11,36 +11,25 @@ use Rattle.numbers.proofs.Put.{behind}
 use borrow.Author.Needs.{needs}
 use Rattle.numbers.proofs.channel_of.Statement.{statement}
 use Rattle.numbers.proofs.channel_of.Tie as tie
-use Rattle.numbers.proofs.channel_of.Reads as reads
-use Rattle.numbers.proofs.channel_of.Lts as lts
-use Rattle.numbers.proofs.number_at.Reads as number-at-reads
-use Rattle.numbers.proofs.sections_of.Reads as sections-of-reads
 
--- src/lib.rt:77:9
 number-at-requires : tie.Need-number-at-requires
 number-at-requires c κs = search needs
 
--- src/lib.rt:78:33
 add-number-at : tie.Need-add-number-at
 add-number-at c = search needs
 
--- src/lib.rt:78:9
 number-at-requires-2 : tie.Need-number-at-requires-2
 number-at-requires-2 c κs = search needs
 
--- src/lib.rt:79:35
 add-number-at-2 : tie.Need-add-number-at-2
 add-number-at-2 c = search needs
 
--- src/lib.rt:79:9
 number-at-requires-3 : tie.Need-number-at-requires-3
 number-at-requires-3 c κs = search needs
 
--- src/lib.rt:80:9
 sections-of-requires : tie.Need-sections-of-requires
 sections-of-requires c κs = search needs
 
--- src/lib.rt:73:1
 returns : tie.Need-returns
 returns c =
     λ i.

@@ -15,19 +15,15 @@ use Rattle.numbers.proofs.number_at.Lts as lts
 fits : (c : lts.After-result reads.Pre reads.Post) → SFits w32 (getD (now (c .before .args .numbers)) (c .before .args .at) (pos 0))
 fits c = record { sfits = omega arith }
 
--- src/lib.rt:132:5
 mul-result : tie.Need-mul-result
 mul-result c = search needs
 
--- src/lib.rt:132:5
 element-copy-out-result : tie.Need-element-copy-out-result
 element-copy-out-result c = search needs
 
--- src/lib.rt:132:5
 cast-result : tie.Need-cast-result
 cast-result c = widen-need tt (getD (now (c .before .args .numbers)) (c .before .args .at) (pos 0)) (fits c)
 
--- src/lib.rt:128:1
 returns : tie.Need-returns
 returns c = widened tt (getD (now (c .before .args .numbers)) (c .before .args .at) (pos 0)) (fits c) .reads
 

@@ -4,25 +4,16 @@ use Rattle.numbers.proofs.Put.{put-then, put-all}
 use borrow.Author.Needs.{needs}
 use Rattle.numbers.proofs.numbers_of.Statement.{statement}
 use Rattle.numbers.proofs.numbers_of.Tie as tie
-use Rattle.numbers.proofs.numbers_of.Reads as reads
-use Rattle.numbers.proofs.numbers_of.Lts as lts
-use Rattle.numbers.proofs.put_bands.Reads as put-bands-reads
-use Rattle.numbers.proofs.put_channels.Reads as put-channels-reads
-use Rattle.numbers.proofs.put_volume.Reads as put-volume-reads
 
--- src/lib.rt:145:5
 put-volume-requires : tie.Need-put-volume-requires
 put-volume-requires c κs = search needs
 
--- src/lib.rt:146:5
 put-bands-requires : tie.Need-put-bands-requires
 put-bands-requires c κs = search needs
 
--- src/lib.rt:147:5
 put-channels-requires : tie.Need-put-channels-requires
 put-channels-requires c κs = search needs
 
--- src/lib.rt:137:1
 returns : tie.Need-returns
 unfolding numbersOf
 returns c =

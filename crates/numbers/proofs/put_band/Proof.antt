@@ -13,39 +13,30 @@ use Rattle.numbers.proofs.put_band.Lts as lts
 abbrev start : lts.After-struct-told3 reads.Pre reads.Post → lts.Start reads.Pre reads.Post
 start c = c .before .before .before
 
--- src/lib.rt:185:5
 mul-alpha : tie.Need-mul-alpha
 mul-alpha c = search needs
 
--- src/lib.rt:185:5
 element-set-from-alpha : tie.Need-element-set-from-alpha
 element-set-from-alpha c = search needs
 
--- src/lib.rt:186:9
 add-beta : tie.Need-add-beta
 add-beta c = search needs
 
--- src/lib.rt:186:5
 mul-beta : tie.Need-mul-beta
 mul-beta c = search needs
 
--- src/lib.rt:186:5
 element-set-from-beta : tie.Need-element-set-from-beta
 element-set-from-beta c = search needs
 
--- src/lib.rt:187:9
 add-gamma : tie.Need-add-gamma
 add-gamma c = search needs
 
--- src/lib.rt:187:5
 mul-gamma : tie.Need-mul-gamma
 mul-gamma c = search needs
 
--- src/lib.rt:187:5
 element-set-from-gamma : tie.Need-element-set-from-gamma
 element-set-from-gamma c = search needs
 
--- src/lib.rt:178:1
 returns : tie.Need-returns
 returns c =
     put-three (now (start c .args .out)) (start c .args .at) (start c .pre .0) (start c .pre .1)

@@ -1,19 +1,16 @@
 -- `numbers::put_bands` meets its contract. The loop's invariant: the first b bands are stored.
-use Prim.Native.Nat.{ℕ, _+_, _*_, _-_, _≤_}
+use Prim.Native.Nat.{_+_, _*_, _-_, _≤_}
 use native.Mathlib.Omega.{arith}
-use lib.ListN.{length, getD, take}
+use lib.ListN.{take}
 use denote.Ref.{now}
 use lib.IntN.{pos}
 use Rattle.bands.specs.declared.Band.{Band}
 use borrow.Author.Needs.{needs}
-use Rattle.unit.specs.Cleared.{bandCount, clearedSection}
-use Rattle.numbers.specs.Layout.{bandsPlace, leftPlace, joined, bandNumbers, sectionNumbers, Put}
-use Rattle.numbers.proofs.Put.{put-none, put-entry, put-entries, each-getD}
+use Rattle.unit.specs.Cleared.{bandCount}
+use Rattle.numbers.specs.Layout.{bandsPlace, leftPlace, joined, bandNumbers, Put}
+use Rattle.numbers.proofs.Put.{put-none, put-entry, put-entries}
 use Rattle.numbers.proofs.put_bands.Statement.{statement}
 use Rattle.numbers.proofs.put_bands.Tie as tie
-use Rattle.numbers.proofs.put_bands.Reads as reads
-use Rattle.numbers.proofs.put_bands.Lts as lts
-use Rattle.numbers.proofs.put_band.Reads as put-band-reads
 
 -- what stands for a band past the end
 abbrev zeroBand : Band
@@ -25,39 +22,30 @@ Inv-loop out₀ bands b₀ out b = (b ≤ bandCount) × Put out₀ bandsPlace (j
 abbrev μ-loop : tie.MeasureT-loop
 μ-loop out₀ bands b₀ out b = bandCount - b
 
--- src/lib.rt:170:5
 loop-holds : tie.Need-loop-holds Inv-loop μ-loop
 loop-holds c = (search needs, put-none (now (c .args .out)) bandsPlace (c .pre))
 
--- src/lib.rt:171:20
 mul-band : tie.Need-mul-band Inv-loop μ-loop
 mul-band c = search needs
 
--- src/lib.rt:171:20
 array-copy-out-band : tie.Need-array-copy-out-band Inv-loop μ-loop
 array-copy-out-band c = search needs
 
--- src/lib.rt:172:23
 mul-put-band : tie.Need-mul-put-band Inv-loop μ-loop
 mul-put-band c = search needs
 
--- src/lib.rt:172:23
 add-put-band : tie.Need-add-put-band Inv-loop μ-loop
 add-put-band c = search needs
 
--- src/lib.rt:172:9
 put-band-requires : tie.Need-put-band-requires Inv-loop μ-loop
 put-band-requires c κs = (c .before .before .before .loop .inv .1 .size, omega arith)
 
--- src/lib.rt:173:9
 add-b : tie.Need-add-b Inv-loop μ-loop
 add-b c = search needs
 
--- src/lib.rt:170:5
 loop-less : tie.Need-loop-less Inv-loop μ-loop
 loop-less c = search needs
 
--- src/lib.rt:170:5
 loop-again : tie.Need-loop-again Inv-loop μ-loop
 loop-again c = (
   search needs,
@@ -65,7 +53,6 @@ loop-again c = (
       (3 * (c .before .before .before .before .loop .b + 1) + 2) (omega arith),
 )
 
--- src/lib.rt:165:1
 returns : tie.Need-returns Inv-loop μ-loop
 returns c =
     put-entries bandNumbers (c .before .before .args .t2) zeroBand (c .before .loop .b) (omega arith) (c .before .loop .inv .1) leftPlace

@@ -64,59 +64,45 @@ module _ (c : lts.After-sections (put-sections-reads.Asked, put-sections-reads.L
 
 -- ---- the needs
 
--- src/lib.rt:195:14
 cast-x1 : tie.Need-cast-x1
 cast-x1 c = narrow-need (c .before .before .args .channel .x1) (x1-size (c .before .before))
 
--- src/lib.rt:196:14
 cast-x2 : tie.Need-cast-x2
 cast-x2 c = narrow-need (c .before .before .before .before .args .channel .x2) (x2-size (c .before .before .before .before))
 
--- src/lib.rt:197:16
 cast-flag : tie.Need-cast-flag
 cast-flag c = narrow-need (c .before .before .before .before .before .before .args .channel .flag) (the-flag-size (c .before .before .before .before .before .before))
 
--- src/lib.rt:199:5
 mul-x1 : tie.Need-mul-x1
 mul-x1 c = search needs
 
--- src/lib.rt:199:5
 element-set-from-x1 : tie.Need-element-set-from-x1
 element-set-from-x1 c = search needs
 
--- src/lib.rt:200:9
 add-x2 : tie.Need-add-x2
 add-x2 c = search needs
 
--- src/lib.rt:200:5
 mul-x2 : tie.Need-mul-x2
 mul-x2 c = search needs
 
--- src/lib.rt:200:5
 element-set-from-x2 : tie.Need-element-set-from-x2
 element-set-from-x2 c = search needs
 
--- src/lib.rt:201:9
 add-flag : tie.Need-add-flag
 add-flag c = search needs
 
--- src/lib.rt:201:5
 mul-flag : tie.Need-mul-flag
 mul-flag c = search needs
 
--- src/lib.rt:201:5
 element-set-from-flag : tie.Need-element-set-from-flag
 element-set-from-flag c = search needs
 
--- src/lib.rt:202:23
 add-put-sections : tie.Need-add-put-sections
 add-put-sections c = search needs
 
--- src/lib.rt:202:5
 put-sections-requires : tie.Need-put-sections-requires
 put-sections-requires c κs = (ahead (c .before) .size, omega (arith, start (c .before) .pre .1), start (c .before) .pre .2 .sections)
 
--- src/lib.rt:191:1
 returns : tie.Need-returns
 returns c =
     subst (λ (n : ℕ). Put (now (s .args .out)) (s .args .start) (channelNumbers (s .args .channel)) n (c .put-sections .last .0)) all

@@ -12,23 +12,17 @@ use Rattle.numbers.proofs.Put.{put-then, each-getD, joined-two}
 use borrow.Author.Needs.{needs}
 use Rattle.numbers.proofs.put_channels.Statement.{statement}
 use Rattle.numbers.proofs.put_channels.Tie as tie
-use Rattle.numbers.proofs.put_channels.Reads as reads
-use Rattle.numbers.proofs.put_channels.Lts as lts
-use Rattle.numbers.proofs.put_channel.Reads as put-channel-reads
 
 -- what stands for a channel past the end
 abbrev zeroChannel : Channel
 zeroChannel = record { x1 = pos 0; x2 = pos 0; flag = pos 0; sections = [] }
 
--- src/lib.rt:193:16
 array-copy-out-left : tie.Need-array-copy-out-left
 array-copy-out-left c = search needs
 
--- src/lib.rt:194:17
 array-copy-out-right : tie.Need-array-copy-out-right
 array-copy-out-right c = search needs
 
--- src/lib.rt:195:5
 put-channel-requires : tie.Need-put-channel-requires
 put-channel-requires c κs = (
   c .before .before .before .pre .0,
@@ -36,7 +30,6 @@ put-channel-requires c κs = (
   each-getD ChannelFit (c .before .before .before .args .t2) zeroChannel (c .before .before .before .pre .1) 0 (omega arith),
 )
 
--- src/lib.rt:196:5
 put-channel-requires-2 : tie.Need-put-channel-requires-2
 put-channel-requires-2 c κs = (
   c .before .put-channel .ensures .size,
@@ -44,7 +37,6 @@ put-channel-requires-2 c κs = (
   each-getD ChannelFit (c .before .before .before .before .before .args .t2) zeroChannel (c .before .before .before .before .before .pre .1) 1 (omega arith),
 )
 
--- src/lib.rt:189:1
 returns : tie.Need-returns
 returns c =
     subst (λ (l : List ℤ). Put (now (c .before .before .before .before .before .before .args .out)) leftPlace l unitSize (c .put-channel2 .last .0))

@@ -4,7 +4,6 @@ use lib.IntN.{natAbs}
 use denote.Ref.{now}
 use Rattle.bands.specs.Words.{wordSize}
 use Rattle.bands.proofs.Laws.{word-size}
-use Rattle.unit.specs.declared.BandSection.{BandSection}
 use Rattle.unit.specs.Fit.{SectionFit}
 use Rattle.numbers.proofs.Put.{narrow-need, narrow-reads, put-four}
 use borrow.Author.Needs.{needs}
@@ -39,63 +38,48 @@ start c = c .before .before .before .before .before .before .before .before
 cast-y1 : tie.Need-cast-y1
 cast-y1 c = narrow-need (c .before .before .args .section .y1) (y1-size (c .before .before))
 
--- src/lib.rt:224:14
 cast-y2 : tie.Need-cast-y2
 cast-y2 c = narrow-need (c .before .before .before .before .args .section .y2) (y2-size (c .before .before .before .before))
 
--- src/lib.rt:225:19
 cast-present : tie.Need-cast-present
 cast-present c = narrow-need (c .before .before .before .before .before .before .args .section .gain .present) (present-size (c .before .before .before .before .before .before))
 
--- src/lib.rt:226:18
 cast-target : tie.Need-cast-target
 cast-target c = narrow-need (start c .args .section .gain .target) (target-size (start c))
 
--- src/lib.rt:227:5
 mul-y1 : tie.Need-mul-y1
 mul-y1 c = search needs
 
--- src/lib.rt:227:5
 element-set-from-y1 : tie.Need-element-set-from-y1
 element-set-from-y1 c = search needs
 
--- src/lib.rt:228:9
 add-y2 : tie.Need-add-y2
 add-y2 c = search needs
 
--- src/lib.rt:228:5
 mul-y2 : tie.Need-mul-y2
 mul-y2 c = search needs
 
--- src/lib.rt:228:5
 element-set-from-y2 : tie.Need-element-set-from-y2
 element-set-from-y2 c = search needs
 
--- src/lib.rt:229:9
 add-present : tie.Need-add-present
 add-present c = search needs
 
--- src/lib.rt:229:5
 mul-present : tie.Need-mul-present
 mul-present c = search needs
 
--- src/lib.rt:229:5
 element-set-from-present : tie.Need-element-set-from-present
 element-set-from-present c = search needs
 
--- src/lib.rt:230:9
 add-target : tie.Need-add-target
 add-target c = search needs
 
--- src/lib.rt:230:5
 mul-target : tie.Need-mul-target
 mul-target c = search needs
 
--- src/lib.rt:230:5
 element-set-from-target : tie.Need-element-set-from-target
 element-set-from-target c = search needs
 
--- src/lib.rt:219:1
 returns : tie.Need-returns
 returns c =
     put-four (now (start c .args .out)) (start c .args .at) (start c .pre .0) (start c .pre .1)

@@ -1,20 +1,17 @@
 -- `numbers::put_sections` meets its contract. The loop's invariant: the first b sections are stored.
 use Prim.Native.Nat.{ℕ, _+_, _*_, _-_, _≤_}
 use native.Mathlib.Omega.{arith}
-use lib.ListN.{length, getD, take}
+use lib.ListN.{take}
 use denote.Ref.{now}
 use mathlib.Core.Path.{_≡_, subst}
 use mathlib.Core.List.{[]}
 use Rattle.unit.specs.Fit.{SectionFit}
 use borrow.Author.Needs.{needs}
 use Rattle.unit.specs.Cleared.{bandCount, clearedSection}
-use Rattle.numbers.specs.Layout.{bandsPlace, leftPlace, joined, bandNumbers, sectionNumbers, Put}
+use Rattle.numbers.specs.Layout.{joined, sectionNumbers, Put}
 use Rattle.numbers.proofs.Put.{put-none, put-entry, put-entries, each-getD}
 use Rattle.numbers.proofs.put_sections.Statement.{statement}
 use Rattle.numbers.proofs.put_sections.Tie as tie
-use Rattle.numbers.proofs.put_sections.Reads as reads
-use Rattle.numbers.proofs.put_sections.Lts as lts
-use Rattle.numbers.proofs.put_section.Reads as put-section-reads
 
 abbrev Inv-loop : tie.InvT-loop
 Inv-loop out₀ start sections b₀ out b = (b ≤ bandCount) × Put out₀ start (joined sectionNumbers (take b sections)) (start + 4 * b) out
@@ -22,30 +19,24 @@ Inv-loop out₀ start sections b₀ out b = (b ≤ bandCount) × Put out₀ star
 abbrev μ-loop : tie.MeasureT-loop
 μ-loop out₀ start sections b₀ out b = bandCount - b
 
--- src/lib.rt:211:5
 loop-holds : tie.Need-loop-holds Inv-loop μ-loop
 loop-holds c = (search needs, subst (λ (n : ℕ). Put (now (c .args .out)) (c .args .start) [] n (now (c .args .out))) none (put-none (now (c .args .out)) (c .args .start) (c .pre .0)))
   where
     none : c .args .start ≡ c .args .start + 4 * 0
     none = omega arith
 
--- src/lib.rt:212:23
 mul-section : tie.Need-mul-section Inv-loop μ-loop
 mul-section c = search needs
 
--- src/lib.rt:212:23
 array-copy-out-section : tie.Need-array-copy-out-section Inv-loop μ-loop
 array-copy-out-section c = search needs
 
--- src/lib.rt:213:34
 mul-put-section : tie.Need-mul-put-section Inv-loop μ-loop
 mul-put-section c = search needs
 
--- src/lib.rt:213:26
 add-put-section : tie.Need-add-put-section Inv-loop μ-loop
 add-put-section c = search needs
 
--- src/lib.rt:213:9
 put-section-requires : tie.Need-put-section-requires Inv-loop μ-loop
 put-section-requires c κs = (
   c .before .before .before .loop .inv .1 .size,
@@ -53,15 +44,12 @@ put-section-requires c κs = (
   each-getD SectionFit (c .before .before .before .before .args .t3) clearedSection (c .before .before .before .before .pre .2) (c .before .before .before .loop .b) (omega arith),
 )
 
--- src/lib.rt:214:9
 add-b : tie.Need-add-b Inv-loop μ-loop
 add-b c = search needs
 
--- src/lib.rt:211:5
 loop-less : tie.Need-loop-less Inv-loop μ-loop
 loop-less c = search needs
 
--- src/lib.rt:211:5
 loop-again : tie.Need-loop-again Inv-loop μ-loop
 loop-again c = (
   search needs,
@@ -69,7 +57,6 @@ loop-again c = (
       (c .before .before .before .before .before .args .start + 4 * (c .before .before .before .before .loop .b + 1)) (omega arith),
 )
 
--- src/lib.rt:206:1
 returns : tie.Need-returns Inv-loop μ-loop
 returns c =
     put-entries sectionNumbers (c .before .before .args .t3) clearedSection (c .before .loop .b) (omega arith) (c .before .loop .inv .1)

@@ -26,23 +26,18 @@ start c = c .before .before .before .before
 
 -- ---- the needs
 
--- src/lib.rt:158:19
 cast-present : tie.Need-cast-present
 cast-present c = narrow-need (c .before .before .args .volume .present) (present-size (c .before .before))
 
--- src/lib.rt:159:18
 cast-target : tie.Need-cast-target
 cast-target c = narrow-need (start c .args .volume .target) (target-size (start c))
 
--- src/lib.rt:160:5
 element-set-from-present : tie.Need-element-set-from-present
 element-set-from-present c = search needs
 
--- src/lib.rt:161:5
 element-set-from-target : tie.Need-element-set-from-target
 element-set-from-target c = search needs
 
--- src/lib.rt:154:1
 returns : tie.Need-returns
 returns c =
     put-two (now (start c .args .out)) 0 (start c .pre .0) (lit≤ tt)

@@ -12,51 +12,37 @@ use Rattle.numbers.proofs.Put.{behind}
 use borrow.Author.Needs.{needs}
 use Rattle.numbers.proofs.section_at.Statement.{statement}
 use Rattle.numbers.proofs.section_at.Tie as tie
-use Rattle.numbers.proofs.section_at.Reads as reads
-use Rattle.numbers.proofs.section_at.Lts as lts
-use Rattle.numbers.proofs.number_at.Reads as number-at-reads
 
--- src/lib.rt:118:22
 mul-at : tie.Need-mul-at
 mul-at c = search needs
 
--- src/lib.rt:118:14
 add-at : tie.Need-add-at
 add-at c = search needs
 
--- src/lib.rt:118:14
 add-at-2 : tie.Need-add-at-2
 add-at-2 c = search needs
 
--- src/lib.rt:119:9
 number-at-requires : tie.Need-number-at-requires
 number-at-requires c κs = search needs
 
--- src/lib.rt:120:33
 add-number-at : tie.Need-add-number-at
 add-number-at c = search needs
 
--- src/lib.rt:120:9
 number-at-requires-2 : tie.Need-number-at-requires-2
 number-at-requires-2 c κs = search needs
 
--- src/lib.rt:121:38
 add-number-at-2 : tie.Need-add-number-at-2
 add-number-at-2 c = search needs
 
--- src/lib.rt:121:9
 number-at-requires-3 : tie.Need-number-at-requires-3
 number-at-requires-3 c κs = search needs
 
--- src/lib.rt:122:37
 add-number-at-3 : tie.Need-add-number-at-3
 add-number-at-3 c = search needs
 
--- src/lib.rt:122:9
 number-at-requires-4 : tie.Need-number-at-requires-4
 number-at-requires-4 c κs = search needs
 
--- src/lib.rt:114:1
 returns : tie.Need-returns
 returns c =
     λ i.

@@ -7,33 +7,22 @@ use Rattle.numbers.specs.Layout.{unitOf}
 use borrow.Author.Needs.{needs}
 use Rattle.numbers.proofs.unit_of.Statement.{statement}
 use Rattle.numbers.proofs.unit_of.Tie as tie
-use Rattle.numbers.proofs.unit_of.Reads as reads
-use Rattle.numbers.proofs.unit_of.Lts as lts
-use Rattle.numbers.proofs.bands_of.Reads as bands-of-reads
-use Rattle.numbers.proofs.channel_of.Reads as channel-of-reads
-use Rattle.numbers.proofs.number_at.Reads as number-at-reads
 
--- src/lib.rt:27:9
 number-at-requires : tie.Need-number-at-requires
 number-at-requires c κs = search needs
 
--- src/lib.rt:28:9
 number-at-requires-2 : tie.Need-number-at-requires-2
 number-at-requires-2 c κs = search needs
 
--- src/lib.rt:30:9
 bands-of-requires : tie.Need-bands-of-requires
 bands-of-requires c κs = search needs
 
--- src/lib.rt:31:9
 channel-of-requires : tie.Need-channel-of-requires
 channel-of-requires c κs = search needs
 
--- src/lib.rt:32:9
 channel-of-requires-2 : tie.Need-channel-of-requires-2
 channel-of-requires-2 c κs = search needs
 
--- src/lib.rt:24:1
 returns : tie.Need-returns
 unfolding unitOf
 returns c =
