@@ -163,48 +163,45 @@ module _ (bands l : List ℤ) (x x2 : ℤ) where
     turn-limits : limitsAt bands m n x x2 ≡ limitOf n
     turn-limits = ap (λ (s : BandSection). workOf (bandAt bands n) x x2 s .limited) (p .ahead n (omega arith))
 
-    abbrev stored : List ℤ
-    stored = putSection m n (turnedSection bands m n x x2)
+    -- the numbers with the flag marked, in which the section is then stored
+    abbrev flagged : List ℤ
+    flagged = marked (limitsAt bands m n x x2) m
 
-    stored-size : length stored ≡ channelSize
-    stored-size = put-length m n (turnedSection bands m n x x2) ∙ p .size
+    flagged-size : length flagged ≡ channelSize
+    flagged-size = mark-length (limitsAt bands m n x x2) m ∙ p .size
 
-    outside : (j : ℕ) → j < 2 → getD after j (pos 0) ≡ getD m j (pos 0)
-    outside j h =
-        mark-outside (limitsAt bands m n x x2) stored j (λ e. omega arith)
-        ∙ put-outside m n (turnedSection bands m n x x2) j (λ e. omega arith) (λ e. omega arith) (λ e. omega arith) (λ e. omega arith)
+    front : (j : ℕ) → j < 3 → getD after j (pos 0) ≡ getD flagged j (pos 0)
+    front j h =
+        put-outside flagged n (turnedSection bands m n x x2) j (λ e. omega arith) (λ e. omega arith) (λ e. omega arith) (λ e. omega arith)
 
     flag-after : getD after 2 (pos 0) ≡ raised (anyOf (tabulate (suc n) limitOf)) (getD l 2 (pos 0))
     flag-after =
-        mark-flag (limitsAt bands m n x x2) stored stored-size
-        ∙ ap₂ raised turn-limits
-        (put-outside m n (turnedSection bands m n x x2) 2 (λ e. omega arith) (λ e. omega arith) (λ e. omega arith) (λ e. omega arith) ∙ p .flag)
+        front 2 (omega arith)
+        ∙ mark-flag (limitsAt bands m n x x2) m (p .size)
+        ∙ ap₂ raised turn-limits (p .flag)
         ∙ raised-twice (anyOf (tabulate n limitOf)) (limitOf n) (getD l 2 (pos 0))
         ∙ ap (λ (t : Bool). raised t (getD l 2 (pos 0))) (sym (any-snoc (tabulate n limitOf) (limitOf n)))
 
-    at : (k : ℕ) → sectionAt after k ≡ sectionAt stored k
-    at k = mark-section (limitsAt bands m n x x2) stored k
+    -- another section is as it was
+    elsewhere : (k : ℕ) → (k ≡ n → ⊥) → sectionAt after k ≡ sectionAt m k
+    elsewhere k h = put-other flagged n (turnedSection bands m n x x2) k h ∙ mark-section (limitsAt bands m n x x2) m k
 
     section-done : (k : ℕ) → k < suc n → sectionAt after k ≡ sectionOf k
     section-done k h = go (eqb k n) refl
       where
         go : (t : Bool) → eqb k n ≡ t → sectionAt after k ≡ sectionOf k
         go true e =
-            at k
-            ∙ subst (λ (j : ℕ). sectionAt stored j ≡ sectionOf j) (sym (eqb-true k n e)) (put-same m n (turnedSection bands m n x x2) (p .size) small ∙ turn-section)
-        go false e =
-            at k
-            ∙ put-other m n (turnedSection bands m n x x2) k (eqb-false k n e)
-            ∙ p .done k (omega (arith, eqb-false k n e))
+            subst (λ (j : ℕ). sectionAt after j ≡ sectionOf j) (sym (eqb-true k n e)) (put-same flagged n (turnedSection bands m n x x2) flagged-size small ∙ turn-section)
+        go false e = elsewhere k (eqb-false k n e) ∙ p .done k (omega (arith, eqb-false k n e))
 
     pub progress-more : Progress (suc n) after
     progress-more =
         record {
-          size = mark-length (limitsAt bands m n x x2) stored ∙ stored-size;
-          x1 = outside 0 (omega arith) ∙ p .x1;
+          size = put-length flagged n (turnedSection bands m n x x2) ∙ flagged-size;
+          x1 = front 0 (omega arith) ∙ mark-outside (limitsAt bands m n x x2) m 0 (λ e. omega arith) ∙ p .x1;
           flag = flag-after;
           done = section-done;
-          ahead = λ k h. at k ∙ put-other m n (turnedSection bands m n x x2) k (λ e. omega arith) ∙ p .ahead k (omega arith);
+          ahead = λ k h. elsewhere k (λ e. omega arith) ∙ p .ahead k (omega arith);
         }
 
   -- the sum grows by the share of the section whose turn it was

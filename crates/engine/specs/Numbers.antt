@@ -65,7 +65,7 @@ module _ (bands l : List ℤ) (b : ℕ) (x x2 : ℤ) where
 
   -- the channel's numbers after it
   abbrev pub turned : List ℤ
-  turned = marked limitsAt (putSection l b turnedSection)
+  turned = putSection (marked limitsAt l) b turnedSection
 
   -- what a turn asks: an accepted band, a fit section, and inputs of at most 2^23 in size
   pub record Turns : Type 0 where

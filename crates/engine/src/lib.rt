@@ -55,14 +55,15 @@ pub fn put_section(channel: &mut [i64; 43], b: usize, section: BandSection)
     channel[at + 3] = target;
 }
 
-// Raises the flag where limiting changed the rounded number, that is, where that was no word.
-fn mark(channel: &mut [i64; 43], y: i64, rounded: i64)
-    requires { ⌜ y ≡ limit wordLow wordHigh rounded ⌝ }
-    ensures { λ r. ⌜ now (channel .exit) ≡ marked (not (isWord rounded)) (now (channel .entry)) ⌝ }
+// A section's rounded number limited to a word. The channel's flag is raised where it was no word.
+fn limit_word(channel: &mut [i64; 43], rounded: i64) -> i64
+    ensures { λ r. ⌜ (r ≡ limit wordLow wordHigh rounded) × (now (channel .exit) ≡ marked (not (isWord rounded)) (now (channel .entry))) ⌝ }
 {
-    if y != rounded {
-        channel[2] = 1;
+    if rounding::in_range(bands::WORD_LOW, bands::WORD_HIGH, rounded) {
+        return rounded;
     }
+    channel[2] = 1;
+    rounding::saturate(bands::WORD_LOW, bands::WORD_HIGH, rounded)
 }
 
 // Section b's turn in a frame: its gain moves, equation (8) is worked, rounded and limited, and the results move on. Gives g × y.
@@ -80,14 +81,13 @@ fn turn(bands: &[i64; 30], channel: &mut [i64; 43], b: usize, x: i64, x2: i64) -
     let gamma = bands[3 * b + 2];
     let beta = bands[3 * b + 1];
     let rounded = section::rounded_sum(alpha, beta, gamma, x, x2, y1, y2);
-    let y = rounding::saturate(bands::WORD_LOW, bands::WORD_HIGH, rounded);
+    let y = limit_word(channel, rounded);
     let after = BandSection {
         y1: y,
         y2: y1,
         gain,
     };
     put_section(channel, b, after);
-    mark(channel, y, rounded);
     gain.present * y
 }
 

@@ -1,5 +1,5 @@
 -- A level never steps past its target: the number after a move lies between the one before it and the target.
-use mathlib.Core.Path.{_≡_}
+use mathlib.Core.Path.{_≡_, refl}
 use mathlib.Core.Logic.{⊎-elim}
 use Prim.Native.Nat.{ℕ, _+_, _≤_}
 use lib.IntN.{ℤ, pos, negℤ, natAbs, _+ℤ_, _-ℤ_}
@@ -67,3 +67,20 @@ module _ (slope : ℕ) (present target : ℤ) where
   unfolding ramp
   ramp-arrives h =
       rw (limit-inside Down (pos slope) D (abs-ge D h) (le-abs D h)) (omega (linear, (sum-of D) .tie, distance))
+
+  -- where more is left, it moves by the slope
+  pub ramp-more-up : (present +ℤ pos slope) ≤ℤ target → ramp slope present target ≡ present +ℤ pos slope
+  unfolding ramp
+  ramp-more-up h =
+      limit-case Down (pos slope) D (λ z. present +ℤ z ≡ present +ℤ pos slope)
+      (λ u. absurd (omega (linear, distance, down, (sum-of (pos slope)) .tie)))
+      (λ u o. refl)
+      (λ u o. omega (linear, distance, (sum-of (pos slope)) .tie, (sum-of D) .tie))
+
+  pub ramp-more-down : target ≤ℤ (present -ℤ pos slope) → ramp slope present target ≡ present -ℤ pos slope
+  unfolding ramp
+  ramp-more-down h =
+      limit-case Down (pos slope) D (λ z. present +ℤ z ≡ present -ℤ pos slope)
+      (λ u. refl)
+      (λ u o. absurd (omega (linear, distance, (P ⊖ var (pos slope)) .tie)))
+      (λ u o. omega (linear, distance, (sum-of D) .tie, down, (P ⊖ var (pos slope)) .tie))

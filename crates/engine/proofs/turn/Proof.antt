@@ -1,5 +1,5 @@
--- `engine::turn` meets its contract: the section as read, its gain moved, its y worked, stored and marked, is the definition's.
-use mathlib.Core.Path.{_≡_, sym, ap, _∙_, subst}
+-- `engine::turn` meets its contract: the section as read, its gain moved, its y worked, limited and stored, is the definition's.
+use mathlib.Core.Path.{_≡_, sym, ap, ap₂, _∙_, subst}
 use mathlib.Core.Bool.{Bool, not}
 use mathlib.Core.List.{List}
 use Prim.Native.Nat.{ℕ, _^_, _≤_}
@@ -30,17 +30,16 @@ use Rattle.engine.proofs.turn.Statement.{statement}
 use Rattle.engine.proofs.turn.Tie as tie
 use Rattle.engine.proofs.turn.Reads as reads
 use Rattle.engine.proofs.turn.Lts as lts
-use Rattle.engine.proofs.mark.Reads as mark-reads
+use Rattle.engine.proofs.limit_word.Reads as limit-word-reads
 use Rattle.engine.proofs.put_section.Reads as put-section-reads
 use Rattle.engine.proofs.section_at.Reads as section-at-reads
 use Rattle.levels.proofs.Level.moved.Reads as moved-reads
-use Rattle.rounding.proofs.saturate.Reads as saturate-reads
 use Rattle.section.proofs.rounded_sum.Reads as rounded-sum-reads
 
 -- ---- the section as read
 
-module _ (c : lts.After-section-at (section-at-reads.Asked, section-at-reads.Learnt, moved-reads.Asked, moved-reads.Learnt, rounded-sum-reads.Asked, rounded-sum-reads.Learnt, saturate-reads.Asked, saturate-reads.Learnt, put-section-reads.Asked, put-section-reads.Learnt, mark-reads.Asked, mark-reads.Learnt) reads.Pre reads.Post) where
-  abbrev start : lts.Start (section-at-reads.Asked, section-at-reads.Learnt, moved-reads.Asked, moved-reads.Learnt, rounded-sum-reads.Asked, rounded-sum-reads.Learnt, saturate-reads.Asked, saturate-reads.Learnt, put-section-reads.Asked, put-section-reads.Learnt, mark-reads.Asked, mark-reads.Learnt) reads.Pre reads.Post
+module _ (c : lts.After-section-at (section-at-reads.Asked, section-at-reads.Learnt, moved-reads.Asked, moved-reads.Learnt, rounded-sum-reads.Asked, rounded-sum-reads.Learnt, limit-word-reads.Asked, limit-word-reads.Learnt, put-section-reads.Asked, put-section-reads.Learnt) reads.Pre reads.Post) where
+  abbrev start : lts.Start (section-at-reads.Asked, section-at-reads.Learnt, moved-reads.Asked, moved-reads.Learnt, rounded-sum-reads.Asked, rounded-sum-reads.Learnt, limit-word-reads.Asked, limit-word-reads.Learnt, put-section-reads.Asked, put-section-reads.Learnt) reads.Pre reads.Post
   start = c .before .before
 
   abbrev bands : List ℤ
@@ -104,8 +103,8 @@ size-read e h = subst (λ (n : ℤ). natAbs n ≤ wordSize) (sym e) h
 
 -- ---- its numbers as they are used
 
-module _ (c : lts.After-beta (section-at-reads.Asked, section-at-reads.Learnt, moved-reads.Asked, moved-reads.Learnt, rounded-sum-reads.Asked, rounded-sum-reads.Learnt, saturate-reads.Asked, saturate-reads.Learnt, put-section-reads.Asked, put-section-reads.Learnt, mark-reads.Asked, mark-reads.Learnt) reads.Pre reads.Post) where
-  abbrev a : lts.After-section-at (section-at-reads.Asked, section-at-reads.Learnt, moved-reads.Asked, moved-reads.Learnt, rounded-sum-reads.Asked, rounded-sum-reads.Learnt, saturate-reads.Asked, saturate-reads.Learnt, put-section-reads.Asked, put-section-reads.Learnt, mark-reads.Asked, mark-reads.Learnt) reads.Pre reads.Post
+module _ (c : lts.After-beta (section-at-reads.Asked, section-at-reads.Learnt, moved-reads.Asked, moved-reads.Learnt, rounded-sum-reads.Asked, rounded-sum-reads.Learnt, limit-word-reads.Asked, limit-word-reads.Learnt, put-section-reads.Asked, put-section-reads.Learnt) reads.Pre reads.Post) where
+  abbrev a : lts.After-section-at (section-at-reads.Asked, section-at-reads.Learnt, moved-reads.Asked, moved-reads.Learnt, rounded-sum-reads.Asked, rounded-sum-reads.Learnt, limit-word-reads.Asked, limit-word-reads.Learnt, put-section-reads.Asked, put-section-reads.Learnt) reads.Pre reads.Post
   a = c .before .before .before .before .before .before .before
 
   alpha-reads : toZ w64 (ofZ w64 (bandAt (bands a) (b a) .alpha)) ≡ bandAt (bands a) (b a) .alpha
@@ -134,23 +133,23 @@ module _ (c : lts.After-beta (section-at-reads.Asked, section-at-reads.Learnt, m
 
 -- ---- rounded and limited, and the gain moved
 
-module _ (c : lts.After-saturate (section-at-reads.Asked, section-at-reads.Learnt, moved-reads.Asked, moved-reads.Learnt, rounded-sum-reads.Asked, rounded-sum-reads.Learnt, saturate-reads.Asked, saturate-reads.Learnt, put-section-reads.Asked, put-section-reads.Learnt, mark-reads.Asked, mark-reads.Learnt) reads.Pre reads.Post) where
-  abbrev d : lts.After-beta (section-at-reads.Asked, section-at-reads.Learnt, moved-reads.Asked, moved-reads.Learnt, rounded-sum-reads.Asked, rounded-sum-reads.Learnt, saturate-reads.Asked, saturate-reads.Learnt, put-section-reads.Asked, put-section-reads.Learnt, mark-reads.Asked, mark-reads.Learnt) reads.Pre reads.Post
-  d = c .before .before
+module _ (c : lts.After-limit-word (section-at-reads.Asked, section-at-reads.Learnt, moved-reads.Asked, moved-reads.Learnt, rounded-sum-reads.Asked, rounded-sum-reads.Learnt, limit-word-reads.Asked, limit-word-reads.Learnt, put-section-reads.Asked, put-section-reads.Learnt) reads.Pre reads.Post) where
+  abbrev d : lts.After-beta (section-at-reads.Asked, section-at-reads.Learnt, moved-reads.Asked, moved-reads.Learnt, rounded-sum-reads.Asked, rounded-sum-reads.Learnt, limit-word-reads.Asked, limit-word-reads.Learnt, put-section-reads.Asked, put-section-reads.Learnt) reads.Pre reads.Post
+  d = c .before .before .before
 
-  abbrev o : lts.After-section-at (section-at-reads.Asked, section-at-reads.Learnt, moved-reads.Asked, moved-reads.Learnt, rounded-sum-reads.Asked, rounded-sum-reads.Learnt, saturate-reads.Asked, saturate-reads.Learnt, put-section-reads.Asked, put-section-reads.Learnt, mark-reads.Asked, mark-reads.Learnt) reads.Pre reads.Post
+  abbrev o : lts.After-section-at (section-at-reads.Asked, section-at-reads.Learnt, moved-reads.Asked, moved-reads.Learnt, rounded-sum-reads.Asked, rounded-sum-reads.Learnt, limit-word-reads.Asked, limit-word-reads.Learnt, put-section-reads.Asked, put-section-reads.Learnt) reads.Pre reads.Post
   o = a d
 
-  rounded-reads : toZ w64 (ofZ w64 (c .before .rounded-sum .result)) ≡ nearest (sum d) sumShift
+  rounded-reads : toZ w64 (ofZ w64 (c .before .before .rounded-sum .result)) ≡ nearest (sum d) sumShift
   rounded-reads =
-      toZ-ofZ (record { sfits = c .before .rounded-sum .ok })
-      ∙ c .before .rounded-sum .ensures
+      toZ-ofZ (record { sfits = c .before .before .rounded-sum .ok })
+      ∙ c .before .before .rounded-sum .ensures
       ∙ (λ i. nearest (exactSum (bandOf (alpha-reads d i) (beta-reads d i) (gamma-reads d i)) (x-reads d i) (x2-reads d i) (y1-reads d i) (y2-reads d i)) sumShift)
 
-  y-reads : toZ w64 (ofZ w64 (c .saturate .result)) ≡ worked (sum d) .y
+  y-reads : toZ w64 (ofZ w64 (c .limit-word .result)) ≡ worked (sum d) .y
   unfolding worked
   y-reads =
-      toZ-ofZ (record { sfits = c .saturate .ok }) ∙ c .saturate .ensures ∙ ap (limit wordLow wordHigh) rounded-reads
+      toZ-ofZ (record { sfits = c .limit-word .ok }) ∙ c .limit-word .ensures .0 ∙ ap (limit wordLow wordHigh) rounded-reads
 
   abbrev moved-result : Level
   moved-result = d .before .before .before .moved .result
@@ -177,13 +176,13 @@ module _ (c : lts.After-saturate (section-at-reads.Asked, section-at-reads.Learn
   abbrev Result : Bounded w64
   Result =
       record {
-        held = record { bits = ofZ w64 (c .saturate .result); value = worked (sum d) .y; reads = y-reads };
+        held = record { bits = ofZ w64 (c .limit-word .result); value = worked (sum d) .y; reads = y-reads };
         bound = wordSize;
         within = worked-size (sum d);
       }
 
   -- the section that is stored
-  stored-is : _≡_ {A = BandSection} (record { y1 = toZ w64 (ofZ w64 (c .saturate .result)); y2 = toZ w64 (ofZ w64 (o .section-at .result .y1)); gain = moved-result }) (sectionFrame (bandAt (bands o) (b o)) (x o) (x2 o) (S o))
+  stored-is : _≡_ {A = BandSection} (record { y1 = toZ w64 (ofZ w64 (c .limit-word .result)); y2 = toZ w64 (ofZ w64 (o .section-at .result .y1)); gain = moved-result }) (sectionFrame (bandAt (bands o) (b o)) (x o) (x2 o) (S o))
   unfolding sectionFrame
   stored-is = λ i. record { y1 = y-reads i; y2 = y1-reads d i; gain = gain-is i }
 
@@ -239,18 +238,14 @@ rounded-sum-requires c κs =
       y2-size = size-read (y2-reads c) (y2-size (a c));
     }
 
-saturate-requires : tie.Need-saturate-requires
-saturate-requires c κs = search needs
+limit-word-requires : tie.Need-limit-word-requires
+limit-word-requires c κs = search needs
 
 put-section-requires : tie.Need-put-section-requires
 put-section-requires c κs = search needs
 
-mark-requires : tie.Need-mark-requires
-mark-requires c κs =
-    toZ-ofZ (record { sfits = c .before .before .before .saturate .ok }) ∙ c .before .before .before .saturate .ensures
-
-abbrev late : lts.After-struct-told3 (section-at-reads.Asked, section-at-reads.Learnt, moved-reads.Asked, moved-reads.Learnt, rounded-sum-reads.Asked, rounded-sum-reads.Learnt, saturate-reads.Asked, saturate-reads.Learnt, put-section-reads.Asked, put-section-reads.Learnt, mark-reads.Asked, mark-reads.Learnt) reads.Pre reads.Post → lts.After-saturate (section-at-reads.Asked, section-at-reads.Learnt, moved-reads.Asked, moved-reads.Learnt, rounded-sum-reads.Asked, rounded-sum-reads.Learnt, saturate-reads.Asked, saturate-reads.Learnt, put-section-reads.Asked, put-section-reads.Learnt, mark-reads.Asked, mark-reads.Learnt) reads.Pre reads.Post
-late c = c .before .before .before .before .before .before
+abbrev late : lts.After-struct-told3 (section-at-reads.Asked, section-at-reads.Learnt, moved-reads.Asked, moved-reads.Learnt, rounded-sum-reads.Asked, rounded-sum-reads.Learnt, limit-word-reads.Asked, limit-word-reads.Learnt, put-section-reads.Asked, put-section-reads.Learnt) reads.Pre reads.Post → lts.After-limit-word (section-at-reads.Asked, section-at-reads.Learnt, moved-reads.Asked, moved-reads.Learnt, rounded-sum-reads.Asked, rounded-sum-reads.Learnt, limit-word-reads.Asked, limit-word-reads.Learnt, put-section-reads.Asked, put-section-reads.Learnt) reads.Pre reads.Post
+late c = c .before .before .before .before
 
 mul-result : tie.Need-mul-result
 mul-result c = result-need product (Gain (late c)) (Result (late c)) tt
@@ -259,9 +254,10 @@ returns : tie.Need-returns
 unfolding sectionFrame worked
 returns c = (
   result product (Gain (late c)) (Result (late c)) tt .held .reads,
-  c .before .before .mark .ensures
-      ∙ ap (λ (z : ℤ). marked (not (isWord z)) (c .before .before .before .before .put-section .last .0)) (rounded-reads (late c))
-      ∙ ap (marked (not (isWord (nearest (sum (d (late c))) sumShift)))) (c .before .before .before .before .put-section .ensures ∙ ap (putSection (l (o (late c))) (b (o (late c)))) (stored-is (late c))),
+  c .before .before .put-section .ensures
+  ∙ ap₂ (λ (m : List ℤ) (z : BandSection). putSection m (b (o (late c))) z)
+  (late c .limit-word .ensures .1 ∙ ap (λ (z : ℤ). marked (not (isWord z)) (l (o (late c)))) (rounded-reads (late c)))
+  (stored-is (late c)),
 )
 
 pub turn-spec : {M : Type 1} → statement M
@@ -282,8 +278,7 @@ turn-spec =
     mul-beta-2
     element-copy-out-beta
     rounded-sum-requires
-    saturate-requires
+    limit-word-requires
     put-section-requires
-    mark-requires
     mul-result
     returns)
