@@ -4,16 +4,15 @@ use mathlib.Core.List.{List, [], _∷_, _++_}
 use Prim.Native.Nat.{ℕ, _+_, _*_, _≤_, _<_}
 use lib.IntN.{ℤ, natAbs}
 use lib.ListN.{length, set, drop}
-use Rattle.bands.specs.Words.{wordSize}
 use Rattle.bands.specs.declared.Band.{Band}
 use Rattle.levels.specs.declared.Level.{Level}
 use Rattle.unit.specs.declared.Channel.{Channel}
 use Rattle.unit.specs.declared.Unit.{Unit}
 use Rattle.unit.specs.Lists.{Each}
 use Rattle.unit.specs.Cleared.{bandsOf}
-use Rattle.unit.specs.Frame.{channelFrame, mix, output}
+use Rattle.unit.specs.Frame.{channelFrame, mix}
 use Rattle.unit.specs.Fit.{BandFit, ChannelFit, Fit}
-use Rattle.engine.specs.Numbers.{channelSize, channelOf}
+use Rattle.engine.specs.Numbers.{channelSize, channelOf, mixSize}
 use Rattle.blocks.specs.Bytes.{wordAt, lowByte, highByte}
 use Rattle.blocks.specs.Block.{played, sound, frameCount}
 
@@ -23,18 +22,19 @@ putSample bytes at s = set (set bytes at (lowByte s)) (at + 1) (highByte s)
 
 -- ---- one channel's part in a frame
 
-pub record Heard (bands l : List ℤ) (volume : ℤ) (input : List ℕ) (room : List ℕ) (at : ℕ) : Type 0 where
+-- what it asks
+pub record Mixes (bands l : List ℤ) (input : List ℕ) (at : ℕ) : Type 0 where
   pub bands-fit : Each BandFit (bandsOf bands)
   pub size : length l ≡ channelSize
   pub channel-fit : ChannelFit (channelOf l)
-  pub volume-size : natAbs volume ≤ wordSize
   pub input-has : at + 1 < length input
-  pub room-has : at + 1 < length room
 
-pub record Sounded (bands l : List ℤ) (volume : ℤ) (input : List ℕ) (room : List ℕ) (at : ℕ) (after : List ℤ) (filled : List ℕ) : Type 0 where
+-- what it gives: the numbers of the channel after the frame, and its m
+pub record Mixed (bands l : List ℤ) (input : List ℕ) (at : ℕ) (after : List ℤ) (m : ℤ) : Type 0 where
   pub size : length after ≡ channelSize
   pub channel : channelOf after ≡ channelFrame (bandsOf bands) (wordAt input at) (channelOf l)
-  pub bytes : filled ≡ putSample room at (output volume (mix (channelFrame (bandsOf bands) (wordAt input at) (channelOf l))))
+  pub mixed : m ≡ mix (channelFrame (bandsOf bands) (wordAt input at) (channelOf l))
+  pub small : natAbs m ≤ mixSize
 
 -- ---- all frames
 

@@ -1,15 +1,16 @@
 // Playing a block of frames through the unit. A frame is four bytes: left then right, low byte first.
-// Where a sample goes: `frames` takes it from the input, `channel_sound` to the engine and to the output.
+// Where a sample goes: from `frames` to `channel_mix`, which reads it and hands it to the engine, and back through `put_sound`.
 ghost use mathlib.Core.Path.{_≡_};
 ghost use Prim.Native.Nat.{_+_, _<_};
 ghost use mathlib.Core.Bool.{true};
 ghost use lib.ListN.{length};
 ghost use lib.Signed.{_≤ℤ_};
 ghost use Rattle.refusals.specs.Numbers.{isAccepted};
-ghost use Rattle.unit.specs.Frame.{sampleLow, sampleHigh};
+ghost use Rattle.unit.specs.Frame.{sampleLow, sampleHigh, output as outputOf};
+ghost use Rattle.engine.specs.Numbers.{Sounds};
 ghost use Rattle.blocks.specs.Bytes.{sampleAt};
 ghost use Rattle.blocks.specs.Block.{blockVerdict, blockPlayed, blockOutput};
-ghost use Rattle.blocks.specs.Run.{putSample, Heard, Sounded, Plays, Ran, unitOf, AllPlayed};
+ghost use Rattle.blocks.specs.Run.{putSample, Mixes, Mixed, Plays, Ran, unitOf, AllPlayed};
 use bands::Band;
 use levels::Level;
 use refusals::Verdict;
@@ -44,20 +45,20 @@ fn put_sample(output: &mut [u8], at: usize, sample: i64)
     output[at + 1] = (bits / 256 % 256) as u8;
 }
 
-// One channel's part in a frame: its sample at `at` of the input goes in, and what is heard of it comes out at `at` of the output.
-fn channel_sound(
-    bands: &[i64; 30],
-    channel: &mut [i64; 43],
-    volume: i64,
-    input: &[u8],
-    output: &mut [u8],
-    at: usize,
-)
-    requires { ⌜ Heard (now bands) (now channel) volume (now input) (now output) at ⌝ }
-    ensures { λ r. ⌜ Sounded (now (bands .entry)) (now (channel .entry)) volume (now (input .entry)) (now (output .entry)) at (now (channel .exit)) (now (output .exit)) ⌝ }
+// A channel's frame on its sample at `at` of the input. Gives m.
+fn channel_mix(bands: &[i64; 30], channel: &mut [i64; 43], input: &[u8], at: usize) -> i64
+    requires { ⌜ Mixes (now bands) (now channel) (now input) at ⌝ }
+    ensures { λ r. ⌜ Mixed (now (bands .entry)) (now (channel .entry)) (now (input .entry)) at (now (channel .exit)) r ⌝ }
 {
     let x = 256 * sample(input, at);
-    let m = engine::channel_frame(bands, channel, x);
+    engine::channel_frame(bands, channel, x)
+}
+
+// What is heard of m at this volume, stored at `at` of the output.
+fn put_sound(output: &mut [u8], at: usize, volume: i64, m: i64)
+    requires { ⌜ Sounds volume m × (at + 1 < length (now output)) ⌝ }
+    ensures { λ r. ⌜ now (output .exit) ≡ putSample (now (output .entry)) at (outputOf volume m) ⌝ }
+{
     let heard = engine::sound(volume, m);
     put_sample(output, at, heard);
 }
@@ -80,8 +81,10 @@ fn frames(
     while i < count {
         level = level.moved(levels::VOLUME_SLOPE);
         let present = level.present;
-        channel_sound(bands, left, present, input, output, 4 * i);
-        channel_sound(bands, right, present, input, output, 4 * i + 2);
+        let left_mix = channel_mix(bands, left, input, 4 * i);
+        let right_mix = channel_mix(bands, right, input, 4 * i + 2);
+        put_sound(output, 4 * i, present, left_mix);
+        put_sound(output, 4 * i + 2, present, right_mix);
         i += 1;
     }
     level

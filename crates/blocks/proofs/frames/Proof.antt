@@ -1,7 +1,7 @@
 -- `blocks::frames` meets its contract. The loop's invariant: the numbers stand for the unit after i frames, and the output begins with their sound.
 use mathlib.Core.Path.{_≡_, refl, sym, ap, ap₂, _∙_, subst}
 use mathlib.Core.List.{List, _++_}
-use Prim.Native.Nat.{ℕ, suc, _+_, _-_, _*_, _≤_, _<_}
+use Prim.Native.Nat.{ℕ, suc, _+_, _-_, _*_, _^_, _≤_, _<_}
 use native.Mathlib.Nat.{le-trans}
 use native.Mathlib.Numerals.{add-one}
 use native.Mathlib.Omega.{arith}
@@ -24,16 +24,17 @@ use Rattle.unit.specs.Frame.{channelFrame, mix, output}
 use Rattle.unit.specs.Fit.{Fit}
 use Rattle.unit.proofs.Ranges.{volume-size}
 use Rattle.unit.proofs.Stays.{volume-stays}
-use Rattle.engine.specs.Numbers.{channelSize, channelOf}
+use Rattle.engine.specs.Numbers.{channelSize, channelOf, mixSize, Sounds}
 use Rattle.blocks.specs.Bytes.{wordAt}
 use Rattle.blocks.specs.Block.{played, sound}
-use Rattle.blocks.specs.Run.{putSample, Heard, Sounded, unitWith, Plays}
+use Rattle.blocks.specs.Run.{putSample, Mixes, unitWith}
 use Rattle.blocks.proofs.Block.{played-fit, sound-length, unit-more, bytes-more}
 use Rattle.blocks.proofs.frames.Statement.{statement}
 use Rattle.blocks.proofs.frames.Tie as tie
 use Rattle.blocks.proofs.frames.Reads as reads
 use Rattle.blocks.proofs.frames.Lts as lts
-use Rattle.blocks.proofs.channel_sound.Reads as channel-sound-reads
+use Rattle.blocks.proofs.channel_mix.Reads as channel-mix-reads
+use Rattle.blocks.proofs.put_sound.Reads as put-sound-reads
 use Rattle.levels.proofs.Level.moved.Reads as moved-reads
 
 pub record Inv (u : Unit) (bands : List ℤ) (count : ℕ) (input room : List ℕ) (l r : List ℤ) (out : List ℕ) (level : Level) (i : ℕ) : Type 0 where
@@ -67,8 +68,8 @@ loop-holds c =
 
 -- ---- before a frame
 
-module _ (c : lts.In-loop (moved-reads.Asked, moved-reads.Learnt, channel-sound-reads.Asked, channel-sound-reads.Learnt) reads.Pre reads.Post Inv-loop μ-loop) where
-  abbrev s : lts.Start (moved-reads.Asked, moved-reads.Learnt, channel-sound-reads.Asked, channel-sound-reads.Learnt) reads.Pre reads.Post Inv-loop μ-loop
+module _ (c : lts.In-loop (moved-reads.Asked, moved-reads.Learnt, channel-mix-reads.Asked, channel-mix-reads.Learnt, put-sound-reads.Asked, put-sound-reads.Learnt) reads.Pre reads.Post Inv-loop μ-loop) where
+  abbrev s : lts.Start (moved-reads.Asked, moved-reads.Learnt, channel-mix-reads.Asked, channel-mix-reads.Learnt, put-sound-reads.Asked, put-sound-reads.Learnt) reads.Pre reads.Post Inv-loop μ-loop
   s = c .before .before .before .before
 
   abbrev bands : List ℤ
@@ -104,6 +105,10 @@ module _ (c : lts.In-loop (moved-reads.Asked, moved-reads.Learnt, channel-sound-
   below : i < s .args .count
   below = c .loop-test .taken
 
+  -- the frame's last byte has a place
+  few : 4 * i + 3 < 2 ^ 64
+  few = omega (arith, below, s .pre .input-has)
+
   fit : Fit (unitWith level bands l r)
   fit = subst Fit (sym (inv .unit)) (played-fit 2 U input i (s .pre .fit))
 
@@ -130,10 +135,10 @@ module _ (c : lts.In-loop (moved-reads.Asked, moved-reads.Learnt, channel-sound-
 moved-requires : tie.Need-moved-requires Inv-loop μ-loop
 moved-requires c κs = ramped c
 
--- ---- the left channel
+-- ---- the volume moved
 
-module _ (c : lts.After-moved (moved-reads.Asked, moved-reads.Learnt, channel-sound-reads.Asked, channel-sound-reads.Learnt) reads.Pre reads.Post Inv-loop μ-loop) where
-  abbrev n : lts.In-loop (moved-reads.Asked, moved-reads.Learnt, channel-sound-reads.Asked, channel-sound-reads.Learnt) reads.Pre reads.Post Inv-loop μ-loop
+module _ (c : lts.After-moved (moved-reads.Asked, moved-reads.Learnt, channel-mix-reads.Asked, channel-mix-reads.Learnt, put-sound-reads.Asked, put-sound-reads.Learnt) reads.Pre reads.Post Inv-loop μ-loop) where
+  abbrev n : lts.In-loop (moved-reads.Asked, moved-reads.Learnt, channel-mix-reads.Asked, channel-mix-reads.Learnt, put-sound-reads.Asked, put-sound-reads.Learnt) reads.Pre reads.Post Inv-loop μ-loop
   n = c .before
 
   level-is : c .moved .result ≡ next n
@@ -148,120 +153,171 @@ module _ (c : lts.After-moved (moved-reads.Asked, moved-reads.Learnt, channel-so
   volume-small : natAbs V′ ≤ wordSize
   volume-small = subst (λ (z : ℤ). natAbs z ≤ wordSize) (sym volume-is) (next-size n)
 
-  left-heard : Heard (bands n) (l n) V′ (input n) (out n) (4 * i n)
-  left-heard =
+  left-mixes : Mixes (bands n) (l n) (input n) (4 * i n)
+  left-mixes =
       record {
         bands-fit = fit n .bands;
         size = inv n .left-size;
         channel-fit = fit n .channels .0;
-        volume-size = volume-small;
         input-has = omega (arith, below n, s n .pre .input-has);
-        room-has = omega (arith, below n, s n .pre .room-has, out-length n);
       }
 
-mul-channel-sound : tie.Need-mul-channel-sound Inv-loop μ-loop
-mul-channel-sound c = omega (arith, below (c .before .before .before .before), s (c .before .before .before .before) .pre .input-has)
-
-channel-sound-requires : tie.Need-channel-sound-requires Inv-loop μ-loop
-channel-sound-requires c κs = left-heard (c .before .before .before)
-
--- ---- the right channel
-
-module _ (c : lts.After-channel-sound (moved-reads.Asked, moved-reads.Learnt, channel-sound-reads.Asked, channel-sound-reads.Learnt) reads.Pre reads.Post Inv-loop μ-loop) where
-  abbrev m : lts.After-moved (moved-reads.Asked, moved-reads.Learnt, channel-sound-reads.Asked, channel-sound-reads.Learnt) reads.Pre reads.Post Inv-loop μ-loop
-  m = c .before .before .before .before
-
-  -- the output with the left sample
-  abbrev half : List ℕ
-  half = c .channel-sound .last .1 .1 .1 .1 .0
-
-  half-length : length half ≡ length (room (n m))
-  half-length = ap length (c .channel-sound .ensures .bytes) ∙ put-length (out (n m)) (4 * i (n m)) _ ∙ out-length (n m)
-
-  right-heard : Heard (bands (n m)) (r (n m)) (V′ m) (input (n m)) half (4 * i (n m) + 2)
-  right-heard =
+  right-mixes : Mixes (bands n) (r n) (input n) (4 * i n + 2)
+  right-mixes =
       record {
-        bands-fit = fit (n m) .bands;
-        size = inv (n m) .right-size;
-        channel-fit = fit (n m) .channels .1 .0;
-        volume-size = volume-small m;
-        input-has = omega (arith, below (n m), s (n m) .pre .input-has);
-        room-has = omega (arith, below (n m), s (n m) .pre .room-has, half-length);
+        bands-fit = fit n .bands;
+        size = inv n .right-size;
+        channel-fit = fit n .channels .1 .0;
+        input-has = omega (arith, below n, s n .pre .input-has);
       }
 
-mul-channel-sound-2 : tie.Need-mul-channel-sound-2 Inv-loop μ-loop
-mul-channel-sound-2 c = omega (arith, below (n (m (c .before .before .before .before))), s (n (m (c .before .before .before .before))) .pre .input-has)
+mul-channel-mix : tie.Need-mul-channel-mix Inv-loop μ-loop
+mul-channel-mix c = omega (arith, below (c .before .before .before), s (c .before .before .before) .pre .input-has)
 
-add-channel-sound : tie.Need-add-channel-sound Inv-loop μ-loop
-add-channel-sound c = omega (arith, below (n (m (c .before .before .before .before))), s (n (m (c .before .before .before .before))) .pre .input-has)
+channel-mix-requires : tie.Need-channel-mix-requires Inv-loop μ-loop
+channel-mix-requires c κs = left-mixes (c .before .before)
 
-channel-sound-requires-2 : tie.Need-channel-sound-requires-2 Inv-loop μ-loop
-channel-sound-requires-2 c κs = right-heard (c .before .before .before .before)
+mul-channel-mix-2 : tie.Need-mul-channel-mix-2 Inv-loop μ-loop
+mul-channel-mix-2 c = omega (arith, below (c .before .before .before .before .before), s (c .before .before .before .before .before) .pre .input-has)
 
--- ---- after a frame
+add-channel-mix : tie.Need-add-channel-mix Inv-loop μ-loop
+add-channel-mix c = omega (arith, below (c .before .before .before .before .before), s (c .before .before .before .before .before) .pre .input-has)
 
-module _ (c : lts.After-channel-sound2 (moved-reads.Asked, moved-reads.Learnt, channel-sound-reads.Asked, channel-sound-reads.Learnt) reads.Pre reads.Post Inv-loop μ-loop) where
-  abbrev h : lts.After-channel-sound (moved-reads.Asked, moved-reads.Learnt, channel-sound-reads.Asked, channel-sound-reads.Learnt) reads.Pre reads.Post Inv-loop μ-loop
-  h = c .before .before .before .before .before
+channel-mix-requires-2 : tie.Need-channel-mix-requires-2 Inv-loop μ-loop
+channel-mix-requires-2 c κs = right-mixes (c .before .before .before .before)
 
-  abbrev a : lts.After-moved (moved-reads.Asked, moved-reads.Learnt, channel-sound-reads.Asked, channel-sound-reads.Learnt) reads.Pre reads.Post Inv-loop μ-loop
-  a = m h
+-- ---- both mixed
 
-  abbrev b : lts.In-loop (moved-reads.Asked, moved-reads.Learnt, channel-sound-reads.Asked, channel-sound-reads.Learnt) reads.Pre reads.Post Inv-loop μ-loop
+module _ (c : lts.After-channel-mix2 (moved-reads.Asked, moved-reads.Learnt, channel-mix-reads.Asked, channel-mix-reads.Learnt, put-sound-reads.Asked, put-sound-reads.Learnt) reads.Pre reads.Post Inv-loop μ-loop) where
+  abbrev h : lts.After-channel-mix (moved-reads.Asked, moved-reads.Learnt, channel-mix-reads.Asked, channel-mix-reads.Learnt, put-sound-reads.Asked, put-sound-reads.Learnt) reads.Pre reads.Post Inv-loop μ-loop
+  h = c .before .before
+
+  abbrev a : lts.After-moved (moved-reads.Asked, moved-reads.Learnt, channel-mix-reads.Asked, channel-mix-reads.Learnt, put-sound-reads.Asked, put-sound-reads.Learnt) reads.Pre reads.Post Inv-loop μ-loop
+  a = h .before .before .before
+
+  abbrev b : lts.In-loop (moved-reads.Asked, moved-reads.Learnt, channel-mix-reads.Asked, channel-mix-reads.Learnt, put-sound-reads.Asked, put-sound-reads.Learnt) reads.Pre reads.Post Inv-loop μ-loop
   b = n a
 
   abbrev l′ : List ℤ
-  l′ = h .channel-sound .last .1 .0
+  l′ = h .channel-mix .last .1 .0
 
   abbrev r′ : List ℤ
-  r′ = c .channel-sound2 .last .1 .0
-
-  abbrev full : List ℕ
-  full = c .channel-sound2 .last .1 .1 .1 .1 .0
+  r′ = c .channel-mix2 .last .1 .0
 
   unit-next : unitWith (next b) (bands b) l′ r′ ≡ played 2 (U b) (input b) (suc (i b))
   unit-next =
-      unit-more (U b) (input b) (i b) (bands b) (level b) (l b) (r b) l′ r′ (inv b .unit) (h .channel-sound .ensures .channel) (c .channel-sound2 .ensures .channel)
+      unit-more (U b) (input b) (i b) (bands b) (level b) (l b) (r b) l′ r′ (inv b .unit) (h .channel-mix .ensures .channel) (c .channel-mix2 .ensures .channel)
 
-  -- a sample, by the channel after the frame
-  sample-is : (x : ℤ) (k k′ : List ℤ) → channelOf k′ ≡ channelFrame (bandsOf (bands b)) x (channelOf k) → output (V′ a) (mix (channelFrame (bandsOf (bands b)) x (channelOf k))) ≡ output (next b .present) (mix (channelOf k′))
-  sample-is x k k′ e = ap₂ output (volume-is a) (ap mix (sym e))
+  -- m as it is read, of the channel after the frame
+  left-reads : toZ w64 (ofZ w64 (h .channel-mix .result)) ≡ mix (channelOf l′)
+  left-reads =
+      toZ-ofZ (record { sfits = h .channel-mix .ok }) ∙ h .channel-mix .ensures .mixed ∙ ap mix (sym (h .channel-mix .ensures .channel))
 
-  bytes-next : full ≡ sound 2 (U b) (input b) (suc (i b)) ++ drop (4 * suc (i b)) (room b)
+  right-reads : toZ w64 (ofZ w64 (c .channel-mix2 .result)) ≡ mix (channelOf r′)
+  right-reads =
+      toZ-ofZ (record { sfits = c .channel-mix2 .ok }) ∙ c .channel-mix2 .ensures .mixed ∙ ap mix (sym (c .channel-mix2 .ensures .channel))
+
+  left-sounds : Sounds (V′ a) (toZ w64 (ofZ w64 (h .channel-mix .result)))
+  left-sounds =
+      record {
+        volume-size = volume-small a;
+        mix-size = subst (λ (z : ℤ). natAbs z ≤ mixSize) (sym (toZ-ofZ {w = w64} {z = h .channel-mix .result} (record { sfits = h .channel-mix .ok }))) (h .channel-mix .ensures .small);
+      }
+
+  right-sounds : Sounds (V′ a) (toZ w64 (ofZ w64 (c .channel-mix2 .result)))
+  right-sounds =
+      record {
+        volume-size = volume-small a;
+        mix-size = subst (λ (z : ℤ). natAbs z ≤ mixSize) (sym (toZ-ofZ {w = w64} {z = c .channel-mix2 .result} (record { sfits = c .channel-mix2 .ok }))) (c .channel-mix2 .ensures .small);
+      }
+
+mul-put-sound : tie.Need-mul-put-sound Inv-loop μ-loop
+mul-put-sound c = omega (arith, few (b (c .before)))
+
+put-sound-requires : tie.Need-put-sound-requires Inv-loop μ-loop
+put-sound-requires c κs = (
+  left-sounds (c .before),
+  omega (arith, below (b (c .before)), s (b (c .before)) .pre .room-has, out-length (b (c .before))),
+)
+
+-- ---- the left sample stored
+
+module _ (c : lts.After-put-sound (moved-reads.Asked, moved-reads.Learnt, channel-mix-reads.Asked, channel-mix-reads.Learnt, put-sound-reads.Asked, put-sound-reads.Learnt) reads.Pre reads.Post Inv-loop μ-loop) where
+  abbrev m : lts.After-channel-mix2 (moved-reads.Asked, moved-reads.Learnt, channel-mix-reads.Asked, channel-mix-reads.Learnt, put-sound-reads.Asked, put-sound-reads.Learnt) reads.Pre reads.Post Inv-loop μ-loop
+  m = c .before .before
+
+  -- the output with the left sample
+  abbrev half : List ℕ
+  half = c .put-sound .last .0
+
+  half-length : length half ≡ length (room (b m))
+  half-length = ap length (c .put-sound .ensures) ∙ put-length (out (b m)) (4 * i (b m)) _ ∙ out-length (b m)
+
+mul-put-sound-2 : tie.Need-mul-put-sound-2 Inv-loop μ-loop
+mul-put-sound-2 c = omega (arith, few (b (m (c .before .before .before))))
+
+add-put-sound : tie.Need-add-put-sound Inv-loop μ-loop
+add-put-sound c = omega (arith, few (b (m (c .before .before .before))))
+
+put-sound-requires-2 : tie.Need-put-sound-requires-2 Inv-loop μ-loop
+put-sound-requires-2 c κs = (
+  right-sounds (m (c .before .before .before)),
+  omega (arith, below (b (m (c .before .before .before))), s (b (m (c .before .before .before))) .pre .room-has, half-length (c .before .before .before)),
+)
+
+-- ---- after a frame
+
+module _ (c : lts.After-put-sound2 (moved-reads.Asked, moved-reads.Learnt, channel-mix-reads.Asked, channel-mix-reads.Learnt, put-sound-reads.Asked, put-sound-reads.Learnt) reads.Pre reads.Post Inv-loop μ-loop) where
+  abbrev e : lts.After-put-sound (moved-reads.Asked, moved-reads.Learnt, channel-mix-reads.Asked, channel-mix-reads.Learnt, put-sound-reads.Asked, put-sound-reads.Learnt) reads.Pre reads.Post Inv-loop μ-loop
+  e = c .before .before .before .before
+
+  abbrev k : lts.After-channel-mix2 (moved-reads.Asked, moved-reads.Learnt, channel-mix-reads.Asked, channel-mix-reads.Learnt, put-sound-reads.Asked, put-sound-reads.Learnt) reads.Pre reads.Post Inv-loop μ-loop
+  k = m e
+
+  abbrev w : lts.In-loop (moved-reads.Asked, moved-reads.Learnt, channel-mix-reads.Asked, channel-mix-reads.Learnt, put-sound-reads.Asked, put-sound-reads.Learnt) reads.Pre reads.Post Inv-loop μ-loop
+  w = b k
+
+  abbrev full : List ℕ
+  full = c .put-sound2 .last .0
+
+  bytes-next : full ≡ sound 2 (U w) (input w) (suc (i w)) ++ drop (4 * suc (i w)) (room w)
   bytes-next =
-      c .channel-sound2 .ensures .bytes
-      ∙ ap₂ (λ (o : List ℕ) (z : ℤ). putSample o (4 * i b + 2) z)
-      (h .channel-sound .ensures .bytes ∙ ap (putSample (out b) (4 * i b)) (sample-is (wordAt (input b) (4 * i b)) (l b) l′ (h .channel-sound .ensures .channel)))
-      (sample-is (wordAt (input b) (4 * i b + 2)) (r b) r′ (c .channel-sound2 .ensures .channel))
-      ∙ bytes-more (U b) (input b) (room b) (i b) (out b) (next b) (bands b) l′ r′ refl (omega (arith, below b, s b .pre .room-has)) (inv b .bytes) unit-next
+      c .put-sound2 .ensures
+      ∙ ap₂ (λ (o : List ℕ) (z : ℤ). putSample o (4 * i w + 2) z)
+      (e .put-sound .ensures ∙ ap (putSample (out w) (4 * i w)) (ap₂ output (volume-is (a k)) (left-reads k)))
+      (ap₂ output (volume-is (a k)) (right-reads k))
+      ∙ bytes-more (U w) (input w) (room w) (i w) (out w) (next w) (bands w) (l′ k) (r′ k) refl (omega (arith, below w, s w .pre .room-has)) (inv w .bytes) (unit-next k)
 
 add-i : tie.Need-add-i Inv-loop μ-loop
-add-i c = omega (arith, below (b (c .before .before)), s (b (c .before .before)) .pre .input-has)
+add-i c = omega (arith, few (w (c .before .before)))
 
 loop-less : tie.Need-loop-less Inv-loop μ-loop
-loop-less c = omega (arith, below (b (c .before .before)))
+loop-less c = omega (arith, below (w (c .before .before)))
 
 loop-again : tie.Need-loop-again Inv-loop μ-loop
 loop-again c =
-    subst (λ (k : ℕ). Inv (U w) (bands w) (s w .args .count) (input w) (room w) (l′ e) (r′ e) (full e) (a e .moved .result) k) (sym (add-one (i w)))
+    subst (λ (j : ℕ). Inv (U v) (bands v) (s v .args .count) (input v) (room v) (l′ q) (r′ q) (full p) (a q .moved .result) j) (sym (add-one (i v)))
     (record {
-      most = omega (arith, below w);
-      left-size = h e .channel-sound .ensures .size;
-      right-size = e .channel-sound2 .ensures .size;
-      unit = ap (λ (v : Level). unitWith v (bands w) (l′ e) (r′ e)) (level-is (a e)) ∙ unit-next e;
-      bytes = bytes-next e;
+      most = omega (arith, below v);
+      left-size = h q .channel-mix .ensures .size;
+      right-size = q .channel-mix2 .ensures .size;
+      unit = ap (λ (x : Level). unitWith x (bands v) (l′ q) (r′ q)) (level-is (a q)) ∙ unit-next q;
+      bytes = bytes-next p;
     })
   where
-    e : lts.After-channel-sound2 (moved-reads.Asked, moved-reads.Learnt, channel-sound-reads.Asked, channel-sound-reads.Learnt) reads.Pre reads.Post Inv-loop μ-loop
-    e = c .before .before
+    p : lts.After-put-sound2 (moved-reads.Asked, moved-reads.Learnt, channel-mix-reads.Asked, channel-mix-reads.Learnt, put-sound-reads.Asked, put-sound-reads.Learnt) reads.Pre reads.Post Inv-loop μ-loop
+    p = c .before .before
 
-    w : lts.In-loop (moved-reads.Asked, moved-reads.Learnt, channel-sound-reads.Asked, channel-sound-reads.Learnt) reads.Pre reads.Post Inv-loop μ-loop
-    w = b e
+    q : lts.After-channel-mix2 (moved-reads.Asked, moved-reads.Learnt, channel-mix-reads.Asked, channel-mix-reads.Learnt, put-sound-reads.Asked, put-sound-reads.Learnt) reads.Pre reads.Post Inv-loop μ-loop
+    q = k p
+
+    v : lts.In-loop (moved-reads.Asked, moved-reads.Learnt, channel-mix-reads.Asked, channel-mix-reads.Learnt, put-sound-reads.Asked, put-sound-reads.Learnt) reads.Pre reads.Post Inv-loop μ-loop
+    v = w p
 
 -- ---- after the last frame
 
-module _ (c : lts.After-loop (moved-reads.Asked, moved-reads.Learnt, channel-sound-reads.Asked, channel-sound-reads.Learnt) reads.Pre reads.Post Inv-loop μ-loop) where
-  abbrev start : lts.Start (moved-reads.Asked, moved-reads.Learnt, channel-sound-reads.Asked, channel-sound-reads.Learnt) reads.Pre reads.Post Inv-loop μ-loop
+module _ (c : lts.After-loop (moved-reads.Asked, moved-reads.Learnt, channel-mix-reads.Asked, channel-mix-reads.Learnt, put-sound-reads.Asked, put-sound-reads.Learnt) reads.Pre reads.Post Inv-loop μ-loop) where
+  abbrev start : lts.Start (moved-reads.Asked, moved-reads.Learnt, channel-mix-reads.Asked, channel-mix-reads.Learnt, put-sound-reads.Asked, put-sound-reads.Learnt) reads.Pre reads.Post Inv-loop μ-loop
   start = c .before .before .before .before
 
   all : c .before .loop .i ≡ start .args .count
@@ -290,11 +346,16 @@ frames-spec =
     μ-loop
     loop-holds
     moved-requires
-    mul-channel-sound
-    channel-sound-requires
-    mul-channel-sound-2
-    add-channel-sound
-    channel-sound-requires-2
+    mul-channel-mix
+    channel-mix-requires
+    mul-channel-mix-2
+    add-channel-mix
+    channel-mix-requires-2
+    mul-put-sound
+    put-sound-requires
+    mul-put-sound-2
+    add-put-sound
+    put-sound-requires-2
     add-i
     loop-less
     loop-again

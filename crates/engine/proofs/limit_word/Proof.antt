@@ -49,8 +49,8 @@ returns-2 : tie.Need-returns-2
 unfolding marked
 returns-2 c = (
   toZ-ofZ {w = w64} (record { sfits = c .saturate .ok })
-  ∙ c .saturate .ensures
-  ∙ ap (limit wordLow wordHigh) (toZ-ofZ (c .before .before .before .fits .rounded)),
+      ∙ c .saturate .ensures
+      ∙ ap (limit wordLow wordHigh) (toZ-ofZ (c .before .before .before .fits .rounded)),
   sym (ap (λ (t : Bool). marked (not t) (now (c .before .before .before .args .channel))) (word-is (c .before .before) ∙ c .before .if1 .left)),
 )
 

@@ -255,9 +255,9 @@ unfolding sectionFrame worked
 returns c = (
   result product (Gain (late c)) (Result (late c)) tt .held .reads,
   c .before .before .put-section .ensures
-  ∙ ap₂ (λ (m : List ℤ) (z : BandSection). putSection m (b (o (late c))) z)
-  (late c .limit-word .ensures .1 ∙ ap (λ (z : ℤ). marked (not (isWord z)) (l (o (late c)))) (rounded-reads (late c)))
-  (stored-is (late c)),
+      ∙ ap₂ (λ (m : List ℤ) (z : BandSection). putSection m (b (o (late c))) z)
+      (late c .limit-word .ensures .1 ∙ ap (λ (z : ℤ). marked (not (isWord z)) (l (o (late c)))) (rounded-reads (late c)))
+      (stored-is (late c)),
 )
 
 pub turn-spec : {M : Type 1} → statement M
