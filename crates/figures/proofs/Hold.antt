@@ -6,8 +6,10 @@ use Rattle.bands.specs.Bands.{alphaAccepted, betaAccepted, gammaAccepted, bandV
 use Rattle.bands.specs.House.{houseSet}
 use Rattle.section.specs.Equation.{exactSum, worked}
 use Rattle.section.specs.Step.{allWords, stepVerdict, advanced, stepped}
+use Rattle.levels.specs.Levels.{ramp}
+use Rattle.unit.specs.Frame.{sectionFrame, channelFrame, exactMix, mix, output, unitFrame}
 use Rattle.figures.specs.Figures.{Figure, starred}
 
 pub starred-hold : map (λ (f : Figure). f .given) starred ≡ map (λ (f : Figure). f .printed) starred
-unfolding starred houseSet stepped advanced stepVerdict allWords bandVerdict alphaAccepted betaAccepted gammaAccepted exactSum worked nearest taken goesUp odd rest floor limit within
+unfolding starred houseSet stepped advanced stepVerdict allWords bandVerdict alphaAccepted betaAccepted gammaAccepted exactSum worked nearest taken goesUp odd rest floor limit within ramp sectionFrame channelFrame exactMix mix output unitFrame
 starred-hold = refl

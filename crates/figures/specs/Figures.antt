@@ -8,6 +8,9 @@ use Rattle.bands.specs.House.{houseSet}
 use Rattle.section.specs.Equation.{sumShift, flag, worked}
 use Rattle.section.specs.Step.{clearedSection, stepped}
 use Rattle.section.specs.declared.Section.{Section}
+use Rattle.unit.specs.declared.Unit.{Unit}
+use Rattle.unit.specs.Cleared.{clearedChannel, bandsOf}
+use Rattle.unit.specs.Frame.{unitFrame, heard}
 
 pub record Figure : Type 0 where
   pub given : ℤ
@@ -34,6 +37,15 @@ after (x ∷ earlier) = stepped (after earlier) x .section
 abbrev last : List ℤ → ℤ
 last earlier = after earlier .y1
 
+-- a cleared unit of one channel with the house set, its volume at v
+abbrev unitAt : ℤ → Unit
+unitAt v =
+    record { volume = record { present = v; target = v }; bands = bandsOf houseSet; channels = clearedChannel ∷ [] }
+
+-- what is heard of it on the sample s
+abbrev soundAt : ℤ → ℤ → ℤ
+soundAt v s = getD (heard (unitFrame ((pos 256 *ℤ s) ∷ []) (unitAt v))) 0 (pos 0)
+
 unfoldable pub starred : List Figure
 starred =
     -- "S = 2,097,152 gives 0; 2,097,153 gives 1; 6,291,456 gives 2; -2,097,152 gives 0; -6,291,456 gives -2"
@@ -51,6 +63,9 @@ starred =
     ∷ (last (pos 256000 ∷ []) is pos 403)
     ∷ (last (pos 256000 ∷ pos 256000 ∷ []) is pos 1208)
     ∷ (last (pos 0 ∷ pos 256000 ∷ pos 256000 ∷ []) is pos 1607)
+    -- "V = 419, gains 0, s = 32,767: output 2. V = 0: output 0"
+    ∷ (soundAt (pos 419) (pos 32767) is pos 2)
+    ∷ (soundAt (pos 0) (pos 32767) is pos 0)
     -- "The first two bands are 6,606, 4,181,093, 8,375,315 (31 Hz) and 13,191, 4,167,923, 8,361,900 (62 Hz)"
     ∷ (getD houseSet 0 (pos 0) is pos 6606)
     ∷ (getD houseSet 1 (pos 0) is pos 4181093)
