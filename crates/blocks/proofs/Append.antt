@@ -1,23 +1,23 @@
 -- A block of a ++ b is the block of a and then the block of b; and a fit unit stays fit.
 use mathlib.Core.Path.{_≡_, refl, sym, ap, ap₂, _∙_}
 use mathlib.Core.Bool.{Bool, true, false, cond}
-use mathlib.Core.List.{List, [], _∷_, _++_, append-assoc, append-nil}
+use mathlib.Core.List.{List, _∷_, _++_, append-assoc, append-nil}
 use Prim.Native.Nat.{ℕ, zero, suc, _+_, _*_, _/_, _%_, _≤_, _<_}
 use native.Mathlib.Nat.{div-add-mod', mod-lt}
 use native.Mathlib.Omega.{arith}
 use lib.Dec.{lit≤}
 use lib.IntN.{ℤ, pos, _*ℤ_}
-use lib.ListN.{length, getD, drop, length-append, List·getD-append}
+use lib.ListN.{length, drop, length-append, List·getD-append}
 use lib.Seq.{getD-append-add, drop-append-add, drop-length}
 use borrow.Author.Tests.{eq-eqb, le-leb}
 use Rattle.refusals.specs.Numbers.{isAccepted}
 use Rattle.unit.specs.declared.Unit.{Unit}
 use Rattle.unit.specs.Frame.{unitFrame, heard}
-use Rattle.unit.specs.Fit.{Fit, unitFits}
+use Rattle.unit.specs.Fit.{Fit}
 use Rattle.unit.proofs.Fitness.{test-of-fit}
-use Rattle.blocks.specs.Bytes.{sampleAt, wordAt, wordsAt, frameSize, bytesOf}
+use Rattle.blocks.specs.Bytes.{sampleAt, wordsAt, frameSize, bytesOf}
 use Rattle.blocks.specs.Block.{blockVerdict, played, sound, frameCount, blockPlayed, blockOutput}
-use Rattle.blocks.proofs.Block.{Accepts, block-accepted, played-fit, four-a-frame}
+use Rattle.blocks.proofs.Block.{Accepts, played-fit, four-a-frame}
 
 -- ---- the input words of a ++ b
 

@@ -1,18 +1,15 @@
 -- After the turns of all ten sections, and with x and x1 moved on, the numbers are those of the channel after its frame.
 use mathlib.Core.Path.{_≡_, refl, sym, _∙_, subst}
 use mathlib.Core.List.{List}
-use Prim.Native.Nat.{ℕ, zero, suc, _+_, _*_, _^_, _≤_, _<_}
+use Prim.Native.Nat.{ℕ, _+_, _*_, _^_, _≤_, _<_}
 use native.Mathlib.Omega.{arith}
-use native.Mathlib.Nat.{le-trans, mul-le-mul-right}
-use lib.Dec.{lit≤}
+use native.Mathlib.Nat.{le-trans}
 use lib.IntN.{ℤ, pos, natAbs, _+ℤ_, _*ℤ_}
-use lib.ListN.{length, getD, set, length-set, length-append}
+use lib.ListN.{getD, set, length-set}
 use lib.Seq.{getD-set-same, getD-set-other}
 use Rattle.bands.specs.Words.{wordSize}
 use Rattle.bands.specs.Bands.{bandAt}
-use Rattle.bands.proofs.Laws.{word-size}
-use Rattle.unit.specs.declared.BandSection.{BandSection}
-use Rattle.unit.specs.Lists.{tabulate, Each}
+use Rattle.unit.specs.Lists.{tabulate}
 use Rattle.unit.specs.Cleared.{bandCount, bandsOf}
 use Rattle.unit.specs.Frame.{sumOf, channelFrame, exactMix}
 use Rattle.unit.specs.Fit.{SectionFit, BandFit}
@@ -21,7 +18,7 @@ use Rattle.unit.proofs.Mix.{shareSize, share-size, exact-size}
 use Rattle.unit.proofs.Stays.{section-stays}
 use Rattle.unit.proofs.Ranges.{input-size}
 use Rattle.engine.specs.Numbers.{place, sectionAt, channelOf, Turns, Frames}
-use Rattle.engine.proofs.Numbers.{Progress, sectionOf, limitOf, shareOf}
+use Rattle.engine.proofs.Numbers.{Progress, sectionOf, shareOf}
 
 module _ (bands l : List ℤ) (x : ℤ) (f : Frames bands l x) where
   -- the input of two frames ago

@@ -1,14 +1,12 @@
 -- A channel as flat numbers, in the order of the strip sheet: x1, x2, flag, then y1, y2, gain and target of each section. Definitions only.
 use mathlib.Core.Path.{_≡_}
-use mathlib.Core.Bool.{Bool, true}
+use mathlib.Core.Bool.{Bool}
 use mathlib.Core.List.{List}
 use Prim.Native.Nat.{ℕ, _+_, _*_, _≤_, _<_}
 use lib.IntN.{ℤ, pos, natAbs}
 use lib.ListN.{length, getD, set}
 use Rattle.bands.specs.Words.{wordSize}
 use Rattle.bands.specs.Bands.{bandAt}
-use Rattle.bands.specs.declared.Band.{Band}
-use Rattle.levels.specs.declared.Level.{Level}
 use Rattle.unit.specs.declared.BandSection.{BandSection}
 use Rattle.unit.specs.declared.Channel.{Channel}
 use Rattle.unit.specs.Lists.{tabulate, Each}

@@ -1,6 +1,6 @@
--- What an accepted answer tells of the tests that led to it, and how large a refusal's number is.
-use mathlib.Core.Path.{_≡_, refl, sym, _∙_, subst}
-use mathlib.Core.Bool.{Bool, true, false}
+-- What an accepted answer tells of the tests that led to it, how large a refusal's number is, and what a test chooses.
+use mathlib.Core.Path.{_≡_, refl, sym, ap, _∙_, subst}
+use mathlib.Core.Bool.{Bool, true, false, cond}
 use Prim.Native.Nat.{_≤_}
 use lib.Dec.{T, lit≤}
 use Rattle.refusals.specs.Numbers.{numberOf, isAccepted, unless}
@@ -23,3 +23,11 @@ number-small Beta = lit≤ tt
 number-small Gamma = lit≤ tt
 number-small Unfit = lit≤ tt
 number-small NotWord = lit≤ tt
+
+-- what a test chooses, where it passed and where it did not
+module _ {A : Type 0} (t : Bool) (x y : A) where
+  pub passed : t ≡ true → x ≡ cond t x y
+  passed e = ap (λ (b : Bool). cond b x y) (sym e)
+
+  pub failed : t ≡ false → y ≡ cond t x y
+  failed e = ap (λ (b : Bool). cond b x y) (sym e)

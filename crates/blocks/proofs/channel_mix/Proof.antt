@@ -1,30 +1,25 @@
 -- `blocks::channel_mix` meets its contract: 256 × the sample is an input word, and the frame's m is small.
-use mathlib.Core.Path.{_≡_, refl, sym, ap, ap₂, _∙_, subst}
+use mathlib.Core.Path.{_≡_, sym, ap, _∙_, subst}
 use mathlib.Core.List.{List}
-use Prim.Native.Nat.{ℕ, _+_, _≤_}
+use Prim.Native.Nat.{_≤_}
 use native.Mathlib.Nat.{le-trans}
 use lib.Dec.{lit≤}
 use lib.IntN.{ℤ, pos, natAbs, _*ℤ_}
-use lib.ListN.{length}
-use lib.Signed.{_≤ℤ_, leZ-yes}
 use denote.Ref.{now}
 use mir.Syntax.{w64}
 use mir.Val.{SFits, toZ, ofZ}
 use mir.Facts.{toZ-ofZ}
 use Rattle.integers.proofs.Machine.{Num, literal, below-fits, binary, binary-need}
-use Rattle.rounding.specs.Rounding.{limit}
-use Rattle.rounding.proofs.Limit.{limit-low, limit-high}
 use Rattle.bands.specs.Words.{wordSize}
 use Rattle.unit.specs.declared.Channel.{Channel}
 use Rattle.unit.specs.Cleared.{bandsOf}
-use Rattle.unit.specs.Frame.{channelFrame, mix, output, sampleLow, sampleHigh}
+use Rattle.unit.specs.Frame.{channelFrame, mix}
 use Rattle.unit.specs.Fit.{ChannelFit}
 use Rattle.unit.proofs.Ranges.{input-size}
 use Rattle.unit.proofs.Mix.{mix-size}
 use Rattle.unit.proofs.Stays.{channel-stays}
 use Rattle.engine.specs.Numbers.{channelOf, mixSize, Frames}
 use Rattle.blocks.specs.Bytes.{sampleAt, wordAt}
-use Rattle.blocks.specs.Run.{putSample}
 use Rattle.blocks.proofs.Bytes.{word-input}
 use borrow.Author.Needs.{needs}
 use Rattle.blocks.proofs.channel_mix.Statement.{statement}

@@ -1,15 +1,10 @@
 -- `blocks::check_block` meets its contract: the unit first, then the lengths.
-use mathlib.Core.Path.{_≡_, sym, _∙_}
-use mathlib.Core.Bool.{true, false}
-use lib.Dec.{eqb, leb}
+use mathlib.Core.Path.{sym, _∙_}
 use borrow.Author.Tests.{not-true, not-false, eq-eqb, ne-eqb, le-leb, lt-leb}
 use Rattle.blocks.specs.Block.{blockVerdict}
 use borrow.Author.Needs.{needs}
 use Rattle.blocks.proofs.check_block.Statement.{statement}
 use Rattle.blocks.proofs.check_block.Tie as tie
-use Rattle.blocks.proofs.check_block.Reads as reads
-use Rattle.blocks.proofs.check_block.Lts as lts
-use Rattle.fitness.proofs.is_fit.Reads as is-fit-reads
 
 is-fit-requires : tie.Need-is-fit-requires
 is-fit-requires c κs = search needs

@@ -18,14 +18,11 @@ use Rattle.bands.specs.Words.{wordSize}
 use Rattle.levels.specs.declared.Level.{Level}
 use Rattle.levels.specs.Levels.{volumeSlope, moved, Ramped}
 use Rattle.unit.specs.declared.Unit.{Unit}
-use Rattle.unit.specs.declared.Channel.{Channel}
-use Rattle.unit.specs.Cleared.{bandsOf}
-use Rattle.unit.specs.Frame.{channelFrame, mix, output}
+use Rattle.unit.specs.Frame.{mix, output}
 use Rattle.unit.specs.Fit.{Fit}
 use Rattle.unit.proofs.Ranges.{volume-size}
 use Rattle.unit.proofs.Stays.{volume-stays}
 use Rattle.engine.specs.Numbers.{channelSize, channelOf, mixSize, Sounds}
-use Rattle.blocks.specs.Bytes.{wordAt}
 use Rattle.blocks.specs.Block.{played, sound}
 use Rattle.blocks.specs.Run.{putSample, Mixes, unitWith}
 use Rattle.blocks.proofs.Block.{played-fit, sound-length, unit-more, bytes-more}

@@ -1,11 +1,12 @@
 -- `blocks::play` meets its contract: an accepted block is run, any other hands unit and output back.
 use mathlib.Core.Path.{_≡_, sym, ap, _∙_}
-use mathlib.Core.Bool.{Bool, true, false, cond}
+use mathlib.Core.Bool.{true, false}
 use mathlib.Core.List.{List, _++_}
 use Prim.Native.Nat.{ℕ}
 use lib.ListN.{length, drop}
 use denote.Ref.{now}
 use borrow.Author.Needs.{needs}
+use Rattle.refusals.proofs.Laws.{passed, failed}
 use Rattle.refusals.specs.Numbers.{isAccepted}
 use Rattle.refusals.specs.declared.Verdict.{Verdict}
 use Rattle.unit.specs.declared.Unit.{Unit}
@@ -17,13 +18,6 @@ use Rattle.blocks.proofs.play.Lts as lts
 use Rattle.blocks.proofs.check_block.Reads as check-block-reads
 use Rattle.blocks.proofs.run.Reads as run-reads
 use Rattle.refusals.proofs.accepted.Reads as accepted-reads
-
--- a test that passed, and one that did not
-passed : {A : Type 0} (t : Bool) (x y : A) → t ≡ true → x ≡ cond t x y
-passed t x y e = ap (λ (b : Bool). cond b x y) (sym e)
-
-failed : {A : Type 0} (t : Bool) (x y : A) → t ≡ false → y ≡ cond t x y
-failed t x y e = ap (λ (b : Bool). cond b x y) (sym e)
 
 module _ (c : lts.After-accepted (check-block-reads.Asked, check-block-reads.Learnt, accepted-reads.Asked, accepted-reads.Learnt, run-reads.Asked, run-reads.Learnt) reads.Pre reads.Post) where
   abbrev s : lts.Start (check-block-reads.Asked, check-block-reads.Learnt, accepted-reads.Asked, accepted-reads.Learnt, run-reads.Asked, run-reads.Learnt) reads.Pre reads.Post

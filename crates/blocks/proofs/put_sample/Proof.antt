@@ -1,5 +1,5 @@
 -- `blocks::put_sample` meets its contract: s + 2^16 lies between 2^15 and 2^17.
-use mathlib.Core.Path.{_≡_, ap, _∙_, subst, sym}
+use mathlib.Core.Path.{ap, subst, sym}
 use Prim.Native.Nat.{ℕ, _+_, _/_, _%_}
 use native.Mathlib.Omega.{arith}
 use lib.Dec.{T}
@@ -10,7 +10,7 @@ use denote.Ref.{now}
 use mir.Syntax.{w32, w64}
 use mir.Val.{SFits, Fits}
 use Rattle.integers.proofs.Parts.{linear, var, _⊕_}
-use Rattle.integers.proofs.Abs.{abs-nonneg, abs-le}
+use Rattle.integers.proofs.Abs.{abs-le}
 use Rattle.integers.proofs.Machine.{Num, num, literal, binary, binary-need, range-fits}
 use Rattle.blocks.specs.Bytes.{bitsOf}
 use borrow.Author.Needs.{needs}

@@ -7,7 +7,6 @@ use borrow.Author.Needs.{needs}
 use mir.Syntax.{w64}
 use mir.Val.{toZ, ofZ}
 use mir.Facts.{toZ-ofZ}
-use Rattle.rounding.specs.Rounding.{nearest}
 use Rattle.rounding.proofs.Limit.{limit-low, limit-high}
 use Rattle.unit.specs.Frame.{output, sampleLow, sampleHigh}
 use Rattle.engine.specs.Numbers.{Sounds}

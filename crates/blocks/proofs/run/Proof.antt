@@ -1,5 +1,5 @@
 -- `blocks::run` meets its contract: the packed numbers stand for the unit, before the frames and after them.
-use mathlib.Core.Path.{_≡_, refl, sym, ap, _∙_, subst}
+use mathlib.Core.Path.{_≡_, sym, ap, _∙_, subst}
 use mathlib.Core.List.{List, [], _∷_, _++_}
 use Prim.Native.Nat.{ℕ, _*_, _/_}
 use native.Mathlib.Omega.{arith}
@@ -10,7 +10,6 @@ use Rattle.unit.specs.declared.Channel.{Channel}
 use Rattle.unit.specs.declared.Unit.{Unit}
 use Rattle.unit.specs.Fit.{Fit}
 use Rattle.unit.proofs.Tabulate.{tabulate-all}
-use Rattle.engine.specs.Numbers.{channelOf}
 use Rattle.blocks.specs.Block.{played, sound}
 use Rattle.blocks.specs.Run.{unitWith, unitOf}
 use Rattle.blocks.proofs.Block.{Accepts, block-accepted, four-a-frame}

@@ -7,17 +7,16 @@ use native.Mathlib.Nat.{le-trans}
 use native.Mathlib.Numerals.{add-one}
 use lib.Dec.{lit≤}
 use lib.IntN.{ℤ, pos, natAbs, _+ℤ_, _*ℤ_}
-use lib.ListN.{length, getD, set, length-set}
+use lib.ListN.{getD, set, length-set}
 use denote.Ref.{now}
 use borrow.Author.Needs.{needs}
 use mir.Syntax.{w64}
 use mir.Val.{SFits, toZ, ofZ}
 use mir.Facts.{toZ-ofZ}
 use Rattle.integers.proofs.Parts.{terms-eq, var, _⊕_}
-use Rattle.integers.proofs.Machine.{Num, Bounded, num, literal, below-fits, binary, binary-need, product, result, result-need, reads-back}
+use Rattle.integers.proofs.Machine.{Num, Bounded, literal, below-fits, binary, binary-need, product, result, result-need}
 use Rattle.rounding.specs.Rounding.{nearest}
 use Rattle.bands.specs.Words.{wordSize}
-use Rattle.unit.specs.declared.Channel.{Channel}
 use Rattle.unit.specs.Lists.{tabulate}
 use Rattle.unit.specs.Cleared.{bandCount, bandsOf}
 use Rattle.unit.specs.Frame.{share, sumOf, channelFrame, mix}

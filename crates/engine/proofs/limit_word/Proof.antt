@@ -1,6 +1,6 @@
 -- `engine::limit_word` meets its contract: a word is left as it is and the flag with it, and anything else is limited and raises the flag.
 use mathlib.Core.Path.{_≡_, sym, ap, _∙_}
-use mathlib.Core.Bool.{Bool, true, false, not}
+use mathlib.Core.Bool.{Bool, true, not}
 use lib.IntN.{ℤ, pos}
 use lib.Seq.{set-getD}
 use denote.Ref.{now}

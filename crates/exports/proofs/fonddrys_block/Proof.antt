@@ -1,12 +1,13 @@
 -- `exports::fonddrys_block` meets its contract: the lent numbers stand for the unit that is played, and are replaced where the block is accepted.
 use mathlib.Core.Path.{_≡_, sym, ap, _∙_, subst}
-use mathlib.Core.Bool.{Bool, true, false, cond}
+use mathlib.Core.Bool.{true}
 use mathlib.Core.List.{List}
 use Prim.Native.Nat.{ℕ}
 use lib.IntN.{ℤ}
 use lib.ListN.{length}
 use denote.Ref.{now}
 use borrow.Author.Tests.{not-true, not-false}
+use Rattle.refusals.proofs.Laws.{passed, failed}
 use Rattle.refusals.specs.Numbers.{numberOf, isAccepted}
 use Rattle.unit.specs.declared.Unit.{Unit}
 use Rattle.unit.specs.Fit.{Fit}
@@ -15,7 +16,6 @@ use Rattle.blocks.specs.Block.{blockPlayed, blockOutput}
 use Rattle.blocks.proofs.Block.{block-accepted}
 use Rattle.blocks.proofs.Append.{block-fit}
 use Rattle.numbers.specs.Layout.{unitOf, numbersOf as unitNumbers}
-use Rattle.exports.specs.Layout.{numbersAfter}
 use borrow.Author.Needs.{needs}
 use Rattle.exports.proofs.fonddrys_block.Statement.{statement}
 use Rattle.exports.proofs.fonddrys_block.Tie as tie
@@ -65,13 +65,6 @@ module _ (c : lts.After-accepted (unit-of-reads.Asked, unit-of-reads.Learnt, pla
 
   accepted-is : isAccepted (answer p .verdict) ≡ c .accepted .result
   accepted-is = sym (c .accepted .ensures ∙ ap (λ (r : Played). isAccepted (r .verdict)) (answer-is p))
-
--- a test that passed, and one that did not
-passed : {A : Type 0} (t : Bool) (x y : A) → t ≡ true → x ≡ cond t x y
-passed t x y e = ap (λ (b : Bool). cond b x y) (sym e)
-
-failed : {A : Type 0} (t : Bool) (x y : A) → t ≡ false → y ≡ cond t x y
-failed t x y e = ap (λ (b : Bool). cond b x y) (sym e)
 
 unit-of-requires : tie.Need-unit-of-requires
 unit-of-requires c κs = search needs

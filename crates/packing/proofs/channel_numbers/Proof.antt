@@ -8,9 +8,6 @@ use Rattle.integers.proofs.Machine.{reads-back}
 use Rattle.unit.specs.declared.Channel.{Channel}
 use Rattle.packing.proofs.channel_numbers.Statement.{statement}
 use Rattle.packing.proofs.channel_numbers.Tie as tie
-use Rattle.packing.proofs.channel_numbers.Reads as reads
-use Rattle.packing.proofs.channel_numbers.Lts as lts
-use Rattle.packing.proofs.put_sections.Reads as put-sections-reads
 
 array-set-from-numbers : tie.Need-array-set-from-numbers
 array-set-from-numbers c = search needs

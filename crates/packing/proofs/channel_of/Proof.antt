@@ -1,5 +1,5 @@
 -- `packing::channel_of` meets its contract. The loop's invariant: the sections below b are those of the numbers.
-use mathlib.Core.Path.{_≡_, refl, sym, _∙_, subst}
+use mathlib.Core.Path.{_≡_, sym, _∙_, subst}
 use Prim.Native.Nat.{ℕ, _+_, _-_, _≤_}
 use lib.ListN.{length, getD, take, set, length-set}
 use lib.Seq.{take-all}
