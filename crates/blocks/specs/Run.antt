@@ -43,6 +43,7 @@ abbrev pub unitWith : Level → List ℤ → List ℤ → List ℤ → Unit
 unitWith volume bands left right =
     record { volume = volume; bands = bandsOf bands; channels = channelOf left ∷ channelOf right ∷ [] }
 
+-- what playing so many frames asks: a fit unit, and bytes enough
 pub record Plays (volume : Level) (bands left right : List ℤ) (frames : ℕ) (input room : List ℕ) : Type 0 where
   pub left-size : length left ≡ channelSize
   pub right-size : length right ≡ channelSize
@@ -50,15 +51,18 @@ pub record Plays (volume : Level) (bands left right : List ℤ) (frames : ℕ) (
   pub input-has : 4 * frames ≤ length input
   pub room-has : 4 * frames ≤ length room
 
+-- what it gives: the numbers of the unit after them, and their sound, with the bytes beyond as they were
 pub record Ran (volume : Level) (bands left right : List ℤ) (frames : ℕ) (input room : List ℕ) (volume' : Level) (left' right' : List ℤ) (filled : List ℕ) : Type 0 where
   pub unit : unitWith volume' bands left' right' ≡ played 2 (unitWith volume bands left right) input frames
   pub bytes : filled ≡ sound 2 (unitWith volume bands left right) input frames ++ drop (4 * frames) room
 
 -- ---- an accepted block
 
+-- a unit by its parts
 abbrev pub unitOf : Level → List Band → List Channel → Unit
 unitOf volume bands channels = record { volume = volume; bands = bands; channels = channels }
 
+-- the unit after all frames, and the output
 pub record AllPlayed (u : Unit) (input room : List ℕ) (after : Unit) (filled : List ℕ) : Type 0 where
   pub unit : after ≡ played 2 u input (frameCount 2 u input)
   pub bytes : filled ≡ sound 2 u input (frameCount 2 u input) ++ drop (length input) room

@@ -23,71 +23,23 @@ pub struct Played {
     pub unit: Unit,
 }
 
-// The sample in the two bytes at `at`.
-fn sample(input: &[u8], at: usize) -> i64
-    requires { ⌜ at + 1 < length (now input) ⌝ }
-    ensures { λ r. ⌜ r ≡ sampleAt (now (input .entry)) at ⌝ }
+// Plays a block of frames: 14 for an unfit unit ahead of all, then 5 and 6. Refused, unit and output are unchanged. Accepted, the
+// output begins with the frames, and the bytes beyond them keep their contents.
+pub fn play(unit: Unit, input: &[u8], output: &mut [u8]) -> Played
+    ensures { λ r. ⌜ (r ≡ blockPlayed 2 unit (now (input .entry)) (length (now (output .entry)))) × (now (output .exit) ≡ blockOutput 2 unit (now (input .entry)) (now (output .entry))) ⌝ }
 {
-    let bits = input[at] as u32 + 256 * (input[at + 1] as u32);
-    if bits < 32768 {
-        return bits as i64;
+    let verdict = check_block(unit, input.len(), output.len());
+    if refusals::accepted(verdict) {
+        let volume = unit.volume;
+        let bands = unit.bands;
+        let channels = unit.channels;
+        let after = run(volume, bands, channels, input, output);
+        return Played {
+            verdict,
+            unit: after,
+        };
     }
-    bits as i64 - 65536
-}
-
-// Stores a sample in the two bytes at `at`.
-fn put_sample(output: &mut [u8], at: usize, sample: i64)
-    requires { ⌜ (at + 1 < length (now output)) × (sampleLow ≤ℤ sample) × (sample ≤ℤ sampleHigh) ⌝ }
-    ensures { λ r. ⌜ now (output .exit) ≡ putSample (now (output .entry)) at sample ⌝ }
-{
-    let bits = (sample + 65536) as u32;
-    output[at] = (bits % 256) as u8;
-    output[at + 1] = (bits / 256 % 256) as u8;
-}
-
-// A channel's frame on its sample at `at` of the input. Gives m.
-fn channel_mix(bands: &[i64; 30], channel: &mut [i64; 43], input: &[u8], at: usize) -> i64
-    requires { ⌜ Mixes (now bands) (now channel) (now input) at ⌝ }
-    ensures { λ r. ⌜ Mixed (now (bands .entry)) (now (channel .entry)) (now (input .entry)) at (now (channel .exit)) r ⌝ }
-{
-    let x = 256 * sample(input, at);
-    engine::channel_frame(bands, channel, x)
-}
-
-// What is heard of m at this volume, stored at `at` of the output.
-fn put_sound(output: &mut [u8], at: usize, volume: i64, m: i64)
-    requires { ⌜ Sounds volume m × (at + 1 < length (now output)) ⌝ }
-    ensures { λ r. ⌜ now (output .exit) ≡ putSample (now (output .entry)) at (outputOf volume m) ⌝ }
-{
-    let heard = engine::sound(volume, m);
-    put_sample(output, at, heard);
-}
-
-// So many frames, from the front of the input to the front of the output. In each the volume moves first. Gives the volume after them.
-fn frames(
-    bands: &[i64; 30],
-    left: &mut [i64; 43],
-    right: &mut [i64; 43],
-    volume: Level,
-    count: usize,
-    input: &[u8],
-    output: &mut [u8],
-) -> Level
-    requires { ⌜ Plays volume (now bands) (now left) (now right) count (now input) (now output) ⌝ }
-    ensures { λ r. ⌜ Ran volume (now (bands .entry)) (now (left .entry)) (now (right .entry)) count (now (input .entry)) (now (output .entry)) r (now (left .exit)) (now (right .exit)) (now (output .exit)) ⌝ }
-{
-    let mut level = volume;
-    let mut i = 0;
-    while i < count {
-        level = level.moved(levels::VOLUME_SLOPE);
-        let present = level.present;
-        let left_mix = channel_mix(bands, left, input, 4 * i);
-        let right_mix = channel_mix(bands, right, input, 4 * i + 2);
-        put_sound(output, 4 * i, present, left_mix);
-        put_sound(output, 4 * i + 2, present, right_mix);
-        i += 1;
-    }
-    level
+    Played { verdict, unit }
 }
 
 // Accepted, or the first refusal that applies: an unfit unit, input bytes that are no multiple of four, an output shorter than the input.
@@ -141,21 +93,69 @@ fn run(
     }
 }
 
-// Plays a block of frames: 14 for an unfit unit ahead of all, then 5 and 6. Refused, unit and output are unchanged. Accepted, the
-// output begins with the frames, and the bytes beyond them keep their contents.
-pub fn play(unit: Unit, input: &[u8], output: &mut [u8]) -> Played
-    ensures { λ r. ⌜ (r ≡ blockPlayed 2 unit (now (input .entry)) (length (now (output .entry)))) × (now (output .exit) ≡ blockOutput 2 unit (now (input .entry)) (now (output .entry))) ⌝ }
+// So many frames, from the front of the input to the front of the output. In each the volume moves first. Gives the volume after them.
+fn frames(
+    bands: &[i64; 30],
+    left: &mut [i64; 43],
+    right: &mut [i64; 43],
+    volume: Level,
+    count: usize,
+    input: &[u8],
+    output: &mut [u8],
+) -> Level
+    requires { ⌜ Plays volume (now bands) (now left) (now right) count (now input) (now output) ⌝ }
+    ensures { λ r. ⌜ Ran volume (now (bands .entry)) (now (left .entry)) (now (right .entry)) count (now (input .entry)) (now (output .entry)) r (now (left .exit)) (now (right .exit)) (now (output .exit)) ⌝ }
 {
-    let verdict = check_block(unit, input.len(), output.len());
-    if refusals::accepted(verdict) {
-        let volume = unit.volume;
-        let bands = unit.bands;
-        let channels = unit.channels;
-        let after = run(volume, bands, channels, input, output);
-        return Played {
-            verdict,
-            unit: after,
-        };
+    let mut level = volume;
+    let mut i = 0;
+    while i < count {
+        level = level.moved(levels::VOLUME_SLOPE);
+        let present = level.present;
+        let left_mix = channel_mix(bands, left, input, 4 * i);
+        let right_mix = channel_mix(bands, right, input, 4 * i + 2);
+        put_sound(output, 4 * i, present, left_mix);
+        put_sound(output, 4 * i + 2, present, right_mix);
+        i += 1;
     }
-    Played { verdict, unit }
+    level
+}
+
+// A channel's frame on its sample at `at` of the input. Gives m.
+fn channel_mix(bands: &[i64; 30], channel: &mut [i64; 43], input: &[u8], at: usize) -> i64
+    requires { ⌜ Mixes (now bands) (now channel) (now input) at ⌝ }
+    ensures { λ r. ⌜ Mixed (now (bands .entry)) (now (channel .entry)) (now (input .entry)) at (now (channel .exit)) r ⌝ }
+{
+    let x = 256 * sample(input, at);
+    engine::channel_frame(bands, channel, x)
+}
+
+// What is heard of m at this volume, stored at `at` of the output.
+fn put_sound(output: &mut [u8], at: usize, volume: i64, m: i64)
+    requires { ⌜ Sounds volume m × (at + 1 < length (now output)) ⌝ }
+    ensures { λ r. ⌜ now (output .exit) ≡ putSample (now (output .entry)) at (outputOf volume m) ⌝ }
+{
+    let heard = engine::sound(volume, m);
+    put_sample(output, at, heard);
+}
+
+// The sample in the two bytes at `at`.
+fn sample(input: &[u8], at: usize) -> i64
+    requires { ⌜ at + 1 < length (now input) ⌝ }
+    ensures { λ r. ⌜ r ≡ sampleAt (now (input .entry)) at ⌝ }
+{
+    let bits = input[at] as u32 + 256 * (input[at + 1] as u32);
+    if bits < 32768 {
+        return bits as i64;
+    }
+    bits as i64 - 65536
+}
+
+// Stores a sample in the two bytes at `at`.
+fn put_sample(output: &mut [u8], at: usize, sample: i64)
+    requires { ⌜ (at + 1 < length (now output)) × (sampleLow ≤ℤ sample) × (sample ≤ℤ sampleHigh) ⌝ }
+    ensures { λ r. ⌜ now (output .exit) ≡ putSample (now (output .entry)) at sample ⌝ }
+{
+    let bits = (sample + 65536) as u32;
+    output[at] = (bits % 256) as u8;
+    output[at + 1] = (bits / 256 % 256) as u8;
 }
