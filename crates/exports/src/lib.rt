@@ -1,5 +1,5 @@
 // The static library: thin functions under C names, for tests, benchmarks and programs in other languages. Each promises what the
-// function that it calls promises; a lent array passes as a pointer to its first number.
+// function that it calls promises. A lent array passes as a pointer to its first number, a slice as a pointer and a length.
 ghost use mathlib.Core.Path.{_≡_};
 ghost use Rattle.rounding.specs.Rounding.{nearest, limit};
 ghost use Rattle.refusals.specs.Numbers.{numberOf};
