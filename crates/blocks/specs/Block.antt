@@ -13,11 +13,14 @@ use Rattle.unit.specs.Fit.{unitFits}
 use Rattle.blocks.specs.declared.Played.{Played}
 use Rattle.blocks.specs.Bytes.{wordsAt, frameSize, bytesOf}
 
--- "14 for an unfit unit" ahead of all; "5 input bytes no multiple of four; 6 output shorter than input"
+-- "5 input bytes no multiple of four; 6 output shorter than input": what a block is refused for, whatever the unit
+abbrev pub blockArguments : ℕ → ℕ → ℕ → Verdict
+blockArguments channels given room =
+    unless (eqb (given % frameSize channels) 0) InputLength (unless (leb given room) OutputShort Accepted)
+
+-- "Orders and blocks test the unit ahead of all else: an unfit one is 14"
 unfoldable pub blockVerdict : ℕ → Unit → ℕ → ℕ → Verdict
-blockVerdict channels u given room =
-    unless (unitFits u) Unfit
-    (unless (eqb (given % frameSize channels) 0) InputLength (unless (leb given room) OutputShort Accepted))
+blockVerdict channels u given room = unless (unitFits u) Unfit (blockArguments channels given room)
 
 module _ (channels : ℕ) (u : Unit) (input : List ℕ) where
   -- the unit after the first n frames of the input

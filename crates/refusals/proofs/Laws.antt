@@ -5,7 +5,7 @@ use Prim.Native.Nat.{_≤_}
 use lib.Dec.{T, lit≤}
 use Rattle.refusals.specs.Numbers.{numberOf, isAccepted, unless}
 use Rattle.refusals.specs.declared.Verdict.{Verdict}
-use Rattle.refusals.specs.declared.Verdict.the-variants.{Accepted, InputLength, OutputShort, SetLength, Alpha, Beta, Gamma, Unfit, NotWord}
+use Rattle.refusals.specs.declared.Verdict.the-variants.{Accepted, NoPlace, PositionOver, NotFinite, FactorRange, InputLength, OutputShort, SetLength, Alpha, Beta, Gamma, Unfit, NotWord}
 
 -- where the answer is accepted, the test passed and what follows it is accepted too
 pub unless-accepted : (t : Bool) (refusal next : Verdict) → (t ≡ false → isAccepted refusal ≡ false) → isAccepted (unless t refusal next) ≡ true → (t ≡ true) × (isAccepted next ≡ true)
@@ -15,6 +15,10 @@ unless-accepted false refusal next f e = absurd (subst T (sym (sym (f refl) ∙ 
 -- five bits hold every number
 pub number-small : (v : Verdict) → numberOf v ≤ 31
 number-small Accepted = lit≤ tt
+number-small NoPlace = lit≤ tt
+number-small PositionOver = lit≤ tt
+number-small NotFinite = lit≤ tt
+number-small FactorRange = lit≤ tt
 number-small InputLength = lit≤ tt
 number-small OutputShort = lit≤ tt
 number-small SetLength = lit≤ tt

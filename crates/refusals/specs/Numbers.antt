@@ -2,12 +2,16 @@
 use mathlib.Core.Bool.{Bool, true, false}
 use Prim.Native.Nat.{ℕ}
 use Rattle.refusals.specs.declared.Verdict.{Verdict}
-use Rattle.refusals.specs.declared.Verdict.the-variants.{Accepted, InputLength, OutputShort, SetLength, Alpha, Beta, Gamma, Unfit, NotWord}
+use Rattle.refusals.specs.declared.Verdict.the-variants.{Accepted, NoPlace, PositionOver, NotFinite, FactorRange, InputLength, OutputShort, SetLength, Alpha, Beta, Gamma, Unfit, NotWord}
 
--- "5 input bytes no multiple of four; 6 output shorter than input", "7 a set that isn't thirty numbers", "8 (A), 9 (B), 10 (G)", "an
--- unfit one is 14", and "15 where x or one of the four remembered numbers is no word"; 0 is no refusal
+-- "1 no such side and band; 2 position over 31; 3 factor not finite; 4 factor outside its range", "5 input bytes no multiple of four; 6
+-- output shorter than input", "7 a set that isn't thirty numbers", "8 (A), 9 (B), 10 (G)", "an unfit one is 14", and "15 where x or one of the four remembered numbers is no word"; 0 is no refusal
 abbrev pub numberOf : Verdict → ℕ
 numberOf Accepted = 0
+numberOf NoPlace = 1
+numberOf PositionOver = 2
+numberOf NotFinite = 3
+numberOf FactorRange = 4
 numberOf InputLength = 5
 numberOf OutputShort = 6
 numberOf SetLength = 7
@@ -19,6 +23,10 @@ numberOf NotWord = 15
 
 abbrev pub isAccepted : Verdict → Bool
 isAccepted Accepted = true
+isAccepted NoPlace = false
+isAccepted PositionOver = false
+isAccepted NotFinite = false
+isAccepted FactorRange = false
 isAccepted InputLength = false
 isAccepted OutputShort = false
 isAccepted SetLength = false

@@ -4,6 +4,11 @@ ghost use Rattle.refusals.specs.Numbers.{numberOf, isAccepted};
 
 pub enum Verdict {
     Accepted,
+    // The desk: no such side and band, a position over 31, a factor that is not finite, or one outside its range.
+    NoPlace,
+    PositionOver,
+    NotFinite,
+    FactorRange,
     // The transfer engineer: the input is no whole number of frames, or the output is shorter than the input.
     InputLength,
     OutputShort,
@@ -13,7 +18,7 @@ pub enum Verdict {
     Alpha,
     Beta,
     Gamma,
-    // Whoever plays a block: the unit is unfit.
+    // The desk, and whoever plays a block: the unit is unfit.
     Unfit,
     // Whoever steps a section alone: a number is no word.
     NotWord,
@@ -25,6 +30,10 @@ pub fn number(verdict: Verdict) -> u32
 {
     match verdict {
         Verdict::Accepted => 0,
+        Verdict::NoPlace => 1,
+        Verdict::PositionOver => 2,
+        Verdict::NotFinite => 3,
+        Verdict::FactorRange => 4,
         Verdict::InputLength => 5,
         Verdict::OutputShort => 6,
         Verdict::SetLength => 7,
@@ -42,6 +51,10 @@ pub fn accepted(verdict: Verdict) -> bool
 {
     match verdict {
         Verdict::Accepted => true,
+        Verdict::NoPlace => false,
+        Verdict::PositionOver => false,
+        Verdict::NotFinite => false,
+        Verdict::FactorRange => false,
         Verdict::InputLength => false,
         Verdict::OutputShort => false,
         Verdict::SetLength => false,

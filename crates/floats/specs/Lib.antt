@@ -1,0 +1,2 @@
+-- Floats.
+pub mod Value
