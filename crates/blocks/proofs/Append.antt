@@ -15,8 +15,8 @@ use Rattle.unit.specs.declared.Unit.{Unit}
 use Rattle.unit.specs.Frame.{unitFrame, heard}
 use Rattle.unit.specs.Fit.{Fit}
 use Rattle.unit.proofs.Fitness.{test-of-fit}
-use Rattle.blocks.specs.Bytes.{sampleAt, wordsAt, frameSize, bytesOf}
-use Rattle.blocks.specs.Block.{blockVerdict, played, sound, frameCount, blockPlayed, blockOutput}
+use Rattle.blocks.specs.Bytes.{sampleAt, wordsAt, frameSize, frameCount, bytesOf}
+use Rattle.blocks.specs.Block.{blockVerdict, played, sound, blockPlayed, blockOutput}
 use Rattle.blocks.proofs.Block.{Accepts, played-fit, four-a-frame}
 
 -- ---- the input words of a ++ b
@@ -98,31 +98,31 @@ module _ (channels : ℕ) (u : Unit) (a b : List ℕ) where
         one-more : suc n + m ≡ suc (n + m)
         one-more = omega arith
 
--- ---- the blocks themselves, of two channels
+-- ---- the blocks themselves
 
-accepts-block : (channels : ℕ) (u : Unit) (given room : ℕ) → Accepts channels u given room → isAccepted (blockVerdict channels u given room) ≡ true
+pub accepts-block : (channels : ℕ) (u : Unit) (given room : ℕ) → Accepts channels u given room → isAccepted (blockVerdict channels u given room) ≡ true
 unfolding blockVerdict
 accepts-block channels u given room c =
     simp (test-of-fit u (c .fit), eq-eqb (given % frameSize channels) 0 (c .frames), le-leb given room (c .enough))
 
 -- an accepted block's unit and output
-module _ (u : Unit) (input : List ℕ) where
-  pub accepted-unit : (room : ℕ) → Accepts 2 u (length input) room → blockPlayed 2 u input room .unit ≡ played 2 u input (frameCount 2 u input)
+module _ (channels : ℕ) (u : Unit) (input : List ℕ) where
+  pub accepted-unit : (room : ℕ) → Accepts channels u (length input) room → blockPlayed channels u input room .unit ≡ played channels u input (frameCount channels input)
   unfolding blockPlayed
-  accepted-unit room c = ap (λ (t : Bool). cond t (played 2 u input (frameCount 2 u input)) u) (accepts-block 2 u (length input) room c)
+  accepted-unit room c = ap (λ (t : Bool). cond t (played channels u input (frameCount channels input)) u) (accepts-block channels u (length input) room c)
 
-  pub accepted-output : (room : List ℕ) → Accepts 2 u (length input) (length room) → blockOutput 2 u input room ≡ sound 2 u input (frameCount 2 u input) ++ drop (length input) room
+  pub accepted-output : (room : List ℕ) → Accepts channels u (length input) (length room) → blockOutput channels u input room ≡ sound channels u input (frameCount channels input) ++ drop (length input) room
   unfolding blockOutput
   accepted-output room c =
-      ap (λ (t : Bool). cond t (sound 2 u input (frameCount 2 u input) ++ drop (length input) room) room) (accepts-block 2 u (length input) (length room) c)
+      ap (λ (t : Bool). cond t (sound channels u input (frameCount channels input) ++ drop (length input) room) room) (accepts-block channels u (length input) (length room) c)
 
   -- a fit unit stays fit
-  pub block-fit : (room : ℕ) → Fit u → Fit (blockPlayed 2 u input room .unit)
+  pub block-fit : (room : ℕ) → Fit u → Fit (blockPlayed channels u input room .unit)
   unfolding blockPlayed
-  block-fit room f = go (isAccepted (blockVerdict 2 u (length input) room))
+  block-fit room f = go (isAccepted (blockVerdict channels u (length input) room))
     where
-      go : (t : Bool) → Fit (cond t (played 2 u input (frameCount 2 u input)) u)
-      go true = played-fit 2 u input (frameCount 2 u input) f
+      go : (t : Bool) → Fit (cond t (played channels u input (frameCount channels input)) u)
+      go true = played-fit channels u input (frameCount channels input) f
       go false = f
 
 -- the room for a, as long as a, and the room for b, at least as long as b
@@ -135,10 +135,10 @@ module _ (u : Unit) (a b p q : List ℕ) (fit : Fit u) (fa : length a % 4 ≡ 0)
   first = record { fit = fit; frames = fa; enough = omega (arith, ha) }
 
   half-is : half ≡ played 2 u a (length a / 4)
-  half-is = accepted-unit u a (length p) first
+  half-is = accepted-unit 2 u a (length p) first
 
   second : Accepts 2 half (length b) (length q)
-  second = record { fit = block-fit u a (length p) fit; frames = fb; enough = hb }
+  second = record { fit = block-fit 2 u a (length p) fit; frames = fb; enough = hb }
 
   both : Accepts 2 u (length (a ++ b)) (length (p ++ q))
   both =
@@ -164,18 +164,18 @@ module _ (u : Unit) (a b p q : List ℕ) (fit : Fit u) (fa : length a % 4 ≡ 0)
 
   pub block-append-unit : blockPlayed 2 u (a ++ b) (length (p ++ q)) .unit ≡ blockPlayed 2 half b (length q) .unit
   block-append-unit =
-      accepted-unit u (a ++ b) (length (p ++ q)) both
+      accepted-unit 2 u (a ++ b) (length (p ++ q)) both
       ∙ ap (played 2 u (a ++ b)) count
       ∙ played-append 2 u a b (length a / 4) whole (length b / 4)
       ∙ ap (λ (v : Unit). played 2 v b (length b / 4)) (sym half-is)
-      ∙ sym (accepted-unit half b (length q) second)
+      ∙ sym (accepted-unit 2 half b (length q) second)
 
   pub block-append-output : blockOutput 2 u (a ++ b) (p ++ q) ≡ blockOutput 2 u a p ++ blockOutput 2 half b q
   block-append-output =
-      accepted-output u (a ++ b) (p ++ q) both
+      accepted-output 2 u (a ++ b) (p ++ q) both
       ∙ ap₂ _++_ sounds behind
       ∙ append-assoc (sound 2 u a (length a / 4)) (sound 2 half b (length b / 4)) (drop (length b) q)
-      ∙ ap₂ _++_ (sym left) (sym (accepted-output half b q second))
+      ∙ ap₂ _++_ (sym left) (sym (accepted-output 2 half b q second))
     where
       sounds : sound 2 u (a ++ b) (length (a ++ b) / 4) ≡ sound 2 u a (length a / 4) ++ sound 2 half b (length b / 4)
       sounds =
@@ -188,6 +188,6 @@ module _ (u : Unit) (a b p q : List ℕ) (fit : Fit u) (fa : length a % 4 ≡ 0)
 
       left : blockOutput 2 u a p ≡ sound 2 u a (length a / 4)
       left =
-          accepted-output u a p first
+          accepted-output 2 u a p first
           ∙ ap (λ (l : List ℕ). sound 2 u a (length a / 4) ++ l) (ap (λ (n : ℕ). drop n p) (sym ha) ∙ drop-length p)
           ∙ append-nil (sound 2 u a (length a / 4))

@@ -1,7 +1,7 @@
 -- Playing a block of frames, for any number of channels. Definitions only.
 use mathlib.Core.Bool.{cond}
 use mathlib.Core.List.{List, [], _++_}
-use Prim.Native.Nat.{ℕ, zero, suc, _*_, _/_, _%_}
+use Prim.Native.Nat.{ℕ, zero, suc, _*_, _%_}
 use lib.Dec.{eqb, leb}
 use lib.ListN.{length, drop}
 use Rattle.refusals.specs.Numbers.{unless, isAccepted}
@@ -11,7 +11,7 @@ use Rattle.unit.specs.declared.Unit.{Unit}
 use Rattle.unit.specs.Frame.{unitFrame, heard}
 use Rattle.unit.specs.Fit.{unitFits}
 use Rattle.blocks.specs.declared.Played.{Played}
-use Rattle.blocks.specs.Bytes.{wordsAt, frameSize, bytesOf}
+use Rattle.blocks.specs.Bytes.{wordsAt, frameSize, frameCount, bytesOf}
 
 -- "5 input bytes no multiple of four; 6 output shorter than input": what a block is refused for, whatever the unit
 abbrev pub blockArguments : ℕ → ℕ → ℕ → Verdict
@@ -33,19 +33,15 @@ module _ (channels : ℕ) (u : Unit) (input : List ℕ) where
   sound zero = []
   sound (suc n) = sound n ++ bytesOf (heard (played (suc n)))
 
-  -- how many frames the input has
-  abbrev pub frameCount : ℕ
-  frameCount = length input / frameSize channels
-
   -- the answer: accepted, the unit after all frames; refused, "unit and output unchanged"
   unfoldable pub blockPlayed : ℕ → Played
   blockPlayed room =
       record {
         verdict = blockVerdict channels u (length input) room;
-        unit = cond (isAccepted (blockVerdict channels u (length input) room)) (played frameCount) u;
+        unit = cond (isAccepted (blockVerdict channels u (length input) room)) (played (frameCount channels input)) u;
       }
 
   -- the output: accepted, the frames, and "output bytes beyond the block keep their contents"
   unfoldable pub blockOutput : List ℕ → List ℕ
   blockOutput room =
-      cond (isAccepted (blockVerdict channels u (length input) (length room))) (sound frameCount ++ drop (length input) room) room
+      cond (isAccepted (blockVerdict channels u (length input) (length room))) (sound (frameCount channels input) ++ drop (length input) room) room

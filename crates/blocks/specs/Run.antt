@@ -13,8 +13,8 @@ use Rattle.unit.specs.Cleared.{bandsOf}
 use Rattle.unit.specs.Frame.{channelFrame, mix}
 use Rattle.unit.specs.Fit.{BandFit, ChannelFit, Fit}
 use Rattle.engine.specs.Numbers.{channelSize, channelOf, mixSize}
-use Rattle.blocks.specs.Bytes.{wordAt, lowByte, highByte}
-use Rattle.blocks.specs.Block.{played, sound, frameCount}
+use Rattle.blocks.specs.Bytes.{wordAt, frameCount, lowByte, highByte}
+use Rattle.blocks.specs.Block.{played, sound}
 
 -- a sample stored as two bytes
 abbrev pub putSample : List ℕ → ℕ → ℤ → List ℕ
@@ -64,5 +64,5 @@ unitOf volume bands channels = record { volume = volume; bands = bands; channels
 
 -- the unit after all frames, and the output
 pub record AllPlayed (u : Unit) (input room : List ℕ) (after : Unit) (filled : List ℕ) : Type 0 where
-  pub unit : after ≡ played 2 u input (frameCount 2 u input)
-  pub bytes : filled ≡ sound 2 u input (frameCount 2 u input) ++ drop (length input) room
+  pub unit : after ≡ played 2 u input (frameCount 2 input)
+  pub bytes : filled ≡ sound 2 u input (frameCount 2 input) ++ drop (length input) room

@@ -10,7 +10,8 @@ use Rattle.refusals.proofs.Laws.{passed, failed}
 use Rattle.refusals.specs.Numbers.{isAccepted}
 use Rattle.refusals.specs.declared.Verdict.{Verdict}
 use Rattle.unit.specs.declared.Unit.{Unit}
-use Rattle.blocks.specs.Block.{blockVerdict, played, sound, frameCount, blockPlayed, blockOutput}
+use Rattle.blocks.specs.Bytes.{frameCount}
+use Rattle.blocks.specs.Block.{blockVerdict, played, sound, blockPlayed, blockOutput}
 use Rattle.blocks.proofs.play.Statement.{statement}
 use Rattle.blocks.proofs.play.Tie as tie
 use Rattle.blocks.proofs.play.Reads as reads
@@ -47,9 +48,9 @@ same-length c = search needs
 returns : tie.Need-returns
 unfolding blockPlayed blockOutput
 returns c = (
-  (λ i. record { verdict = verdict-is a i; unit = (r .run .ensures .unit ∙ passed (isAccepted (verdict a)) (played 2 u input (frameCount 2 u input)) u yes) i }),
+  (λ i. record { verdict = verdict-is a i; unit = (r .run .ensures .unit ∙ passed (isAccepted (verdict a)) (played 2 u input (frameCount 2 input)) u yes) i }),
   r .run .ensures .bytes
-      ∙ passed (isAccepted (verdict a)) (sound 2 u input (frameCount 2 u input) ++ drop (length input) room) room yes,
+      ∙ passed (isAccepted (verdict a)) (sound 2 u input (frameCount 2 input) ++ drop (length input) room) room yes,
 )
   where
     r : lts.After-run (check-block-reads.Asked, check-block-reads.Learnt, accepted-reads.Asked, accepted-reads.Learnt, run-reads.Asked, run-reads.Learnt) reads.Pre reads.Post
@@ -73,8 +74,8 @@ returns c = (
 returns-2 : tie.Need-returns-2
 unfolding blockPlayed blockOutput
 returns-2 c = (
-  (λ i. record { verdict = verdict-is (c .before) i; unit = failed (isAccepted (verdict (c .before))) (played 2 u input (frameCount 2 u input)) u no i }),
-  failed (isAccepted (verdict (c .before))) (sound 2 u input (frameCount 2 u input) ++ drop (length input) room) room no,
+  (λ i. record { verdict = verdict-is (c .before) i; unit = failed (isAccepted (verdict (c .before))) (played 2 u input (frameCount 2 input)) u no i }),
+  failed (isAccepted (verdict (c .before))) (sound 2 u input (frameCount 2 input) ++ drop (length input) room) room no,
 )
   where
     u : Unit

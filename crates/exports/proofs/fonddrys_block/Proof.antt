@@ -56,7 +56,7 @@ module _ (c : lts.After-play (unit-of-reads.Asked, unit-of-reads.Learnt, play-re
   -- an accepted block leaves a fit unit
   answer-fit : isAccepted (answer .verdict) ≡ true → Fit (answer .unit)
   unfolding blockPlayed
-  answer-fit e = block-fit (unitOf l) input (length room) (block-accepted 2 (unitOf l) (length input) (length room) e .fit)
+  answer-fit e = block-fit 2 (unitOf l) input (length room) (block-accepted 2 (unitOf l) (length input) (length room) e .fit)
 
 -- the test of it
 module _ (c : lts.After-accepted (unit-of-reads.Asked, unit-of-reads.Learnt, play-reads.Asked, play-reads.Learnt, accepted-reads.Asked, accepted-reads.Learnt, number-reads.Asked, number-reads.Learnt, numbers-of-reads.Asked, numbers-of-reads.Learnt) reads.Pre reads.Post) where
