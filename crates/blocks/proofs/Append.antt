@@ -22,7 +22,7 @@ use Rattle.blocks.proofs.Block.{Accepts, played-fit, four-a-frame}
 -- ---- the input words of a ++ b
 
 module _ (a b : List ℕ) where
-  sample-front : (at : ℕ) → at + 1 < length a → sampleAt (a ++ b) at ≡ sampleAt a at
+  pub sample-front : (at : ℕ) → at + 1 < length a → sampleAt (a ++ b) at ≡ sampleAt a at
   unfolding sampleAt
   sample-front at h = rw (List·getD-append a b 0 at (omega arith), List·getD-append a b 0 (at + 1) h)
 
@@ -31,7 +31,7 @@ module _ (a b : List ℕ) where
   words-front (suc channels) at h =
       ap₂ _∷_ (ap (λ (s : ℤ). pos 256 *ℤ s) (sample-front at (omega arith))) (words-front channels (at + 2) (omega arith))
 
-  sample-behind : (at : ℕ) → sampleAt (a ++ b) (length a + at) ≡ sampleAt b at
+  pub sample-behind : (at : ℕ) → sampleAt (a ++ b) (length a + at) ≡ sampleAt b at
   unfolding sampleAt
   sample-behind at = rw (getD-append-add a b at 0, next) (rw (getD-append-add a b (at + 1) 0))
     where

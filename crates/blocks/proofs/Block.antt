@@ -38,7 +38,7 @@ played-fit channels u input (suc n) f =
 
 -- ---- lengths
 
-words-length : (channels : ℕ) (input : List ℕ) (at : ℕ) → length (wordsAt channels input at) ≡ channels
+pub words-length : (channels : ℕ) (input : List ℕ) (at : ℕ) → length (wordsAt channels input at) ≡ channels
 words-length zero input at = refl
 words-length (suc channels) input at = ap suc (words-length channels input (at + 2))
 
@@ -56,7 +56,7 @@ played-channels channels u input (suc n) h =
     (words-length channels input (frameSize channels * n) ∙ sym (played-channels channels u input n h))
     ∙ played-channels channels u input n h
 
-bytes-length : (ss : List ℤ) → length (bytesOf ss) ≡ 2 * length ss
+pub bytes-length : (ss : List ℤ) → length (bytesOf ss) ≡ 2 * length ss
 bytes-length [] = refl
 bytes-length (s ∷ ss) = omega (arith, bytes-length ss)
 

@@ -1,8 +1,8 @@
 -- What an accepted step tells: the sizes of its coefficients and numbers, and that its result is a word.
-use mathlib.Core.Path.{_≡_, refl}
-use mathlib.Core.Bool.{true, _&&_}
-use Prim.Native.Nat.{_≤_}
-use lib.IntN.{ℤ, natAbs}
+use mathlib.Core.Path.{_≡_, refl, sym, subst}
+use mathlib.Core.Bool.{Bool, true, false, not, _&&_}
+use Prim.Native.Nat.{_*_, _^_, _≤_}
+use lib.IntN.{ℤ, pos, natAbs, _-ℤ_, _*ℤ_}
 use lib.Signed.{_≤ℤ_, leZ-yes}
 use Rattle.refusals.specs.Numbers.{isAccepted, unless}
 use Rattle.refusals.proofs.Laws.{unless-accepted}
@@ -10,12 +10,14 @@ use Rattle.refusals.specs.declared.Verdict.the-variants.{Accepted, NotWord}
 use Rattle.integers.proofs.Parts.{linear}
 use Rattle.integers.proofs.Order.{both-true}
 use Rattle.integers.proofs.Abs.{abs-le}
-use Rattle.rounding.proofs.Limit.{limit-low, limit-high}
+use Rattle.rounding.proofs.Limit.{limit-inside, limit-low, limit-high, within-bounds}
+use Rattle.rounding.specs.Rounding.{nearest}
+use Rattle.rounding.proofs.Nearest.{nearest-near}
 use Rattle.bands.specs.Words.{wordSize, wordLow, wordHigh, isWord}
 use Rattle.bands.specs.Bands.{bandVerdict}
 use Rattle.bands.proofs.Laws.{Accepts, band-sizes, word-size}
 use Rattle.section.specs.declared.Section.{Section}
-use Rattle.section.specs.Equation.{worked}
+use Rattle.section.specs.Equation.{sumShift, worked}
 use Rattle.section.specs.Step.{allWords, stepVerdict}
 
 -- the five numbers of a step are at most 2^23 in size
@@ -73,3 +75,18 @@ module _ (S : ℤ) where
 
   pub worked-size : natAbs (worked S .y) ≤ wordSize
   worked-size = abs-le (worked S .y) wordSize worked-low (omega (linear, worked-high))
+
+  -- where it does not limit, it is the rounded number: at most half of 2^22 away from S
+  pub worked-near : worked S .limited ≡ false → 2 * natAbs (pos (2 ^ sumShift) *ℤ worked S .y -ℤ S) ≤ 2 ^ sumShift
+  unfolding worked
+  worked-near e =
+      subst (λ (r : ℤ). 2 * natAbs (pos (2 ^ sumShift) *ℤ r -ℤ S) ≤ 2 ^ sumShift)
+      (sym (limit-inside wordLow wordHigh (nearest S sumShift) (bounds .0) (bounds .1)))
+      (nearest-near S sumShift)
+    where
+      yes : (t : Bool) → not t ≡ false → t ≡ true
+      yes true f = refl
+      yes false f = sym f
+
+      bounds : (wordLow ≤ℤ nearest S sumShift) × (nearest S sumShift ≤ℤ wordHigh)
+      bounds = within-bounds wordLow wordHigh (nearest S sumShift) (yes (isWord (nearest S sumShift)) e)

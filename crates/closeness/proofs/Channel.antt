@@ -1,0 +1,183 @@
+-- One channel: what ties it to the exact reckoning, that a frame keeps it, and how close the sample then is.
+use mathlib.Core.Path.{_≡_, refl, sym, ap, ap₂, _∙_, subst}
+use mathlib.Core.Bool.{Bool, true, false, _||_}
+use mathlib.Core.List.{List, [], _∷_, map}
+use Prim.Native.Nat.{ℕ, zero, suc, _+_, _*_, _^_, _≤_}
+use native.Mathlib.Nat.{pow-suc}
+use native.Mathlib.Omega.{arith}
+use lib.Dec.{T}
+use lib.IntN.{ℤ, pos, natAbs, _+ℤ_, _-ℤ_, _*ℤ_}
+use lib.ListN.{length}
+use Rattle.integers.proofs.Abs.{abs-sum, abs-product}
+use Rattle.integers.proofs.Normal.{at, con, _:+_, _:-_, _:*_, solve}
+use Rattle.bands.specs.declared.Band.{Band}
+use Rattle.levels.specs.declared.Level.{Level}
+use Rattle.levels.specs.Levels.{gainSlope, volumeSlope, moved}
+use Rattle.section.specs.Equation.{exactSum, flag}
+use Rattle.section.proofs.Laws.{worked-near}
+use Rattle.unit.specs.declared.BandSection.{BandSection}
+use Rattle.unit.specs.declared.Channel.{Channel}
+use Rattle.unit.specs.Frame.{workOf, sectionFrame, sectionsFrame, anyLimits, raised, channelFrame, share, sumOf, exactMix, mix, output}
+use Rattle.closeness.specs.Claim.{divisor, Results, Exact, rescaled, exactResults, allResults, exactFrame, gained, exactMixed, outputScale, exactOutput, summed, gainedSums, Close}
+use Rattle.closeness.proofs.Band.{Near, near-step, near-sum}
+use Rattle.closeness.proofs.Output.{scaled-small, output-near}
+
+-- the gain of a section
+abbrev pub gainOf : BandSection → Level
+gainOf s = s .gain
+
+-- each section's error is no more than what n roundings can have made of it
+abbrev pub NearAll : ℕ → List Band → List BandSection → List Results → Type 0
+NearAll n [] [] [] = Unit {0}
+NearAll n [] [] (r ∷ rs) = ⊥
+NearAll n [] (s ∷ ss) rs = ⊥
+NearAll n (band ∷ bands) [] rs = ⊥
+NearAll n (band ∷ bands) (s ∷ ss) [] = ⊥
+NearAll n (band ∷ bands) (s ∷ ss) (r ∷ rs) = Near band n (s .y1) (s .y2) r × NearAll n bands ss rs
+
+neither : (a b : Bool) → a || b ≡ false → (a ≡ false) × (b ≡ false)
+neither true b e = absurd (subst T e tt)
+neither false b e = (refl, e)
+
+-- a frame in which none of them limits keeps that
+all-step : (n : ℕ) (x x2 : ℤ) (bands : List Band) (ss : List BandSection) (rs : List Results) → anyLimits bands x x2 ss ≡ false → NearAll n bands ss rs → NearAll (suc n) bands (sectionsFrame bands x x2 ss) (allResults bands (pos (divisor ^ n) *ℤ x) (pos (divisor ^ n) *ℤ x2) rs)
+unfolding sectionFrame
+all-step n x x2 [] [] [] e near = tt
+all-step n x x2 [] [] (r ∷ rs) e near = absurd near
+all-step n x x2 [] (s ∷ ss) rs e near = absurd near
+all-step n x x2 (band ∷ bands) [] rs e near = absurd near
+all-step n x x2 (band ∷ bands) (s ∷ ss) [] e near = absurd near
+all-step n x x2 (band ∷ bands) (s ∷ ss) (r ∷ rs) e near = (
+  near-step band n x x2 (s .y1) (s .y2) (workOf band x x2 s .y) r (worked-near (exactSum band x x2 (s .y1) (s .y2)) (none .0)) (near .0),
+  all-step n x x2 bands ss rs (none .1) (near .1),
+)
+  where
+    none : (workOf band x x2 s .limited ≡ false) × (anyLimits bands x x2 ss ≡ false)
+    none = neither (workOf band x x2 s .limited) (anyLimits bands x x2 ss) e
+
+-- the sum of g × y is then as near as the gains allow
+sum-near : (n : ℕ) (bands : List Band) (ss : List BandSection) (rs : List Results) → NearAll n bands ss rs → 2 * natAbs (pos (divisor ^ n) *ℤ sumOf (map share ss) -ℤ gained (map gainOf ss) rs) ≤ gainedSums n (map gainOf ss) bands
+sum-near n [] [] [] near = omega (arith, ap natAbs nothing)
+  where
+    nothing : pos (divisor ^ n) *ℤ pos 0 -ℤ pos 0 ≡ pos 0
+    nothing = solve (pos (divisor ^ n) ∷ []) (at 0 :* con (pos 0) :- con (pos 0)) (con (pos 0)) refl
+sum-near n [] [] (r ∷ rs) near = absurd near
+sum-near n [] (s ∷ ss) rs near = absurd near
+sum-near n (band ∷ bands) [] rs near = absurd near
+sum-near n (band ∷ bands) (s ∷ ss) [] near = absurd near
+sum-near n (band ∷ bands) (s ∷ ss) (r ∷ rs) near =
+    omega (
+      arith,
+      ap natAbs parts,
+      abs-sum (g *ℤ (z *ℤ s .y1 -ℤ r .y1)) (z *ℤ sumOf (map share ss) -ℤ gained (map gainOf ss) rs),
+      scaled-small g (z *ℤ s .y1 -ℤ r .y1) (near-sum band n (s .y1) (s .y2) r (near .0)),
+      sum-near n bands ss rs (near .1),
+    )
+  where
+    z : ℤ
+    z = pos (divisor ^ n)
+
+    g : ℤ
+    g = s .gain .present
+
+    parts : z *ℤ (g *ℤ s .y1 +ℤ sumOf (map share ss)) -ℤ (g *ℤ r .y1 +ℤ gained (map gainOf ss) rs) ≡ g *ℤ (z *ℤ s .y1 -ℤ r .y1) +ℤ (z *ℤ sumOf (map share ss) -ℤ gained (map gainOf ss) rs)
+    parts =
+        solve (z ∷ g ∷ s .y1 ∷ r .y1 ∷ sumOf (map share ss) ∷ gained (map gainOf ss) rs ∷ [])
+        (at 0 :* (at 1 :* at 2 :+ at 4) :- (at 1 :* at 3 :+ at 5))
+        (at 1 :* (at 0 :* at 2 :- at 3) :+ (at 0 :* at 4 :- at 5))
+        refl
+
+-- ---- a frame's gains
+
+frame-gains : (x x2 : ℤ) (bands : List Band) (ss : List BandSection) → length ss ≡ length bands → map (moved gainSlope) (map gainOf ss) ≡ map gainOf (sectionsFrame bands x x2 ss)
+unfolding sectionFrame
+frame-gains x x2 [] [] h = refl
+frame-gains x x2 [] (s ∷ ss) h = absurd (omega arith)
+frame-gains x x2 (band ∷ bands) [] h = refl
+frame-gains x x2 (band ∷ bands) (s ∷ ss) h = ap (λ (gs : List Level). moved gainSlope (s .gain) ∷ gs) (frame-gains x x2 bands ss (omega arith))
+
+frame-length : (x x2 : ℤ) (bands : List Band) (ss : List BandSection) → length ss ≡ length bands → length (sectionsFrame bands x x2 ss) ≡ length bands
+frame-length x x2 [] ss h = refl
+frame-length x x2 (band ∷ bands) [] h = absurd (omega arith)
+frame-length x x2 (band ∷ bands) (s ∷ ss) h = ap suc (frame-length x x2 bands ss (omega arith))
+
+-- ---- the tie, after n frames. `limited` says whether a section of the channel has limited in one of them
+
+pub record Tied (bands : List Band) (n : ℕ) (limited : Bool) (volume : Level) (c : Channel) (e : Exact) : Type 0 where
+  pub scale : e .scale ≡ divisor ^ n
+  pub volumes : e .volume ≡ volume
+  pub gains : e .gains ≡ map gainOf (c .sections)
+  pub x1 : e .x1 ≡ pos (divisor ^ n) *ℤ c .x1
+  pub x2 : e .x2 ≡ pos (divisor ^ n) *ℤ c .x2
+  pub flags : c .flag ≡ pos (flag limited)
+  pub sections : length (c .sections) ≡ length bands
+  pub near : limited ≡ false → NearAll n bands (c .sections) (e .results)
+
+-- a flag rises by what has limited
+flag-raised : (before now : Bool) → raised now (pos (flag before)) ≡ pos (flag (before || now))
+flag-raised true true = refl
+flag-raised true false = refl
+flag-raised false true = refl
+flag-raised false false = refl
+
+module _ (bands : List Band) (n : ℕ) (limited : Bool) (volume : Level) (c : Channel) (e : Exact) (t : Tied bands n limited volume c e) where
+  -- a frame keeps it
+  pub frame-tied : (x : ℤ) → Tied bands (suc n) (limited || anyLimits bands x (c .x2) (c .sections)) (moved volumeSlope volume) (channelFrame bands x c) (exactFrame bands x e)
+  unfolding channelFrame exactFrame
+  frame-tied x =
+      record {
+        scale = ap (λ (z : ℕ). divisor * z) (t .scale) ∙ power;
+        volumes = ap (moved volumeSlope) (t .volumes);
+        gains = ap (map (moved gainSlope)) (t .gains) ∙ frame-gains x (c .x2) bands (c .sections) (t .sections);
+        x1 = ap (λ (z : ℕ). rescaled (pos z *ℤ x)) (t .scale) ∙ next x;
+        x2 = ap rescaled (t .x1) ∙ next (c .x1);
+        flags = ap (raised (anyLimits bands x (c .x2) (c .sections))) (t .flags) ∙ flag-raised limited (anyLimits bands x (c .x2) (c .sections));
+        sections = frame-length x (c .x2) bands (c .sections) (t .sections);
+        near = near-then;
+      }
+    where
+      power : divisor * divisor ^ n ≡ divisor ^ suc n
+      power = omega (arith, pow-suc divisor n)
+
+      next : (y : ℤ) → rescaled (pos (divisor ^ n) *ℤ y) ≡ pos (divisor ^ suc n) *ℤ y
+      next y =
+          solve (pos divisor ∷ pos (divisor ^ n) ∷ y ∷ []) (at 0 :* (at 1 :* at 2)) (at 0 :* at 1 :* at 2) refl
+          ∙ ap (λ (z : ℕ). pos z *ℤ y) power
+
+      near-then : limited || anyLimits bands x (c .x2) (c .sections) ≡ false → NearAll (suc n) bands (sectionsFrame bands x (c .x2) (c .sections)) (allResults bands (pos (e .scale) *ℤ x) (e .x2) (e .results))
+      near-then h =
+          subst (λ (a : ℤ). NearAll (suc n) bands (sectionsFrame bands x (c .x2) (c .sections)) (allResults bands a (e .x2) (e .results))) (ap (λ (z : ℕ). pos z *ℤ x) (sym (t .scale)))
+          (subst (λ (a : ℤ). NearAll (suc n) bands (sectionsFrame bands x (c .x2) (c .sections)) (allResults bands (pos (divisor ^ n) *ℤ x) a (e .results))) (sym (t .x2))
+          (all-step n x (c .x2) bands (c .sections) (e .results) (none .1) (t .near (none .0))))
+        where
+          none : (limited ≡ false) × (anyLimits bands x (c .x2) (c .sections) ≡ false)
+          none = neither limited (anyLimits bands x (c .x2) (c .sections)) h
+
+  -- the exact mix is as near as the gains allow
+  mix-near : limited ≡ false → 2 * natAbs (pos (e .scale) *ℤ exactMix c -ℤ exactMixed e) ≤ gainedSums n (e .gains) bands
+  unfolding exactMix exactMixed
+  mix-near h =
+      subst (λ (gs : List Level). 2 * natAbs (pos (e .scale) *ℤ exactMix c -ℤ (pos (2 ^ 23) *ℤ e .x1 +ℤ gained gs (e .results))) ≤ gainedSums n gs bands) (sym (t .gains))
+      (subst (λ (z : ℤ). 2 * natAbs z ≤ gainedSums n (map gainOf (c .sections)) bands) (sym apart) (sum-near n bands (c .sections) (e .results) (t .near h)))
+    where
+      y : ℤ
+      y = sumOf (map share (c .sections))
+
+      exact-y : ℤ
+      exact-y = gained (map gainOf (c .sections)) (e .results)
+
+      apart : pos (e .scale) *ℤ (pos (2 ^ 23) *ℤ c .x1 +ℤ y) -ℤ (pos (2 ^ 23) *ℤ e .x1 +ℤ exact-y) ≡ pos (divisor ^ n) *ℤ y -ℤ exact-y
+      apart =
+          ap₂ (λ (z : ℕ) (x : ℤ). pos z *ℤ (pos (2 ^ 23) *ℤ c .x1 +ℤ y) -ℤ (pos (2 ^ 23) *ℤ x +ℤ exact-y)) (t .scale) (t .x1)
+          ∙ solve (pos (divisor ^ n) ∷ pos (2 ^ 23) ∷ c .x1 ∷ y ∷ exact-y ∷ [])
+          (at 0 :* (at 1 :* at 2 :+ at 3) :- (at 1 :* (at 0 :* at 2) :+ at 4)) (at 0 :* at 3 :- at 4) refl
+
+  -- the sample is close where nothing has limited
+  pub tied-close : limited ≡ false → Close bands n (output (volume .present) (mix c)) e
+  unfolding mix exactOutput
+  tied-close h =
+      record {
+        distance =
+            subst (λ (v : Level). 2 * natAbs (pos (outputScale e) *ℤ output (v .present) (mix c) -ℤ exactOutput e) ≤ outputScale e + natAbs (e .volume .present) * (2 ^ 23 * e .scale) + natAbs (e .volume .present) * gainedSums n (e .gains) bands) (t .volumes)
+            (output-near (e .scale) (e .volume .present) (exactMix c) (exactMixed e) (gainedSums n (e .gains) bands) (mix-near h));
+      }

@@ -1,0 +1,5 @@
+-- Demand 3.
+pub mod Recursion
+pub mod Band
+pub mod Output
+pub mod Channel

@@ -1,0 +1,255 @@
+-- Demand 3, with all that it rests on. Definitions only; `Demand3`, at the end, is proved in proofs/Holds.antt.
+--
+-- "Take a list of calls, each a level order or a block of frames, refused ones included. It begins with a cleared unit with an accepted
+-- band set. Each call gets the unit that the last one handed back, and nobody else changes it meanwhile. Frames are numbered from 1 over
+-- the accepted blocks. For every such list, whatever the orders ask and the blocks hold, and for every frame n and each side: if no
+-- section of that side has limited up to and including frame n, its sample for frame n differs from the exact output for frame n, worked
+-- without rounding and limited only at the end, by at most 1/2 + V/2^32 + V × (sum over the bands of |g| × H)/2^55 sample steps. V and g
+-- are the volume and that side's gains used in frame n, and H is the sum of the first n absolute values of that band's impulse response."
+--
+-- A side is a channel here, and the number of channels is a parameter: the product has two. Lists of frames begin with frame 1.
+use mathlib.Core.Path.{_≡_}
+use mathlib.Core.Bool.{Bool, true, false, cond}
+use mathlib.Core.List.{List, [], _∷_, _++_, map}
+use Prim.Native.Nat.{ℕ, zero, suc, _+_, _*_, _^_, _≤_, _<_}
+use lib.Dec.{eqb}
+use lib.IntN.{ℤ, pos, natAbs, _+ℤ_, _-ℤ_, _*ℤ_}
+use lib.ListN.{length, getD, take, replicate}
+use Rattle.rounding.specs.Rounding.{limit}
+use Rattle.refusals.specs.Numbers.{isAccepted}
+use Rattle.bands.specs.declared.Band.{Band}
+use Rattle.levels.specs.declared.Level.{Level}
+use Rattle.levels.specs.Levels.{gainSlope, volumeSlope, moved, aimed}
+use Rattle.section.specs.Equation.{exactSum, sumShift}
+use Rattle.unit.specs.declared.Channel.{Channel}
+use Rattle.unit.specs.declared.Unit.{Unit}
+use Rattle.unit.specs.Lists.{tabulate, changed, anyOf}
+use Rattle.unit.specs.Cleared.{bandCount, clearedLevel, clearedChannel, clearedUnit, bandsOf}
+use Rattle.unit.specs.Frame.{anyLimits, sampleLow, sampleHigh}
+use Rattle.loading.specs.Loading.{setVerdict}
+use Rattle.orders.specs.declared.Setting.{Setting}
+use Rattle.orders.specs.Orders.{volumeBand, names, targetOf, orderArguments, ordered}
+use Rattle.blocks.specs.Bytes.{sampleAt, wordAt, frameSize, frameCount}
+use Rattle.blocks.specs.Block.{blockArguments, played, blockPlayed, blockOutput}
+
+-- ---- "a list of calls, each a level order or a block of frames, refused ones included"
+
+-- any side, band and level; any bytes, and any buffer for the output
+pub data Call : Type 0 where
+  order : (side band : ℕ) (level : Setting) → Call
+  block : (input room : List ℕ) → Call
+
+module _ (channels channel : ℕ) where
+  -- where the channel's sample stands in frame k of a block; here k counts from 0
+  abbrev pub placeOf : ℕ → ℕ
+  placeOf k = frameSize channels * k + 2 * channel
+
+  -- ---- the unit: what the contracts of `orders::order` and `blocks::play` promise
+
+  -- "Each call gets the unit that the last one handed back": the unit that this call hands back
+  abbrev pub unitAfter : Unit → Call → Unit
+  unitAfter u (order side band level) = ordered u side band level .unit
+  unitAfter u (block input room) = blockPlayed channels u input (length room) .unit
+
+  -- "Frames are numbered from 1 over the accepted blocks": a frame of a call, read for each frame of an accepted block
+  abbrev pub framesOf : {A : Type 0} → Unit → Call → (List ℕ → List ℕ → ℕ → A) → List A
+  framesOf u (order side band level) read = []
+  framesOf u (block input room) read =
+      cond (isAccepted (blockPlayed channels u input (length room) .verdict)) (tabulate (frameCount channels input) (read input room)) []
+
+  -- "A side's sample is its signed 16-bit number for that frame in the output as the block handed it back"
+  abbrev pub samplesOf : Unit → Call → List ℤ
+  samplesOf u call =
+      framesOf u call (λ (input room : List ℕ) (k : ℕ). sampleAt (blockOutput channels u input room) (placeOf k))
+
+  abbrev pub samples : Unit → List Call → List ℤ
+  samples u [] = []
+  samples u (call ∷ calls) = samplesOf u call ++ samples (unitAfter u call) calls
+
+  -- "Whether a section has limited is worked from the list by the rounding and limiting under Words and the section, and not read from
+  -- the flag": one of the channel's sections limits in the frame that this unit plays on x
+  abbrev pub channelOf : Unit → Channel
+  channelOf u = getD (u .channels) channel clearedChannel
+
+  abbrev pub limitsOn : ℤ → Unit → Bool
+  limitsOn x u = anyLimits (u .bands) x (channelOf u .x2) (channelOf u .sections)
+
+  abbrev pub limitsOf : Unit → Call → List Bool
+  limitsOf u call =
+      framesOf u call (λ (input room : List ℕ) (k : ℕ). limitsOn (wordAt input (placeOf k)) (played channels u input k))
+
+  abbrev pub limits : Unit → List Call → List Bool
+  limits u [] = []
+  limits u (call ∷ calls) = limitsOf u call ++ limits (unitAfter u call) calls
+
+-- ---- "The exact sound has a reckoning of its own. It is fed the band set and each call of the list with its arguments, and takes nothing
+-- from the unit."
+
+-- "a fraction over powers of two, so whole numbers state them": after n frames all fractions stand over (2^22)^n
+abbrev pub divisor : ℕ
+divisor = 2 ^ sumShift
+
+-- "y1 and y2 for each band of a side"
+pub record Results : Type 0 where
+  pub y1 : ℤ
+  pub y2 : ℤ
+
+-- "It holds a present number and a target for each gain and the volume, x1 and x2 for each side, and y1 and y2 for each band": for one
+-- channel. x1, x2, y1 and y2 stand over `scale`, (2^22)^n after n frames
+pub record Exact : Type 0 where
+  pub scale : ℕ
+  pub volume : Level
+  pub gains : List Level
+  pub x1 : ℤ
+  pub x2 : ℤ
+  pub results : List Results
+
+-- "All begin at zero"
+abbrev pub silentResults : Results
+silentResults = record { y1 = pos 0; y2 = pos 0 }
+
+abbrev pub silent : Exact
+silent =
+    record {
+      scale = 1;
+      volume = clearedLevel;
+      gains = replicate bandCount clearedLevel;
+      x1 = pos 0;
+      x2 = pos 0;
+      results = replicate bandCount silentResults;
+    }
+
+-- a fraction on the next frame's scale
+abbrev pub rescaled : ℤ → ℤ
+rescaled z = pos divisor *ℤ z
+
+-- "each band's y = (A × (x - x2) + G × y1 - B × y2) / 2^22", the division left to the scale; "y1 to y2 and y to y1"
+abbrev pub exactResults : Band → ℤ → ℤ → Results → Results
+exactResults band x x2 r = record { y1 = exactSum band x x2 (r .y1) (r .y2); y2 = rescaled (r .y1) }
+
+abbrev pub allResults : List Band → ℤ → ℤ → List Results → List Results
+allResults [] x x2 rs = []
+allResults (band ∷ bands) x x2 [] = []
+allResults (band ∷ bands) x x2 (r ∷ rs) = exactResults band x x2 r ∷ allResults bands x x2 rs
+
+-- a frame on x: "every gain and V first moves as under Levels"; then the sound; "then x1 passes to x2 and x to x1"
+unfoldable pub exactFrame : List Band → ℤ → Exact → Exact
+exactFrame bands x e =
+    record {
+      scale = divisor * e .scale;
+      volume = moved volumeSlope (e .volume);
+      gains = map (moved gainSlope) (e .gains);
+      x1 = rescaled (pos (e .scale) *ℤ x);
+      x2 = rescaled (e .x1);
+      results = allResults bands (pos (e .scale) *ℤ x) (e .x2) (e .results);
+    }
+
+-- the sum of g × y, after the frame
+abbrev pub gained : List Level → List Results → ℤ
+gained [] rs = pos 0
+gained (g ∷ gs) [] = pos 0
+gained (g ∷ gs) (r ∷ rs) = g .present *ℤ r .y1 +ℤ gained gs rs
+
+-- "m = x + (sum of g × y) / 2^23": over 2^23 × scale
+unfoldable pub exactMixed : Exact → ℤ
+exactMixed e = pos (2 ^ 23) *ℤ e .x1 +ℤ gained (e .gains) (e .results)
+
+-- what the output stands over: 2^31 × 2^23 × scale
+abbrev pub outputScale : Exact → ℕ
+outputScale e = 2 ^ 54 * e .scale
+
+-- "The exact output is V × m / 2^31, limited to -32,768 to 32,767"
+unfoldable pub exactOutput : Exact → ℤ
+exactOutput e =
+    limit (pos (outputScale e) *ℤ sampleLow) (pos (outputScale e) *ℤ sampleHigh) (e .volume .present *ℤ exactMixed e)
+
+module _ (channels channel : ℕ) (bands : List Band) where
+  -- "An accepted order sets targets by the rules under Levels"
+  abbrev pub exactAimed : ℕ → ℕ → ℤ → Exact → Exact
+  exactAimed side band target e =
+      record {
+        scale = e .scale;
+        volume = cond (eqb band volumeBand) (aimed target (e .volume)) (e .volume);
+        gains =
+            cond (eqb band volumeBand) (e .gains)
+            (cond (names side channel) (changed (eqb band) (aimed target) (e .gains)) (e .gains));
+        x1 = e .x1;
+        x2 = e .x2;
+        results = e .results;
+      }
+
+  -- "An accepted block gives its frames in turn": after the first k of them
+  unfoldable pub exactPlayed : List ℕ → Exact → ℕ → Exact
+  exactPlayed input e zero = e
+  exactPlayed input e (suc k) = exactFrame bands (wordAt input (placeOf channels channel k)) (exactPlayed input e k)
+
+  -- "A call refused for its arguments changes nothing"
+  abbrev pub exactAfter : Exact → Call → Exact
+  exactAfter e (order side band level) =
+      cond (isAccepted (orderArguments side band level)) (exactAimed side band (targetOf band level) e) e
+  exactAfter e (block input room) =
+      cond (isAccepted (blockArguments channels (length input) (length room))) (exactPlayed input e (frameCount channels input)) e
+
+  -- the reckoning as it stands after each frame
+  abbrev pub exactsOf : Exact → Call → List Exact
+  exactsOf e (order side band level) = []
+  exactsOf e (block input room) =
+      cond (isAccepted (blockArguments channels (length input) (length room)))
+      (tabulate (frameCount channels input) (λ (k : ℕ). exactPlayed input e (suc k))) []
+
+  abbrev pub exacts : Exact → List Call → List Exact
+  exacts e [] = []
+  exacts e (call ∷ calls) = exactsOf e call ++ exacts (exactAfter e call) calls
+
+-- ---- "The impulse response is h(0) = 1, h(1) = G / 2^22, h(k) = (G × h(k-1) - B × h(k-2)) / 2^22"
+
+-- (2^22)^k × h(k)
+abbrev pub response : Band → ℕ → ℤ
+response band zero = pos 1
+response band (suc zero) = band .gamma
+response band (suc (suc k)) = band .gamma *ℤ response band (suc k) -ℤ band .beta *ℤ rescaled (response band k)
+
+-- "H is the sum of the first n absolute values of that band's impulse response": (2^22)^n × H
+abbrev pub summed : Band → ℕ → ℕ
+summed band zero = 0
+summed band (suc n) = divisor * (summed band n + natAbs (response band n))
+
+-- "sum over the bands of |g| × H", on the scale of frame n
+abbrev pub gainedSums : ℕ → List Level → List Band → ℕ
+gainedSums n [] bands = 0
+gainedSums n (g ∷ gs) [] = 0
+gainedSums n (g ∷ gs) (band ∷ bands) = natAbs (g .present) * summed band n + gainedSums n gs bands
+
+-- ---- the claim
+
+-- "by at most 1/2 + V/2^32 + V × (sum over the bands of |g| × H)/2^55", of the sample s and the reckoning after frame n: twice the
+-- distance, on the scale of the output
+pub record Close (bands : List Band) (n : ℕ) (s : ℤ) (e : Exact) : Type 0 where
+  pub distance : 2 * natAbs (pos (outputScale e) *ℤ s -ℤ exactOutput e) ≤ outputScale e + natAbs (e .volume .present) * (2 ^ 23 * e .scale) + natAbs (e .volume .present) * gainedSums n (e .gains) bands
+
+-- "if no section of that side has limited up to and including frame n"
+module _ (channels channel : ℕ) (set : List ℤ) (calls : List Call) where
+  -- "It begins with a cleared unit with an accepted band set"
+  abbrev pub begun : Unit
+  begun = clearedUnit channels (bandsOf set)
+
+  abbrev pub NotLimited : ℕ → Type 0
+  NotLimited n = anyOf (take n (limits channels channel begun calls)) ≡ false
+
+  -- frame n of the list, n from 1: its sample, and the exact reckoning after it
+  abbrev pub sampleOf : ℕ → ℤ
+  sampleOf zero = pos 0
+  sampleOf (suc i) = getD (samples channels channel begun calls) i (pos 0)
+
+  abbrev pub exactOf : ℕ → Exact
+  exactOf zero = silent
+  exactOf (suc i) = getD (exacts channels channel (bandsOf set) silent calls) i silent
+
+  -- how many frames the list has
+  abbrev pub frameTotal : ℕ
+  frameTotal = length (samples channels channel begun calls)
+
+pub record Demand3 : Type 0 where
+  pub close : (channels channel : ℕ) (set : List ℤ) (calls : List Call) (n : ℕ) → channel < channels → isAccepted (setVerdict set) ≡ true → 0 < n → n ≤ frameTotal channels channel set calls → NotLimited channels channel set calls n → Close (bandsOf set) n (sampleOf channels channel set calls n) (exactOf channels channel set calls n)
+  -- the reckoning has as many frames as the unit, and the limiting is known of each
+  pub counted : (channels channel : ℕ) (set : List ℤ) (calls : List Call) → channel < channels → isAccepted (setVerdict set) ≡ true → (length (exacts channels channel (bandsOf set) silent calls) ≡ frameTotal channels channel set calls) × (length (limits channels channel (begun channels channel set calls) calls) ≡ frameTotal channels channel set calls)
