@@ -14,7 +14,7 @@ use Rattle.integers.proofs.Parts.{Term, posPart, negPart, linear, terms-eq, var
 use Rattle.integers.proofs.Order.{≤ℤ-antisym, ltZ-true, ltZ-false, leZ-true, leZ-false}
 use Rattle.integers.proofs.Abs.{abs-parts, abs-case, abs-neg, abs-nonneg, abs-sum, abs-product}
 use Rattle.rounding.specs.Rounding.{floor, rest, odd, goesUp, nearest, taken}
-use Rattle.rounding.proofs.Floor.{floor-unique, floor-rest, rest-low, rest-high, multiples}
+use Rattle.rounding.proofs.Floor.{floor-high, floor-unique, floor-rest, rest-low, rest-high, multiples}
 
 -- twice what is left
 unfoldable pub twice : ℤ → ℕ → ℤ
@@ -197,3 +197,11 @@ nearest-size v k n h = go (ltb n (natAbs (nearest v k))) refl
           pow-pos k,
         ))
     go false e = ltb-false n (natAbs (nearest v k)) e
+
+-- v of 0 or more is rounded to a number of 0 or more
+pub nearest-low : (v : ℤ) (k : ℕ) → pos 0 ≤ℤ v → pos 0 ≤ℤ nearest v k
+nearest-low v k h =
+    nearest-case v k (λ n. pos 0 ≤ℤ n) (λ t e. below) (λ t e. omega (linear, below, (var (floor v k) ⊕ var (pos 1)) .tie))
+  where
+    below : pos 0 ≤ℤ floor v k
+    below = multiples (2 ^ k) (pow-pos k) (pos 0) (floor v k) (omega (linear, floor-high v k, (var (pos (2 ^ k)) ⊗ var (pos 0)) .tie))

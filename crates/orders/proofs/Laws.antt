@@ -1,0 +1,177 @@
+-- The laws of level orders: an accepted level's target is in its range, so that an order keeps a fit unit fit; and in a fit unit only the
+-- arguments decide.
+use mathlib.Core.Path.{_≡_, refl}
+use mathlib.Core.Bool.{Bool, true, false, cond}
+use Prim.Native.Nat.{ℕ, _≤_}
+use lib.Dec.{eqb, leb}
+use lib.IntN.{ℤ, pos, _-ℤ_, _*ℤ_}
+use lib.Ieee.{Float, binary32}
+use lib.Signed.{leZ, ltZ, _≤ℤ_}
+use borrow.Author.Tests.{leb-true, leb-false, eqb-true, eq-eqb}
+use Rattle.integers.proofs.Parts.{linear, var, _⊖_, _⊗_}
+use Rattle.integers.proofs.Order.{both-true, leZ-true}
+use Rattle.rounding.specs.Rounding.{nearest, within}
+use Rattle.rounding.proofs.Nearest.{nearest-low}
+use Rattle.rounding.proofs.Limit.{limit-case, limit-low, limit-high, within-bounds, bounds-within}
+use Rattle.refusals.specs.Numbers.{unless, isAccepted}
+use Rattle.refusals.specs.declared.Verdict.the-variants.{Accepted, NoPlace, PositionOver, NotFinite, FactorRange, Unfit}
+use Rattle.refusals.proofs.Laws.{unless-accepted}
+use Rattle.floats.specs.Value.{isFinite, inUnits, oneUnits, inRange, factorTarget}
+use Rattle.bands.specs.Words.{wordLow, wordHigh, isWord}
+use Rattle.unit.specs.Fit.{isVolume, SectionFit, ChannelFit, Fit, unitFits}
+use Rattle.unit.specs.declared.BandSection.{BandSection}
+use Rattle.unit.specs.declared.Channel.{Channel}
+use Rattle.unit.specs.declared.Unit.{Unit}
+use Rattle.unit.proofs.Changed.{changed-each}
+use Rattle.unit.proofs.Fitness.{test-of-fit}
+use Rattle.orders.specs.declared.Setting.{Setting}
+use Rattle.orders.specs.declared.Setting.the-variants.{Position, Factor, Mute}
+use Rattle.orders.specs.Orders.{volumeBand, isPlace, names, bandPosition, volumePosition, targetOf, lowest, levelVerdict, orderArguments, orderVerdict, aimedSection, aimedChannel, aimedVolume, aimedBand, aimedUnit, ordered}
+
+-- ---- the target of an accepted level
+
+-- "p × 270,600" up to position 31
+volume-position : (p : ℕ) → p ≤ 31 → isVolume (volumePosition p) ≡ true
+unfolding isVolume volumePosition
+volume-position p h =
+    bounds-within (pos 0) wordHigh (volumePosition p)
+    (omega (linear, (var (pos p) ⊗ var (pos 270600)) .tie))
+    (omega (linear, (var (pos p) ⊗ var (pos 270600)) .tie))
+
+-- "(p - 16) × 558,681 from 16 up and (p - 16) × 104,857 below", up to position 31
+band-position : (p : ℕ) → p ≤ 31 → isWord (bandPosition p) ≡ true
+unfolding bandPosition
+band-position p h = go (leb 16 p) refl
+  where
+    go : (t : Bool) → leb 16 p ≡ t → isWord ((pos p -ℤ pos 16) *ℤ cond t (pos 558681) (pos 104857)) ≡ true
+    go true e =
+        bounds-within wordLow wordHigh _
+        (omega (linear, leb-true 16 p e, ((var (pos p) ⊖ var (pos 16)) ⊗ var (pos 558681)) .tie))
+        (omega (linear, ((var (pos p) ⊖ var (pos 16)) ⊗ var (pos 558681)) .tie))
+    go false e =
+        bounds-within wordLow wordHigh _
+        (omega (linear, ((var (pos p) ⊖ var (pos 16)) ⊗ var (pos 104857)) .tie))
+        (omega (linear, leb-false 16 p e, ((var (pos p) ⊖ var (pos 16)) ⊗ var (pos 104857)) .tie))
+
+-- "limited to 8,388,607"
+factor-word : (f : Float) → isWord (factorTarget f) ≡ true
+unfolding factorTarget
+factor-word f =
+    bounds-within wordLow wordHigh _ (limit-low wordLow wordHigh (omega linear) whole) (limit-high wordLow wordHigh (omega linear) whole)
+  where
+    whole : ℤ
+    whole = nearest (inUnits binary32 f) 126
+
+-- "0 ≤ f < 1 for the volume"
+factor-volume : (f : Float) → inRange (pos 0) f ≡ true → isVolume (factorTarget f) ≡ true
+unfolding isVolume factorTarget inRange
+factor-volume f e =
+    limit-case wordLow wordHigh whole (λ n. within (pos 0) wordHigh n ≡ true)
+    (λ u. absurd (omega (linear, positive)))
+    (λ u o. bounds-within (pos 0) wordHigh wordHigh (omega linear) (omega linear))
+    (λ u o. bounds-within (pos 0) wordHigh whole positive o)
+  where
+    whole : ℤ
+    whole = nearest (inUnits binary32 f) 126
+
+    positive : pos 0 ≤ℤ whole
+    positive =
+        nearest-low (inUnits binary32 f) 126
+        (leZ-true (pos 0) (inUnits binary32 f) (both-true (leZ (pos 0) (inUnits binary32 f)) (ltZ (inUnits binary32 f) (oneUnits binary32)) e .0))
+
+-- a volume is a word
+volume-word : (v : ℤ) → isVolume v ≡ true → isWord v ≡ true
+unfolding isVolume
+volume-word v e = bounds-within wordLow wordHigh v (omega (linear, within-bounds (pos 0) wordHigh v e .0)) (within-bounds (pos 0) wordHigh v e .1)
+
+-- what an accepted level has shown
+level-accepted : (side band : ℕ) (setting : Setting) → isAccepted (orderArguments side band setting) ≡ true → isAccepted (levelVerdict band setting) ≡ true
+level-accepted side band setting e = unless-accepted (isPlace side band) NoPlace (levelVerdict band setting) (λ t. refl) e .1
+
+position-accepted : (band p : ℕ) → isAccepted (levelVerdict band (Position p)) ≡ true → p ≤ 31
+unfolding levelVerdict
+position-accepted band p e = leb-true p 31 (unless-accepted (leb p 31) PositionOver Accepted (λ t. refl) e .0)
+
+factor-accepted : (band : ℕ) (f : Float) → isAccepted (levelVerdict band (Factor f)) ≡ true → (isFinite f ≡ true) × (inRange (lowest band) f ≡ true)
+unfolding levelVerdict
+factor-accepted band f e = (first .0, unless-accepted (inRange (lowest band) f) FactorRange Accepted (λ t. refl) (first .1) .0)
+  where
+    first : (isFinite f ≡ true) × (isAccepted (unless (inRange (lowest band) f) FactorRange Accepted) ≡ true)
+    first = unless-accepted (isFinite f) NotFinite (unless (inRange (lowest band) f) FactorRange Accepted) (λ t. refl) e
+
+-- "the volume V is 0 to 8,388,607": so is its target
+pub target-volume : (side band : ℕ) (setting : Setting) → isAccepted (orderArguments side band setting) ≡ true → band ≡ volumeBand → isVolume (targetOf band setting) ≡ true
+unfolding targetOf isVolume within
+target-volume side band setting e b = go setting (level-accepted side band setting e)
+  where
+    is-volume : eqb band volumeBand ≡ true
+    is-volume = eq-eqb band volumeBand b
+
+    go : (s : Setting) → isAccepted (levelVerdict band s) ≡ true → isVolume (targetOf band s) ≡ true
+    go (Position p) a = simp is-volume (volume-position p (position-accepted band p a))
+    go (Factor f) a = factor-volume f (simp is-volume at (factor-accepted band f a .1))
+    go Mute a = refl
+
+-- "Gains g are words": so are their targets
+pub target-word : (side band : ℕ) (setting : Setting) → isAccepted (orderArguments side band setting) ≡ true → isWord (targetOf band setting) ≡ true
+unfolding targetOf within
+target-word side band setting e = go setting (level-accepted side band setting e)
+  where
+    go : (s : Setting) → isAccepted (levelVerdict band s) ≡ true → isWord (targetOf band s) ≡ true
+    go (Position p) a = either (eqb band volumeBand)
+      where
+        either : (t : Bool) → isWord (cond t (volumePosition p) (bandPosition p)) ≡ true
+        either true = volume-word (volumePosition p) (volume-position p (position-accepted band p a))
+        either false = band-position p (position-accepted band p a)
+    go (Factor f) a = factor-word f
+    go Mute a = refl
+
+-- ---- the unit after an order
+
+module _ (band : ℕ) (target : ℤ) (word : isWord target ≡ true) where
+  aimed-section-fit : (s : BandSection) → SectionFit s → SectionFit (aimedSection target s)
+  aimed-section-fit s f = record { y1 = f .y1; y2 = f .y2; present = f .present; target = word }
+
+  aimed-channel-fit : (c : Channel) → ChannelFit c → ChannelFit (aimedChannel band target c)
+  aimed-channel-fit c f =
+      record {
+        x1 = f .x1;
+        x2 = f .x2;
+        flag = f .flag;
+        sections = changed-each SectionFit (eqb band) (aimedSection target) (c .sections) aimed-section-fit (f .sections);
+      }
+
+  aimed-band-fit : (side : ℕ) (u : Unit) → Fit u → Fit (aimedBand side band target u)
+  aimed-band-fit side u f =
+      record {
+        volume = f .volume;
+        bands = f .bands;
+        channels = changed-each ChannelFit (names side) (aimedChannel band target) (u .channels) aimed-channel-fit (f .channels);
+      }
+
+aimed-volume-fit : (target : ℤ) → isVolume target ≡ true → (u : Unit) → Fit u → Fit (aimedVolume target u)
+aimed-volume-fit target e u f =
+    record { volume = record { present = f .volume .present; target = e }; bands = f .bands; channels = f .channels }
+
+-- an accepted order's targets are in their ranges
+pub aimed-fit : (u : Unit) (side band : ℕ) (setting : Setting) → isAccepted (orderArguments side band setting) ≡ true → Fit u → Fit (aimedUnit side band (targetOf band setting) u)
+unfolding aimedUnit
+aimed-fit u side band setting e f = go (eqb band volumeBand) refl
+  where
+    go : (t : Bool) → eqb band volumeBand ≡ t → Fit (cond t (aimedVolume (targetOf band setting) u) (aimedBand side band (targetOf band setting) u))
+    go true b = aimed-volume-fit (targetOf band setting) (target-volume side band setting e (eqb-true band volumeBand b)) u f
+    go false b = aimed-band-fit band (targetOf band setting) (target-word side band setting e) side u f
+
+-- in a fit unit only the arguments decide
+pub order-accepts : (u : Unit) (side band : ℕ) (setting : Setting) → Fit u → ordered u side band setting .verdict ≡ orderArguments side band setting
+unfolding ordered orderVerdict
+order-accepts u side band setting f = simp (test-of-fit u f)
+
+-- an order keeps a fit unit fit
+pub order-fit : (u : Unit) (side band : ℕ) (setting : Setting) → Fit u → Fit (ordered u side band setting .unit)
+unfolding ordered orderVerdict
+order-fit u side band setting f = go (isAccepted (orderVerdict u side band setting)) refl
+  where
+    go : (t : Bool) → isAccepted (orderVerdict u side band setting) ≡ t → Fit (cond t (aimedUnit side band (targetOf band setting) u) u)
+    go true e = aimed-fit u side band setting (unless-accepted (unitFits u) Unfit (orderArguments side band setting) (λ t. refl) e .1) f
+    go false e = f
