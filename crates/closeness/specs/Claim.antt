@@ -20,7 +20,7 @@ use Rattle.refusals.specs.Numbers.{isAccepted}
 use Rattle.bands.specs.declared.Band.{Band}
 use Rattle.levels.specs.declared.Level.{Level}
 use Rattle.levels.specs.Levels.{gainSlope, volumeSlope, moved, aimed}
-use Rattle.section.specs.Equation.{exactSum, sumShift}
+use Rattle.section.specs.Equation.{exactSum, sumShift, flag}
 use Rattle.unit.specs.declared.Channel.{Channel}
 use Rattle.unit.specs.declared.Unit.{Unit}
 use Rattle.unit.specs.Lists.{tabulate, changed, anyOf}
@@ -39,17 +39,18 @@ pub data Call : Type 0 where
   order : (side band : ℕ) (level : Setting) → Call
   block : (input room : List ℕ) → Call
 
-module _ (channels channel : ℕ) where
-  -- where the channel's sample stands in frame k of a block; here k counts from 0
-  abbrev pub placeOf : ℕ → ℕ
-  placeOf k = frameSize channels * k + 2 * channel
+-- ---- the unit: what the contracts of `orders::order` and `blocks::play` promise
 
-  -- ---- the unit: what the contracts of `orders::order` and `blocks::play` promise
-
+module _ (channels : ℕ) where
   -- "Each call gets the unit that the last one handed back": the unit that this call hands back
   abbrev pub unitAfter : Unit → Call → Unit
   unitAfter u (order side band level) = ordered u side band level .unit
   unitAfter u (block input room) = blockPlayed channels u input (length room) .unit
+
+  -- the unit that the whole list hands back
+  abbrev pub handedBack : Unit → List Call → Unit
+  handedBack u [] = u
+  handedBack u (call ∷ calls) = handedBack (unitAfter u call) calls
 
   -- "Frames are numbered from 1 over the accepted blocks": a frame of a call, read for each frame of an accepted block
   abbrev pub framesOf : {A : Type 0} → Unit → Call → (List ℕ → List ℕ → ℕ → A) → List A
@@ -57,14 +58,19 @@ module _ (channels channel : ℕ) where
   framesOf u (block input room) read =
       cond (isAccepted (blockPlayed channels u input (length room) .verdict)) (tabulate (frameCount channels input) (read input room)) []
 
+module _ (channels channel : ℕ) where
+  -- where the channel's sample stands in frame k of a block; here k counts from 0
+  abbrev pub placeOf : ℕ → ℕ
+  placeOf k = frameSize channels * k + 2 * channel
+
   -- "A side's sample is its signed 16-bit number for that frame in the output as the block handed it back"
   abbrev pub samplesOf : Unit → Call → List ℤ
   samplesOf u call =
-      framesOf u call (λ (input room : List ℕ) (k : ℕ). sampleAt (blockOutput channels u input room) (placeOf k))
+      framesOf channels u call (λ (input room : List ℕ) (k : ℕ). sampleAt (blockOutput channels u input room) (placeOf k))
 
   abbrev pub samples : Unit → List Call → List ℤ
   samples u [] = []
-  samples u (call ∷ calls) = samplesOf u call ++ samples (unitAfter u call) calls
+  samples u (call ∷ calls) = samplesOf u call ++ samples (unitAfter channels u call) calls
 
   -- "Whether a section has limited is worked from the list by the rounding and limiting under Words and the section, and not read from
   -- the flag": one of the channel's sections limits in the frame that this unit plays on x
@@ -76,11 +82,11 @@ module _ (channels channel : ℕ) where
 
   abbrev pub limitsOf : Unit → Call → List Bool
   limitsOf u call =
-      framesOf u call (λ (input room : List ℕ) (k : ℕ). limitsOn (wordAt input (placeOf k)) (played channels u input k))
+      framesOf channels u call (λ (input room : List ℕ) (k : ℕ). limitsOn (wordAt input (placeOf k)) (played channels u input k))
 
   abbrev pub limits : Unit → List Call → List Bool
   limits u [] = []
-  limits u (call ∷ calls) = limitsOf u call ++ limits (unitAfter u call) calls
+  limits u (call ∷ calls) = limitsOf u call ++ limits (unitAfter channels u call) calls
 
 -- ---- "The exact sound has a reckoning of its own. It is fed the band set and each call of the list with its arguments, and takes nothing
 -- from the unit."
@@ -227,29 +233,34 @@ gainedSums n (g ∷ gs) (band ∷ bands) = natAbs (g .present) * summed band n +
 pub record Close (bands : List Band) (n : ℕ) (s : ℤ) (e : Exact) : Type 0 where
   pub distance : 2 * natAbs (pos (outputScale e) *ℤ s -ℤ exactOutput e) ≤ outputScale e + natAbs (e .volume .present) * (2 ^ 23 * e .scale) + natAbs (e .volume .present) * gainedSums n (e .gains) bands
 
--- "if no section of that side has limited up to and including frame n"
+-- a list begun "with a cleared unit with an accepted band set", and one of its channels
 module _ (channels channel : ℕ) (set : List ℤ) (calls : List Call) where
-  -- "It begins with a cleared unit with an accepted band set"
   abbrev pub begun : Unit
   begun = clearedUnit channels (bandsOf set)
 
-  abbrev pub NotLimited : ℕ → Type 0
-  NotLimited n = anyOf (take n (limits channels channel begun calls)) ≡ false
+  -- all frames of the list: the samples, whether a section limits, and the exact reckoning
+  abbrev pub allSamples : List ℤ
+  allSamples = samples channels channel begun calls
 
-  -- frame n of the list, n from 1: its sample, and the exact reckoning after it
-  abbrev pub sampleOf : ℕ → ℤ
-  sampleOf zero = pos 0
-  sampleOf (suc i) = getD (samples channels channel begun calls) i (pos 0)
+  abbrev pub allLimits : List Bool
+  allLimits = limits channels channel begun calls
 
-  abbrev pub exactOf : ℕ → Exact
-  exactOf zero = silent
-  exactOf (suc i) = getD (exacts channels channel (bandsOf set) silent calls) i silent
+  abbrev pub allExacts : List Exact
+  allExacts = exacts channels channel (bandsOf set) silent calls
 
-  -- how many frames the list has
-  abbrev pub frameTotal : ℕ
-  frameTotal = length (samples channels channel begun calls)
+  -- "for every frame n": "if no section of that side has limited up to and including frame n", it is close. Here n = i + 1
+  abbrev pub CloseAt : ℕ → Type 0
+  CloseAt i =
+      i < length allSamples → anyOf (take (suc i) allLimits) ≡ false → Close (bandsOf set) (suc i) (getD allSamples i (pos 0)) (getD allExacts i silent)
 
+  -- and what makes sure that nothing else is meant: the three lists have the same frames, and the flag of the unit that the list hands
+  -- back says whether a section has limited
+  pub record Agreeing : Type 0 where
+    pub exact-frames : length allExacts ≡ length allSamples
+    pub limits-frames : length allLimits ≡ length allSamples
+    pub flag-agrees : channelOf channels channel (handedBack channels begun calls) .flag ≡ pos (flag (anyOf allLimits))
+
+-- "For every such list, whatever the orders ask and the blocks hold, and for every frame n and each side"
 pub record Demand3 : Type 0 where
-  pub close : (channels channel : ℕ) (set : List ℤ) (calls : List Call) (n : ℕ) → channel < channels → isAccepted (setVerdict set) ≡ true → 0 < n → n ≤ frameTotal channels channel set calls → NotLimited channels channel set calls n → Close (bandsOf set) n (sampleOf channels channel set calls n) (exactOf channels channel set calls n)
-  -- the reckoning has as many frames as the unit, and the limiting is known of each
-  pub counted : (channels channel : ℕ) (set : List ℤ) (calls : List Call) → channel < channels → isAccepted (setVerdict set) ≡ true → (length (exacts channels channel (bandsOf set) silent calls) ≡ frameTotal channels channel set calls) × (length (limits channels channel (begun channels channel set calls) calls) ≡ frameTotal channels channel set calls)
+  pub close : (channels channel : ℕ) (set : List ℤ) (calls : List Call) → channel < channels → isAccepted (setVerdict set) ≡ true → (i : ℕ) → CloseAt channels channel set calls i
+  pub agreeing : (channels channel : ℕ) (set : List ℤ) (calls : List Call) → channel < channels → isAccepted (setVerdict set) ≡ true → Agreeing channels channel set calls

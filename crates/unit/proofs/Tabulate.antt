@@ -48,11 +48,11 @@ sum-snoc (y ∷ l) z =
     ap (λ (s : ℤ). y +ℤ s) (sum-snoc l z)
     ∙ terms-eq (var y ⊕ (var (sumOf l) ⊕ var z)) (var y ⊕ var (sumOf l) ⊕ var z) (omega arith)
 
-or-assoc : (a b c : Bool) → a || (b || c) ≡ (a || b) || c
+pub or-assoc : (a b c : Bool) → a || (b || c) ≡ (a || b) || c
 or-assoc true b c = refl
 or-assoc false b c = refl
 
-or-false : (a : Bool) → a || false ≡ a
+pub or-false : (a : Bool) → a || false ≡ a
 or-false true = refl
 or-false false = refl
 

@@ -1,0 +1,61 @@
+-- Lists of frames, side by side: the samples, whether a section limits, and the exact reckoning. The claim holds of every frame of them,
+-- after n frames of which one has limited or none.
+use mathlib.Core.Path.{_≡_, refl, sym, ap, ap₂, _∙_, subst}
+use mathlib.Core.Bool.{Bool, true, false, _||_}
+use mathlib.Core.List.{List, [], _∷_, _++_}
+use Prim.Native.Nat.{ℕ, zero, suc, _+_, _<_}
+use native.Mathlib.Omega.{arith}
+use lib.IntN.{ℤ}
+use lib.ListN.{length, getD, take}
+use Rattle.bands.specs.declared.Band.{Band}
+use Rattle.unit.specs.Lists.{anyOf}
+use Rattle.unit.proofs.Tabulate.{or-assoc, or-false}
+use Rattle.closeness.specs.Claim.{Exact, Close}
+
+module _ (bands : List Band) where
+  abbrev pub Follows : ℕ → Bool → List ℤ → List Bool → List Exact → Type 0
+  Follows n limited [] [] [] = Unit {0}
+  Follows n limited [] [] (e ∷ es) = ⊥
+  Follows n limited [] (t ∷ ts) es = ⊥
+  Follows n limited (s ∷ ss) [] es = ⊥
+  Follows n limited (s ∷ ss) (t ∷ ts) [] = ⊥
+  Follows n limited (s ∷ ss) (t ∷ ts) (e ∷ es) =
+      (limited || t ≡ false → Close bands (suc n) s e) × Follows (suc n) (limited || t) ss ts es
+
+  -- counted from elsewhere
+  pub follows-from : {n m : ℕ} {a b : Bool} (ss : List ℤ) (ts : List Bool) (es : List Exact) → n ≡ m → a ≡ b → Follows n a ss ts es → Follows m b ss ts es
+  follows-from {n} {m} {a} {b} ss ts es p q f = subst (λ (c : Bool). Follows m c ss ts es) q (subst (λ (k : ℕ). Follows k a ss ts es) p f)
+
+  -- more frames behind
+  pub follows-append : (n : ℕ) (limited : Bool) (ss : List ℤ) (ts : List Bool) (es : List Exact) (ss' : List ℤ) (ts' : List Bool) (es' : List Exact) → Follows n limited ss ts es → Follows (n + length ts) (limited || anyOf ts) ss' ts' es' → Follows n limited (ss ++ ss') (ts ++ ts') (es ++ es')
+  follows-append n limited [] [] [] ss' ts' es' f g = follows-from ss' ts' es' (omega arith) (or-false limited) g
+  follows-append n limited [] [] (e ∷ es) ss' ts' es' f g = absurd f
+  follows-append n limited [] (t ∷ ts) es ss' ts' es' f g = absurd f
+  follows-append n limited (s ∷ ss) [] es ss' ts' es' f g = absurd f
+  follows-append n limited (s ∷ ss) (t ∷ ts) [] ss' ts' es' f g = absurd f
+  follows-append n limited (s ∷ ss) (t ∷ ts) (e ∷ es) ss' ts' es' f g =
+      (f .0, follows-append (suc n) (limited || t) ss ts es ss' ts' es' (f .1) (follows-from ss' ts' es' (omega arith) (or-assoc limited t (anyOf ts)) g))
+
+  -- frame i of them, i from 0
+  pub follows-at : (n : ℕ) (limited : Bool) (ss : List ℤ) (ts : List Bool) (es : List Exact) (s : ℤ) (e : Exact) → Follows n limited ss ts es → (i : ℕ) → i < length ss → limited || anyOf (take (suc i) ts) ≡ false → Close bands (suc (n + i)) (getD ss i s) (getD es i e)
+  follows-at n limited [] ts es s e f i h q = absurd (omega arith)
+  follows-at n limited (a ∷ ss) [] es s e f i h q = absurd f
+  follows-at n limited (a ∷ ss) (t ∷ ts) [] s e f i h q = absurd f
+  follows-at n limited (a ∷ ss) (t ∷ ts) (b ∷ es) s e f zero h q =
+      subst (λ (k : ℕ). Close bands k a b) (omega arith) (f .0 (ap (λ (c : Bool). limited || c) (sym (or-false t)) ∙ q))
+  follows-at n limited (a ∷ ss) (t ∷ ts) (b ∷ es) s e f (suc i) h q =
+      subst (λ (k : ℕ). Close bands k (getD ss i s) (getD es i e)) next
+      (follows-at (suc n) (limited || t) ss ts es s e (f .1) i (omega arith) (sym (or-assoc limited t (anyOf (take (suc i) ts))) ∙ q))
+    where
+      next : suc (suc n + i) ≡ suc (n + suc i)
+      next = omega arith
+
+  -- the lists are equally long
+  pub follows-length : (n : ℕ) (limited : Bool) (ss : List ℤ) (ts : List Bool) (es : List Exact) → Follows n limited ss ts es → (length es ≡ length ss) × (length ts ≡ length ss)
+  follows-length n limited [] [] [] f = (refl, refl)
+  follows-length n limited [] [] (e ∷ es) f = absurd f
+  follows-length n limited [] (t ∷ ts) es f = absurd f
+  follows-length n limited (s ∷ ss) [] es f = absurd f
+  follows-length n limited (s ∷ ss) (t ∷ ts) [] f = absurd f
+  follows-length n limited (s ∷ ss) (t ∷ ts) (e ∷ es) f =
+      (ap suc (follows-length (suc n) (limited || t) ss ts es (f .1) .0), ap suc (follows-length (suc n) (limited || t) ss ts es (f .1) .1))

@@ -1,0 +1,279 @@
+-- The unit and the exact reckoning through a list of calls: what ties them is kept by orders, refused calls and frames.
+use mathlib.Core.Path.{_≡_, refl, sym, ap, ap₂, _∙_, subst}
+use mathlib.Core.Bool.{Bool, true, false, cond, _||_}
+use mathlib.Core.List.{List, [], _∷_, _++_, map}
+use Prim.Native.Nat.{ℕ, zero, suc, _+_, _*_, _^_, _≤_, _<_}
+use native.Mathlib.Omega.{arith}
+use lib.Dec.{eqb}
+use lib.IntN.{ℤ, pos}
+use lib.ListN.{length, getD}
+use Rattle.refusals.specs.Numbers.{isAccepted}
+use Rattle.bands.specs.declared.Band.{Band}
+use Rattle.levels.specs.declared.Level.{Level}
+use Rattle.section.specs.Equation.{flag}
+use Rattle.levels.specs.Levels.{volumeSlope, moved, aimed}
+use Rattle.unit.specs.declared.BandSection.{BandSection}
+use Rattle.unit.specs.declared.Channel.{Channel}
+use Rattle.unit.specs.declared.Unit.{Unit}
+use Rattle.unit.specs.Lists.{tabulate, changed, anyOf}
+use Rattle.unit.specs.Cleared.{clearedChannel}
+use Rattle.unit.specs.Frame.{anyLimits, channelFrame, mix, output, unitFrame}
+use Rattle.unit.specs.Fit.{Fit, unitFits}
+use Rattle.unit.proofs.Fitness.{test-of-fit}
+use Rattle.unit.proofs.Tabulate.{or-assoc, or-false, any-snoc, tabulate-length}
+use Rattle.unit.proofs.Changed.{changed-length, changed-at}
+use Rattle.orders.specs.declared.Setting.{Setting}
+use Rattle.orders.specs.Orders.{volumeBand, names, targetOf, orderArguments, aimedSection, aimedChannel, aimedVolume, aimedBand, aimedUnit, ordered}
+use Rattle.orders.proofs.Laws.{aimed-fit, order-accepts}
+use Rattle.blocks.specs.Bytes.{sampleAt, wordAt, frameSize, frameCount}
+use Rattle.blocks.specs.Block.{blockArguments, blockVerdict, played, blockPlayed, blockOutput}
+use Rattle.blocks.proofs.Block.{Accepts, played-fit, played-channels, block-accepted}
+use Rattle.blocks.proofs.Read.{played-channel, output-sample}
+use Rattle.closeness.specs.Claim.{Call, order, block, placeOf, unitAfter, framesOf, samplesOf, samples, channelOf, limitsOn, limitsOf, limits, handedBack, Results, Exact, exactFrame, exactAimed, exactPlayed, exactAfter, exactsOf, exacts, Close}
+use Rattle.closeness.proofs.Band.{Near}
+use Rattle.closeness.proofs.Channel.{gainOf, NearAll, Tied, frame-tied, tied-close}
+use Rattle.closeness.proofs.Follows.{Follows, follows-from, follows-append}
+
+any-append : (a b : List Bool) → anyOf (a ++ b) ≡ anyOf a || anyOf b
+any-append [] b = refl
+any-append (t ∷ a) b = ap (λ (r : Bool). t || r) (any-append a b) ∙ or-assoc t (anyOf a) (anyOf b)
+
+module _ (channels channel : ℕ) (inside : channel < channels) (bands : List Band) where
+  -- the unit after n frames, and the exact reckoning of its channel
+  pub record TiedUnit (n : ℕ) (limited : Bool) (u : Unit) (e : Exact) : Type 0 where
+    pub fit : Fit u
+    pub width : length (u .channels) ≡ channels
+    pub bands-are : u .bands ≡ bands
+    pub tied : Tied bands n limited (u .volume) (channelOf channels channel u) e
+
+  -- counted in another way
+  tied-from : {n m : ℕ} {a b : Bool} (u : Unit) (e : Exact) → n ≡ m → a ≡ b → TiedUnit n a u e → TiedUnit m b u e
+  tied-from {n} {m} {a} {b} u e p q t = subst (λ (c : Bool). TiedUnit m c u e) q (subst (λ (k : ℕ). TiedUnit k a u e) p t)
+
+  -- ---- an order
+
+  module _ (side band : ℕ) (target : ℤ) where
+    -- it leaves all results as they are
+    aimed-near : (n : ℕ) (test : ℕ → Bool) (bs : List Band) (ss : List BandSection) (rs : List Results) → NearAll n bs ss rs → NearAll n bs (changed test (aimedSection target) ss) rs
+    aimed-near n test [] [] [] near = tt
+    aimed-near n test [] [] (r ∷ rs) near = absurd near
+    aimed-near n test [] (s ∷ ss) rs near = absurd near
+    aimed-near n test (b ∷ bs) [] rs near = absurd near
+    aimed-near n test (b ∷ bs) (s ∷ ss) [] near = absurd near
+    aimed-near n test (b ∷ bs) (s ∷ ss) (r ∷ rs) near =
+        (go (test 0), aimed-near n (λ (place : ℕ). test (suc place)) bs ss rs (near .1))
+      where
+        go : (m : Bool) → Near b n (cond m (aimedSection target s) s .y1) (cond m (aimedSection target s) s .y2) r
+        go true = near .0
+        go false = near .0
+
+    -- it sets the targets of the gains
+    aimed-gains : (test : ℕ → Bool) (ss : List BandSection) → changed test (aimed target) (map gainOf ss) ≡ map gainOf (changed test (aimedSection target) ss)
+    aimed-gains test [] = refl
+    aimed-gains test (s ∷ ss) = ap₂ _∷_ (go (test 0)) (aimed-gains (λ (place : ℕ). test (suc place)) ss)
+      where
+        go : (m : Bool) → cond m (aimed target (s .gain)) (s .gain) ≡ gainOf (cond m (aimedSection target s) s)
+        go true = refl
+        go false = refl
+
+    module _ (n : ℕ) (limited : Bool) (u : Unit) (e : Exact) (t : TiedUnit n limited u e) where
+      abbrev c : Channel
+      c = channelOf channels channel u
+
+      -- the channel of a band's order, where the side names it and where not
+      abbrev gainsThen : Bool → List Level
+      gainsThen m = cond m (changed (eqb band) (aimed target) (e .gains)) (e .gains)
+
+      named-tied : (m : Bool) → Tied bands n limited (u .volume) (cond m (aimedChannel band target c) c) (record { scale = e .scale; volume = e .volume; gains = gainsThen m; x1 = e .x1; x2 = e .x2; results = e .results })
+      named-tied true =
+          record {
+            scale = t .tied .scale;
+            volumes = t .tied .volumes;
+            gains = ap (changed (eqb band) (aimed target)) (t .tied .gains) ∙ aimed-gains (eqb band) (c .sections);
+            x1 = t .tied .x1;
+            x2 = t .tied .x2;
+            flags = t .tied .flags;
+            sections = changed-length (eqb band) (aimedSection target) (c .sections) ∙ t .tied .sections;
+            near = λ h. aimed-near n (eqb band) bands (c .sections) (e .results) (t .tied .near h);
+          }
+      named-tied false = t .tied
+
+      aimed-tied : Fit (aimedUnit side band target u) → TiedUnit n limited (aimedUnit side band target u) (exactAimed channels channel bands side band target e)
+      unfolding aimedUnit
+      aimed-tied f = go (eqb band volumeBand) f
+        where
+          go : (v : Bool) → Fit (cond v (aimedVolume target u) (aimedBand side band target u)) → TiedUnit n limited (cond v (aimedVolume target u) (aimedBand side band target u)) (record { scale = e .scale; volume = cond v (aimed target (e .volume)) (e .volume); gains = cond v (e .gains) (gainsThen (names side channel)); x1 = e .x1; x2 = e .x2; results = e .results })
+          go true fits = record { fit = fits; width = t .width; bands-are = t .bands-are; tied = volume-tied }
+            where
+              volume-tied : Tied bands n limited (aimed target (u .volume)) c (record { scale = e .scale; volume = aimed target (e .volume); gains = e .gains; x1 = e .x1; x2 = e .x2; results = e .results })
+              volume-tied =
+                  record {
+                    scale = t .tied .scale;
+                    volumes = ap (aimed target) (t .tied .volumes);
+                    gains = t .tied .gains;
+                    x1 = t .tied .x1;
+                    x2 = t .tied .x2;
+                    flags = t .tied .flags;
+                    sections = t .tied .sections;
+                    near = t .tied .near;
+                  }
+          go false fits =
+              record {
+                fit = fits;
+                width = changed-length (names side) (aimedChannel band target) (u .channels) ∙ t .width;
+                bands-are = t .bands-are;
+                tied =
+                    subst (λ (a : Channel). Tied bands n limited (u .volume) a (record { scale = e .scale; volume = e .volume; gains = gainsThen (names side channel); x1 = e .x1; x2 = e .x2; results = e .results }))
+                    (sym (changed-at (names side) (aimedChannel band target) (u .channels) clearedChannel channel (omega (arith, t .width, inside))))
+                    (named-tied (names side channel));
+              }
+
+  -- ---- the frames of a block
+
+  module _ (n : ℕ) (limited : Bool) (u : Unit) (e : Exact) (t : TiedUnit n limited u e) (input : List ℕ) where
+    -- whether a section limits in frame k, k from 0
+    abbrev limitsIn : ℕ → Bool
+    limitsIn k = limitsOn channels channel (wordAt input (placeOf channels channel k)) (played channels u input k)
+
+    -- whether one has limited, after k of them
+    abbrev limitedBy : ℕ → Bool
+    limitedBy k = limited || anyOf (tabulate k limitsIn)
+
+    abbrev exactBy : ℕ → Exact
+    exactBy k = exactPlayed channels channel bands input e k
+
+    -- one frame more
+    played-next : (k : ℕ) → TiedUnit (n + k) (limitedBy k) (played channels u input k) (exactBy k) → TiedUnit (suc (n + k)) (limitedBy k || limitsIn k) (played channels u input (suc k)) (exactBy (suc k))
+    unfolding played exactPlayed unitFrame
+    played-next k p =
+        record {
+          fit = played-fit channels u input (suc k) (t .fit);
+          width = played-channels channels u input (suc k) (t .width);
+          bands-are = p .bands-are;
+          tied =
+              subst (λ (b : Channel). Tied bands (suc (n + k)) (limitedBy k || limitsIn k) (moved volumeSlope (v .volume)) b (exactFrame bands x (exactBy k)))
+              (sym (played-channel channels u input (t .width) channel clearedChannel inside k))
+              (subst (λ (bs : List Band). Tied bands (suc (n + k)) (limitedBy k || anyLimits bs x (a .x2) (a .sections)) (moved volumeSlope (v .volume)) (channelFrame bs x a) (exactFrame bands x (exactBy k))) (sym (p .bands-are))
+              (frame-tied bands (n + k) (limitedBy k) (v .volume) a (exactBy k) (p .tied) x));
+        }
+      where
+        v : Unit
+        v = played channels u input k
+
+        a : Channel
+        a = channelOf channels channel v
+
+        x : ℤ
+        x = wordAt input (placeOf channels channel k)
+
+    limited-more : (k : ℕ) → limitedBy k || limitsIn k ≡ limitedBy (suc k)
+    limited-more k =
+        sym (or-assoc limited (anyOf (tabulate k limitsIn)) (limitsIn k))
+        ∙ ap (λ (b : Bool). limited || b) (sym (any-snoc (tabulate k limitsIn) (limitsIn k)))
+
+    -- the unit after k frames of the block
+    played-tied : (k : ℕ) → TiedUnit (n + k) (limitedBy k) (played channels u input k) (exactBy k)
+    unfolding played exactPlayed
+    played-tied zero = tied-from u e (omega arith) (sym (or-false limited)) t
+    played-tied (suc k) =
+        tied-from (played channels u input (suc k)) (exactBy (suc k)) (omega arith) (limited-more k) (played-next k (played-tied k))
+
+    -- the claim holds of them
+    module _ (room : List ℕ) (accepts : Accepts channels u (length input) (length room)) where
+      abbrev sampleIn : ℕ → ℤ
+      sampleIn k = sampleAt (blockOutput channels u input room) (placeOf channels channel k)
+
+      frames-follow : (k : ℕ) → k ≤ frameCount channels input → Follows bands n limited (tabulate k sampleIn) (tabulate k limitsIn) (tabulate k (λ (j : ℕ). exactBy (suc j)))
+      frames-follow zero h = tt
+      frames-follow (suc k) h =
+          follows-append bands n limited (tabulate k sampleIn) (tabulate k limitsIn) (tabulate k (λ (j : ℕ). exactBy (suc j))) (sampleIn k ∷ []) (limitsIn k ∷ []) (exactBy (suc k) ∷ [])
+          (frames-follow k (omega arith))
+          ((λ q. subst (λ (m : ℕ). Close bands (suc m) (sampleIn k) (exactBy (suc k))) (ap (λ (m : ℕ). n + m) (sym (tabulate-length k limitsIn))) (last q)), tt)
+        where
+          last : limitedBy k || limitsIn k ≡ false → Close bands (suc (n + k)) (sampleIn k) (exactBy (suc k))
+          last q =
+              subst (λ (s : ℤ). Close bands (suc (n + k)) s (exactBy (suc k))) (sym (output-sample channels u input (t .width) channel clearedChannel inside room accepts k (omega arith)))
+              (tied-close bands (suc (n + k)) (limitedBy k || limitsIn k) (played channels u input (suc k) .volume) (channelOf channels channel (played channels u input (suc k))) (exactBy (suc k)) (played-next k (played-tied k) .tied) q)
+
+  -- ---- a call
+
+  module _ (n : ℕ) (limited : Bool) (u : Unit) (e : Exact) (t : TiedUnit n limited u e) where
+    -- an order, accepted or refused
+    order-tied : (side band : ℕ) (level : Setting) → TiedUnit n limited (ordered u side band level .unit) (exactAfter channels channel bands e (order side band level))
+    unfolding ordered
+    order-tied side band level =
+        subst (λ (a : Bool). TiedUnit n limited (cond a (aimedUnit side band (targetOf band level) u) u) (exactAfter channels channel bands e (order side band level)))
+        (ap isAccepted (sym (order-accepts u side band level (t .fit))))
+        (go (isAccepted (orderArguments side band level)) refl)
+      where
+        go : (a : Bool) → isAccepted (orderArguments side band level) ≡ a → TiedUnit n limited (cond a (aimedUnit side band (targetOf band level) u) u) (cond a (exactAimed channels channel bands side band (targetOf band level) e) e)
+        go true p = aimed-tied side band (targetOf band level) n limited u e t (aimed-fit u side band level p (t .fit))
+        go false p = t
+
+    module _ (input room : List ℕ) where
+      -- 14 can't arise: the arguments decide
+      abbrev accepted : Bool
+      accepted = isAccepted (blockArguments channels (length input) (length room))
+
+      arguments-decide : accepted ≡ isAccepted (blockVerdict channels u (length input) (length room))
+      unfolding blockVerdict
+      arguments-decide = simp (test-of-fit u (t .fit))
+
+      abbrev frames : ℕ
+      frames = frameCount channels input
+
+      -- a block's frames, accepted or refused
+      abbrev limitsThen : Bool → List Bool
+      limitsThen a = cond a (tabulate frames (limitsIn n limited u e t input)) []
+
+      block-tied : TiedUnit (n + length (limitsOf channels channel u (block input room))) (limited || anyOf (limitsOf channels channel u (block input room))) (blockPlayed channels u input (length room) .unit) (exactAfter channels channel bands e (block input room))
+      unfolding blockPlayed
+      block-tied =
+          subst (λ (a : Bool). TiedUnit (n + length (limitsThen a)) (limited || anyOf (limitsThen a)) (cond a (played channels u input frames) u) (exactAfter channels channel bands e (block input room))) arguments-decide
+          (go accepted)
+        where
+          go : (a : Bool) → TiedUnit (n + length (limitsThen a)) (limited || anyOf (limitsThen a)) (cond a (played channels u input frames) u) (cond a (exactPlayed channels channel bands input e frames) e)
+          go true =
+              tied-from (played channels u input frames) (exactPlayed channels channel bands input e frames) (ap (λ (m : ℕ). n + m) (sym (tabulate-length frames (limitsIn n limited u e t input)))) refl
+              (played-tied n limited u e t input frames)
+          go false = tied-from u e (omega arith) (sym (or-false limited)) t
+
+      block-follows : Follows bands n limited (samplesOf channels channel u (block input room)) (limitsOf channels channel u (block input room)) (exactsOf channels channel bands e (block input room))
+      unfolding blockPlayed
+      block-follows =
+          subst (λ (a : Bool). Follows bands n limited (cond a (tabulate frames (sampleOf)) []) (limitsThen a) (exactsOf channels channel bands e (block input room))) arguments-decide
+          (go accepted refl)
+        where
+          sampleOf : ℕ → ℤ
+          sampleOf k = sampleAt (blockOutput channels u input room) (placeOf channels channel k)
+
+          go : (a : Bool) → accepted ≡ a → Follows bands n limited (cond a (tabulate frames sampleOf) []) (limitsThen a) (cond a (tabulate frames (λ (j : ℕ). exactPlayed channels channel bands input e (suc j))) [])
+          go true p =
+              frames-follow n limited u e t input room (block-accepted channels u (length input) (length room) (sym arguments-decide ∙ p)) frames (omega arith)
+          go false p = tt
+
+    call-tied : (call : Call) → TiedUnit (n + length (limitsOf channels channel u call)) (limited || anyOf (limitsOf channels channel u call)) (unitAfter channels u call) (exactAfter channels channel bands e call)
+    call-tied (order side band level) =
+        tied-from (ordered u side band level .unit) (exactAfter channels channel bands e (order side band level)) (omega arith) (sym (or-false limited)) (order-tied side band level)
+    call-tied (block input room) = block-tied input room
+
+    call-follows : (call : Call) → Follows bands n limited (samplesOf channels channel u call) (limitsOf channels channel u call) (exactsOf channels channel bands e call)
+    call-follows (order side band level) = tt
+    call-follows (block input room) = block-follows input room
+
+  -- ---- the list
+
+  -- the claim holds of every frame of it
+  pub list-follows : (calls : List Call) (n : ℕ) (limited : Bool) (u : Unit) (e : Exact) → TiedUnit n limited u e → Follows bands n limited (samples channels channel u calls) (limits channels channel u calls) (exacts channels channel bands e calls)
+  list-follows [] n limited u e t = tt
+  list-follows (call ∷ calls) n limited u e t =
+      follows-append bands n limited (samplesOf channels channel u call) (limitsOf channels channel u call) (exactsOf channels channel bands e call) (samples channels channel (unitAfter channels u call) calls) (limits channels channel (unitAfter channels u call) calls) (exacts channels channel bands (exactAfter channels channel bands e call) calls)
+      (call-follows n limited u e t call)
+      (list-follows calls (n + length (limitsOf channels channel u call)) (limited || anyOf (limitsOf channels channel u call)) (unitAfter channels u call) (exactAfter channels channel bands e call) (call-tied n limited u e t call))
+
+  -- the flag says whether a section has limited
+  pub list-flag : (calls : List Call) (n : ℕ) (limited : Bool) (u : Unit) (e : Exact) → TiedUnit n limited u e → channelOf channels channel (handedBack channels u calls) .flag ≡ pos (flag (limited || anyOf (limits channels channel u calls)))
+  list-flag [] n limited u e t = t .tied .flags ∙ ap (λ (b : Bool). pos (flag b)) (sym (or-false limited))
+  list-flag (call ∷ calls) n limited u e t =
+      list-flag calls (n + length (limitsOf channels channel u call)) (limited || anyOf (limitsOf channels channel u call)) (unitAfter channels u call) (exactAfter channels channel bands e call) (call-tied n limited u e t call)
+      ∙ ap (λ (b : Bool). pos (flag b)) (sym (or-assoc limited (anyOf (limitsOf channels channel u call)) (anyOf (limits channels channel (unitAfter channels u call) calls))) ∙ ap (λ (b : Bool). limited || b) (sym (any-append (limitsOf channels channel u call) (limits channels channel (unitAfter channels u call) calls))))
