@@ -18,7 +18,7 @@ use Rattle.section.proofs.Laws.{worked-near}
 use Rattle.unit.specs.declared.BandSection.{BandSection}
 use Rattle.unit.specs.declared.Channel.{Channel}
 use Rattle.unit.specs.Frame.{workOf, sectionFrame, sectionsFrame, anyLimits, raised, channelFrame, share, sumOf, exactMix, mix, output}
-use Rattle.closeness.specs.Claim.{divisor, Results, Exact, rescaled, exactResults, allResults, exactFrame, gained, exactMixed, outputScale, exactOutput, summed, gainedSums, Close}
+use Rattle.closeness.specs.Claim.{divisor, Results, Exact, rescaled, exactResults, allResults, exactFrame, gained, exactMixed, outputScale, exactOutput, summed, gainedSums, bound, Close}
 use Rattle.closeness.proofs.Band.{Near, near-step, near-sum}
 use Rattle.closeness.proofs.Output.{scaled-small, output-near}
 
@@ -178,6 +178,6 @@ module _ (bands : List Band) (n : ℕ) (limited : Bool) (volume : Level) (c : Ch
   tied-close h =
       record {
         distance =
-            subst (λ (v : Level). 2 * natAbs (pos (outputScale e) *ℤ output (v .present) (mix c) -ℤ exactOutput e) ≤ outputScale e + natAbs (e .volume .present) * (2 ^ 23 * e .scale) + natAbs (e .volume .present) * gainedSums n (e .gains) bands) (t .volumes)
+            subst (λ (v : Level). 2 * natAbs (pos (outputScale e) *ℤ output (v .present) (mix c) -ℤ exactOutput e) ≤ bound bands n e) (t .volumes)
             (output-near (e .scale) (e .volume .present) (exactMix c) (exactMixed e) (gainedSums n (e .gains) bands) (mix-near h));
       }

@@ -6,3 +6,4 @@ pub mod Channel
 pub mod Follows
 pub mod Run
 pub mod Holds
+pub mod Example

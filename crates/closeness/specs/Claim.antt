@@ -228,10 +228,14 @@ gainedSums n (g ∷ gs) (band ∷ bands) = natAbs (g .present) * summed band n +
 
 -- ---- the claim
 
--- "by at most 1/2 + V/2^32 + V × (sum over the bands of |g| × H)/2^55", of the sample s and the reckoning after frame n: twice the
--- distance, on the scale of the output
+-- "1/2 + V/2^32 + V × (sum over the bands of |g| × H)/2^55", for the reckoning after frame n: twice it, on the scale of the output
+abbrev pub bound : List Band → ℕ → Exact → ℕ
+bound bands n e =
+    outputScale e + natAbs (e .volume .present) * (2 ^ 23 * e .scale) + natAbs (e .volume .present) * gainedSums n (e .gains) bands
+
+-- the sample differs from the exact output "by at most" that: twice the distance, on the same scale
 pub record Close (bands : List Band) (n : ℕ) (s : ℤ) (e : Exact) : Type 0 where
-  pub distance : 2 * natAbs (pos (outputScale e) *ℤ s -ℤ exactOutput e) ≤ outputScale e + natAbs (e .volume .present) * (2 ^ 23 * e .scale) + natAbs (e .volume .present) * gainedSums n (e .gains) bands
+  pub distance : 2 * natAbs (pos (outputScale e) *ℤ s -ℤ exactOutput e) ≤ bound bands n e
 
 -- a list begun "with a cleared unit with an accepted band set", and one of its channels
 module _ (channels channel : ℕ) (set : List ℤ) (calls : List Call) where
