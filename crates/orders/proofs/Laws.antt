@@ -1,13 +1,16 @@
 -- The laws of level orders: an accepted level's target is in its range, so that an order keeps a fit unit fit; and in a fit unit only the
 -- arguments decide.
-use mathlib.Core.Path.{_≡_, refl}
-use mathlib.Core.Bool.{Bool, true, false, cond}
-use Prim.Native.Nat.{ℕ, _≤_}
-use lib.Dec.{eqb, leb}
+use mathlib.Core.Path.{_≡_, refl, sym, _∙_, subst}
+use mathlib.Core.Logic.{⊎-elim}
+use mathlib.Core.Bool.{Bool, true, false, cond, _&&_, _||_}
+use Prim.Native.Nat.{ℕ, _≤_, _<_}
+use native.Mathlib.Nat.{eq-or-lt-of-le}
+use native.Mathlib.Omega.{arith}
+use lib.Dec.{T, eqb, leb, ltb}
 use lib.IntN.{ℤ, pos, _-ℤ_, _*ℤ_}
 use lib.Ieee.{Float, binary32}
 use lib.Signed.{leZ, ltZ, _≤ℤ_}
-use borrow.Author.Tests.{leb-true, leb-false, eqb-true, eq-eqb}
+use borrow.Author.Tests.{ltb-true, ltb-false, lt-ltb, le-ltb, ne-eqb, leb-true, leb-false, eqb-true, eq-eqb}
 use Rattle.integers.proofs.Parts.{linear, var, _⊖_, _⊗_}
 use Rattle.integers.proofs.Order.{both-true, leZ-true}
 use Rattle.rounding.specs.Rounding.{nearest, within}
@@ -18,6 +21,7 @@ use Rattle.refusals.specs.declared.Verdict.the-variants.{Accepted, NoPlace, Pos
 use Rattle.refusals.proofs.Laws.{unless-accepted}
 use Rattle.floats.specs.Value.{isFinite, inUnits, oneUnits, inRange, factorTarget}
 use Rattle.bands.specs.Words.{wordLow, wordHigh, isWord}
+use Rattle.unit.specs.Cleared.{bandCount}
 use Rattle.unit.specs.Fit.{isVolume, SectionFit, ChannelFit, Fit, unitFits}
 use Rattle.unit.specs.declared.BandSection.{BandSection}
 use Rattle.unit.specs.declared.Channel.{Channel}
@@ -26,7 +30,50 @@ use Rattle.unit.proofs.Changed.{changed-each}
 use Rattle.unit.proofs.Fitness.{test-of-fit}
 use Rattle.orders.specs.declared.Setting.{Setting}
 use Rattle.orders.specs.declared.Setting.the-variants.{Position, Factor, Mute}
-use Rattle.orders.specs.Orders.{volumeBand, isPlace, names, bandPosition, volumePosition, targetOf, lowest, levelVerdict, orderArguments, orderVerdict, aimedSection, aimedChannel, aimedVolume, aimedBand, aimedUnit, ordered}
+use Rattle.orders.specs.Orders.{bothSides, volumeBand, isPlace, names, bandPosition, volumePosition, targetOf, lowest, levelVerdict, orderArguments, orderVerdict, aimedSection, aimedChannel, aimedVolume, aimedBand, aimedUnit, ordered}
+
+-- ---- the place
+
+both-and : (a b : Bool) → (a && true) || (b && false) ≡ a
+both-and true b = refl
+both-and false true = refl
+both-and false false = refl
+
+and-both : (a b : Bool) → (a && false) || (b && true) ≡ b
+and-both true true = refl
+and-both true false = refl
+and-both false true = refl
+and-both false false = refl
+
+neither : (a b : Bool) → (a && false) || (b && false) ≡ false
+neither true true = refl
+neither true false = refl
+neither false true = refl
+neither false false = refl
+
+module _ (side band : ℕ) where
+  -- "a side (0 left, 1 right, 2 both), a band (0 to 9"
+  pub band-place : band < bandCount → isPlace side band ≡ leb side bothSides
+  unfolding isPlace
+  band-place h = simp (lt-ltb band bandCount h, ne-eqb band volumeBand (λ e. omega arith)) (both-and (leb side bothSides) (eqb side bothSides))
+
+  -- "or 10 for the volume, with side 2 only)"
+  pub volume-place : band ≡ volumeBand → isPlace side band ≡ eqb side bothSides
+  unfolding isPlace
+  volume-place e = simp (le-ltb band bandCount (omega arith), eq-eqb band volumeBand e) (and-both (leb side bothSides) (eqb side bothSides))
+
+  -- there is nothing past the volume
+  pub no-place : volumeBand < band → isPlace side band ≡ false
+  unfolding isPlace
+  no-place h = simp (le-ltb band bandCount (omega arith), ne-eqb band volumeBand (λ e. omega arith)) (neither (leb side bothSides) (eqb side bothSides))
+
+  -- so a place that isn't the volume's is one of the ten bands
+  pub place-below : isPlace side band ≡ true → (band ≡ volumeBand → ⊥) → band < bandCount
+  place-below e n = go (ltb volumeBand band) refl
+    where
+      go : (t : Bool) → ltb volumeBand band ≡ t → band < bandCount
+      go true h = absurd (subst T (sym (sym (no-place (ltb-true volumeBand band h)) ∙ e)) tt)
+      go false h = ⊎-elim (λ q. absurd (n q)) (λ l. l) (eq-or-lt-of-le (ltb-false volumeBand band h))
 
 -- ---- the target of an accepted level
 
