@@ -17,7 +17,7 @@ use Rattle.floats.specs.Value.{signed}
 -- ---- tests of p / v and q / v, where these are a / c and b / c
 
 module _ (c v : ℕ) (some : 0 < c) (more : 0 < v) where
-  ltb-scaled : (p q a b : ℕ) → p * c ≡ a * v → q * c ≡ b * v → ltb p q ≡ ltb a b
+  pub ltb-scaled : (p q a b : ℕ) → p * c ≡ a * v → q * c ≡ b * v → ltb p q ≡ ltb a b
   ltb-scaled p q a b h k = go (ltb a b) refl
     where
       go : (t : Bool) → ltb a b ≡ t → ltb p q ≡ t
@@ -87,7 +87,8 @@ level-signed true true a b = below-or-same b a (eqb a b) (λ k. sym (eqb-true a 
 
 -- ---- floats
 
-cross : (x a c d e : ℕ) → x * c ≡ a * d → x * e * c ≡ a * (d * e)
+-- x / d is a / c, brought to the denominator d × e
+pub cross : (x a c d e : ℕ) → x * c ≡ a * d → x * e * c ≡ a * (d * e)
 cross x a c d e h = mul-right-comm x e c ∙ ap (λ (n : ℕ). n * e) h ∙ mul-assoc a d e
 
 -- two numbers that are a / c and b / c in size

@@ -1,3 +1,7 @@
 pub mod Units
+pub mod Closest
 mod Compare
+pub mod Sum
+mod Gapless
+pub mod Shift
 mod Range
