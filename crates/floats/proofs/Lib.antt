@@ -4,4 +4,6 @@ mod Compare
 pub mod Sum
 mod Gapless
 pub mod Shift
+mod Powers
+mod Target
 mod Range

@@ -14,10 +14,10 @@ use lib.Ieee.Exact.{HasValue}
 use lib.Ieee.Back.{round-whole}
 use lib.Ieee.Nearest.{closest}
 use Rattle.integers.proofs.Parts.{linear, var, _⊕_, _⊖_, _⊗_, ⊝_}
-use Rattle.integers.proofs.Abs.{abs-parts, abs-neg}
+use Rattle.integers.proofs.Abs.{abs-parts}
 use Rattle.rounding.specs.Rounding.{nearest}
 use Rattle.floats.specs.Value.{isFinite, signed, inUnits}
-use Rattle.floats.proofs.Units.{units-value}
+use Rattle.floats.proofs.Units.{abs-signed, units-value}
 use Rattle.floats.proofs.Closest.{closest-nearest}
 use Rattle.floats.proofs.Sum.{add-values}
 use Rattle.floats.proofs.Gapless.{round-closest}
@@ -42,10 +42,6 @@ shifted-sum : (f : Format) (s : Bool) (u b c : ℕ) → u < b * c → (n : ℕ) 
 unfolding sum
 shifted-sum f false u b c h = (u + b * c, ap pos (omega arith), refl)
 shifted-sum f true u b c h = (b * c - u, omega (linear, (var (pos c) ⊗ var (pos b) ⊖ var (pos u)) .tie, mul-comm b c), rw (lt-ltb u (b * c) h) refl)
-
-abs-signed : (s : Bool) (u : ℕ) → natAbs (signed s u) ≡ u
-abs-signed false u = refl
-abs-signed true u = abs-neg (pos u)
 
 module _ (f : Format) (j : ℕ) (digits : prec f ≡ suc (suc (suc j))) where
   abbrev S : ℕ

@@ -5,13 +5,19 @@ use Prim.Native.Nat.{ℕ, zero, suc, _+_, _-_, _*_, _%_, _^_, _≤_, _<_}
 use native.Mathlib.Nat.{mul-one, one-mul, zero-mul, mul-assoc, mul-right-comm, eq-of-mul-eq-mul-right}
 use native.Mathlib.Omega.{arith}
 use lib.Dec.{T, eqb, ltb, leb, ltb→lt, leb→le}
-use borrow.Author.Tests.{ltb-true, le-ltb}
+use borrow.Author.Tests.{ltb-true, ltb-false, le-ltb}
 use lib.Pow.{pow-add, pow-lt}
 use lib.IntN.{ℤ, pos, negsuc, natAbs, _+ℤ_}
 use lib.Ieee.{Float, nan, inf, fin, Format, prec, emax, low, up, down, fits}
 use lib.Ieee.Fits.{down-pos, and-l, and-r}
 use lib.Ieee.Exact.{HasValue}
+use Rattle.integers.proofs.Abs.{abs-neg}
 use Rattle.floats.specs.Value.{isFinite, signed, inUnits}
+
+-- the size of a signed number
+pub abs-signed : (s : Bool) (u : ℕ) → natAbs (signed s u) ≡ u
+abs-signed false u = refl
+abs-signed true u = abs-neg (pos u)
 
 -- ---- what it takes to fit
 
@@ -38,7 +44,7 @@ low-enough k l h = go (ltb l k) refl
   where
     go : (b : Bool) → ltb l k ≡ b → k ≤ l
     go true e = absurd (omega (arith, pow-lt (ltb-true l k e)))
-    go false e = borrow.Author.Tests.ltb-false l k e
+    go false e = ltb-false l k e
 
 two-power : (e : ℤ) (l : ℕ) → down e ≤ 2 ^ l → up e * 2 ^ l ≡ 2 ^ natAbs (e +ℤ pos l) * down e
 two-power (pos k) l h = sym (pow-add 2 k l) ∙ sym (mul-one (2 ^ (k + l)))
