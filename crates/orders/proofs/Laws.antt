@@ -9,17 +9,17 @@ use native.Mathlib.Omega.{arith}
 use lib.Dec.{T, eqb, leb, ltb}
 use lib.IntN.{ℤ, pos, _-ℤ_, _*ℤ_}
 use lib.Ieee.{Float, binary32}
-use lib.Signed.{leZ, ltZ, _≤ℤ_}
+use lib.Signed.{leZ, ltZ, _≤ℤ_, ≤ℤ-refl}
 use borrow.Author.Tests.{ltb-true, ltb-false, lt-ltb, le-ltb, ne-eqb, leb-true, leb-false, eqb-true, eq-eqb}
 use Rattle.integers.proofs.Parts.{linear, var, _⊖_, _⊗_}
-use Rattle.integers.proofs.Order.{both-true, leZ-true}
+use Rattle.integers.proofs.Order.{≤ℤ-trans, both-true, leZ-true, le-leZ}
 use Rattle.rounding.specs.Rounding.{nearest, within}
 use Rattle.rounding.proofs.Nearest.{nearest-low}
 use Rattle.rounding.proofs.Limit.{limit-case, limit-low, limit-high, within-bounds, bounds-within}
 use Rattle.refusals.specs.Numbers.{unless, isAccepted}
 use Rattle.refusals.specs.declared.Verdict.the-variants.{Accepted, NoPlace, PositionOver, NotFinite, FactorRange, Unfit}
 use Rattle.refusals.proofs.Laws.{unless-accepted}
-use Rattle.floats.specs.Value.{isFinite, inUnits, oneUnits, inRange, factorTarget}
+use Rattle.floats.specs.Value.{isFinite, inUnits, oneUnits, inRange, isFactor, bandLowest, volumeLowest, factorTarget}
 use Rattle.bands.specs.Words.{wordLow, wordHigh, isWord}
 use Rattle.unit.specs.Cleared.{bandCount}
 use Rattle.unit.specs.Fit.{isVolume, SectionFit, ChannelFit, Fit, unitFits}
@@ -131,8 +131,11 @@ volume-word : (v : ℤ) → isVolume v ≡ true → isWord v ≡ true
 unfolding isVolume
 volume-word v e = bounds-within wordLow wordHigh v (omega (linear, within-bounds (pos 0) wordHigh v e .0)) (within-bounds (pos 0) wordHigh v e .1)
 
--- what an accepted level has shown
-level-accepted : (side band : ℕ) (setting : Setting) → isAccepted (orderArguments side band setting) ≡ true → isAccepted (levelVerdict band setting) ≡ true
+-- what an accepted order has shown
+pub place-accepted : (side band : ℕ) (setting : Setting) → isAccepted (orderArguments side band setting) ≡ true → isPlace side band ≡ true
+place-accepted side band setting e = unless-accepted (isPlace side band) NoPlace (levelVerdict band setting) (λ t. refl) e .0
+
+pub level-accepted : (side band : ℕ) (setting : Setting) → isAccepted (orderArguments side band setting) ≡ true → isAccepted (levelVerdict band setting) ≡ true
 level-accepted side band setting e = unless-accepted (isPlace side band) NoPlace (levelVerdict band setting) (λ t. refl) e .1
 
 position-accepted : (band p : ℕ) → isAccepted (levelVerdict band (Position p)) ≡ true → p ≤ 31
@@ -145,6 +148,21 @@ factor-accepted band f e = (first .0, unless-accepted (inRange (lowest band) f) 
   where
     first : (isFinite f ≡ true) × (isAccepted (unless (inRange (lowest band) f) FactorRange Accepted) ≡ true)
     first = unless-accepted (isFinite f) NotFinite (unless (inRange (lowest band) f) FactorRange Accepted) (λ t. refl) e
+
+-- a factor that the volume or a band takes is one that a band takes
+pub factor-fits : (band : ℕ) (f : Float) → isAccepted (levelVerdict band (Factor f)) ≡ true → isFactor bandLowest f ≡ true
+unfolding inRange
+factor-fits band f e = simp (factor-accepted band f e .0, le-leZ reaches, range .1)
+  where
+    range : (leZ (lowest band) (inUnits binary32 f) ≡ true) × (ltZ (inUnits binary32 f) (oneUnits binary32) ≡ true)
+    range = both-true (leZ (lowest band) (inUnits binary32 f)) (ltZ (inUnits binary32 f) (oneUnits binary32)) (factor-accepted band f e .1)
+
+    wider : (t : Bool) → bandLowest ≤ℤ cond t volumeLowest bandLowest
+    wider true = leZ-true bandLowest volumeLowest refl
+    wider false = ≤ℤ-refl bandLowest
+
+    reaches : bandLowest ≤ℤ inUnits binary32 f
+    reaches = ≤ℤ-trans (wider (eqb band volumeBand)) (leZ-true (lowest band) (inUnits binary32 f) (range .0))
 
 -- "the volume V is 0 to 8,388,607": so is its target
 pub target-volume : (side band : ℕ) (setting : Setting) → isAccepted (orderArguments side band setting) ≡ true → band ≡ volumeBand → isVolume (targetOf band setting) ≡ true
@@ -208,6 +226,21 @@ aimed-fit u side band setting e f = go (eqb band volumeBand) refl
     go : (t : Bool) → eqb band volumeBand ≡ t → Fit (cond t (aimedVolume (targetOf band setting) u) (aimedBand side band (targetOf band setting) u))
     go true b = aimed-volume-fit (targetOf band setting) (target-volume side band setting e (eqb-true band volumeBand b)) u f
     go false b = aimed-band-fit band (targetOf band setting) (target-word side band setting e) side u f
+
+-- ---- the answer
+
+module _ (u : Unit) (side band : ℕ) (setting : Setting) where
+  pub ordered-unfit : unitFits u ≡ false → ordered u side band setting ≡ record { verdict = Unfit; unit = u }
+  unfolding ordered orderVerdict
+  ordered-unfit e = simp e
+
+  pub ordered-refused : unitFits u ≡ true → isAccepted (orderArguments side band setting) ≡ false → ordered u side band setting ≡ record { verdict = orderArguments side band setting; unit = u }
+  unfolding ordered orderVerdict
+  ordered-refused f e = simp (f, e)
+
+  pub ordered-accepted : unitFits u ≡ true → isAccepted (orderArguments side band setting) ≡ true → ordered u side band setting ≡ record { verdict = orderArguments side band setting; unit = aimedUnit side band (targetOf band setting) u }
+  unfolding ordered orderVerdict
+  ordered-accepted f e = simp (f, e)
 
 -- in a fit unit only the arguments decide
 pub order-accepts : (u : Unit) (side band : ℕ) (setting : Setting) → Fit u → ordered u side band setting .verdict ≡ orderArguments side band setting

@@ -1,13 +1,12 @@
 -- `orders::aim_named` meets its contract: its two tests are those of the definition.
 use mathlib.Core.Path.{_≡_, sym, ap, _∙_}
-use mathlib.Core.Bool.{Bool, true, false, cond}
-use Prim.Native.Nat.{ℕ}
+use mathlib.Core.Bool.{true, cond}
 use lib.IntN.{ℤ}
 use mir.Syntax.{w64}
 use mir.Val.{toZ, ofZ}
 use mir.Facts.{toZ-ofZ}
 use borrow.Author.Tests.{eq-eqb, ne-eqb}
-use Rattle.refusals.proofs.Laws.{passed, failed}
+use Rattle.refusals.proofs.Laws.{passed}
 use Rattle.unit.specs.declared.Channel.{Channel}
 use Rattle.orders.specs.Orders.{bothSides, names, aimedChannel}
 use borrow.Author.Needs.{needs}

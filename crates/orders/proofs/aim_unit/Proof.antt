@@ -1,17 +1,11 @@
 -- `orders::aim_unit` meets its contract: the volume's target, or those of a band.
-use mathlib.Core.Path.{_≡_, sym, ap, _∙_}
-use mathlib.Core.Bool.{Bool, true, false}
-use native.Mathlib.Omega.{arith}
-use Prim.Native.Nat.{ℕ, _<_}
+use mathlib.Core.Path.{ap, _∙_}
 use lib.IntN.{ℤ}
 use lib.Dec.{eqb}
 use mir.Syntax.{w64}
-use mir.Val.{toZ, ofZ}
 use mir.Facts.{toZ-ofZ}
 use borrow.Author.Tests.{eq-eqb, ne-eqb}
 use Rattle.refusals.proofs.Laws.{passed, failed}
-use Rattle.unit.specs.declared.Unit.{Unit}
-use Rattle.unit.specs.Lists.{changed}
 use Rattle.orders.specs.Orders.{volumeBand, aimedVolume, aimedBand, aimedUnit}
 use Rattle.orders.proofs.Laws.{place-below}
 use borrow.Author.Needs.{needs}
