@@ -27,7 +27,7 @@ use Rattle.unit.specs.declared.BandSection.{BandSection}
 use Rattle.unit.specs.declared.Channel.{Channel}
 use Rattle.unit.specs.declared.Unit.{Unit}
 use Rattle.unit.proofs.Changed.{changed-each}
-use Rattle.unit.proofs.Fitness.{test-of-fit}
+use Rattle.unit.proofs.Fitness.{fit-of-test, test-of-fit}
 use Rattle.orders.specs.declared.Setting.{Setting}
 use Rattle.orders.specs.declared.Setting.the-variants.{Position, Factor, Mute}
 use Rattle.orders.specs.Orders.{bothSides, volumeBand, isPlace, names, bandPosition, volumePosition, targetOf, lowest, levelVerdict, orderArguments, orderVerdict, aimedSection, aimedChannel, aimedVolume, aimedBand, aimedUnit, ordered}
@@ -246,6 +246,11 @@ module _ (u : Unit) (side band : ℕ) (setting : Setting) where
 pub order-accepts : (u : Unit) (side band : ℕ) (setting : Setting) → Fit u → ordered u side band setting .verdict ≡ orderArguments side band setting
 unfolding ordered orderVerdict
 order-accepts u side band setting f = simp (test-of-fit u f)
+
+-- an accepted order is one on a fit unit
+pub accepted-fit : (u : Unit) (side band : ℕ) (setting : Setting) → isAccepted (ordered u side band setting .verdict) ≡ true → Fit u
+unfolding ordered orderVerdict
+accepted-fit u side band setting e = fit-of-test u (unless-accepted (unitFits u) Unfit (orderArguments side band setting) (λ t. refl) e .0)
 
 -- an order keeps a fit unit fit
 pub order-fit : (u : Unit) (side band : ℕ) (setting : Setting) → Fit u → Fit (ordered u side band setting .unit)
