@@ -1,22 +1,22 @@
 -- Comparisons of two finite floats are those of their values, as whole numbers of one unit.
-use mathlib.Core.Path.{_≡_, refl, sym, ap, ap₂, _∙_, subst}
+use mathlib.Core.Path.{_≡_, refl, sym, ap, ap₂, _∙_}
 use mathlib.Core.Bool.{Bool, true, false, _&&_, _||_, Bool·beq}
 use Prim.Native.Nat.{ℕ, zero, suc, _+_, _*_, _<_}
 use native.Mathlib.Nat.{zero-mul, zero-add, add-mul, mul-comm, mul-assoc, mul-right-comm, mul-pos, mul-le-mul-right, le-of-mul-le-mul-right, mul-lt-mul-of-pos-right, lt-of-mul-lt-mul-right, eq-of-mul-eq-mul-right}
 use native.Mathlib.Omega.{arith}
-use lib.Dec.{T, ltb, leb, eqb, ltb→lt, lt→ltb, eqb→eq, leb·zero, leb·suc-zero, leb·suc-suc, eqb·zero-suc, eqb·suc-zero, eqb·suc-suc}
+use lib.Dec.{ltb, leb, eqb, leb·zero, leb·suc-zero, leb·suc-suc, eqb·zero-suc, eqb·suc-zero}
 use borrow.Author.Tests.{ltb-true, ltb-false, eqb-true, eqb-false, lt-ltb, le-ltb, le-leb, lt-leb, eq-eqb, ne-eqb}
 use lib.Arith.{lt-of-le-ne}
 use lib.IntN.{ℤ, pos, negℤ}
 use lib.Signed.{ltZ, leZ}
-use lib.Ieee.{Float, nan, inf, fin, up, down, below, level, lt, le}
+use lib.Ieee.{fin, up, down, below, level, lt, le}
 use lib.Ieee.Fits.{down-pos}
-use lib.Ieee.Exact.{HasValue}
 use Rattle.floats.specs.Value.{signed}
 
 -- ---- tests of p / v and q / v, where these are a / c and b / c
 
 module _ (c v : ℕ) (some : 0 < c) (more : 0 < v) where
+  -- the test of less is one of the numerators
   pub ltb-scaled : (p q a b : ℕ) → p * c ≡ a * v → q * c ≡ b * v → ltb p q ≡ ltb a b
   ltb-scaled p q a b h k = go (ltb a b) refl
     where
@@ -24,6 +24,7 @@ module _ (c v : ℕ) (some : 0 < c) (more : 0 < v) where
       go true e = lt-ltb p q (lt-of-mul-lt-mul-right c (rw (h, k) (mul-lt-mul-of-pos-right (ltb-true a b e) more)))
       go false e = le-ltb p q (le-of-mul-le-mul-right (rw (h, k) (mul-le-mul-right v (ltb-false a b e))) some)
 
+  -- so is that of equality
   eqb-scaled : (p q a b : ℕ) → p * c ≡ a * v → q * c ≡ b * v → eqb p q ≡ eqb a b
   eqb-scaled p q a b h k = go (eqb a b) refl
     where
@@ -31,6 +32,7 @@ module _ (c v : ℕ) (some : 0 < c) (more : 0 < v) where
       go true e = eq-eqb p q (eq-of-mul-eq-mul-right c some p q (h ∙ ap (λ (n : ℕ). n * v) (eqb-true a b e) ∙ sym k))
       go false e = ne-eqb p q (λ d. eqb-false a b e (eq-of-mul-eq-mul-right v more a b (sym h ∙ ap (λ (n : ℕ). n * c) d ∙ k)))
 
+  -- and with signs those that the library compares floats by
   below-scaled : (s t : Bool) (p q a b : ℕ) → p * c ≡ a * v → q * c ≡ b * v → below s p t q ≡ below s a t b
   below-scaled false false p q a b h k = ltb-scaled p q a b h k
   below-scaled false true p q a b h k = refl
@@ -44,6 +46,7 @@ module _ (c v : ℕ) (some : 0 < c) (more : 0 < v) where
 
 -- ---- the tests of signed numbers
 
+-- less
 below-signed : (s t : Bool) (a b : ℕ) → below s a t b ≡ ltZ (signed s a) (signed t b)
 below-signed false false a b = refl
 below-signed false true a zero = sym (leb·suc-zero a)
@@ -55,7 +58,7 @@ below-signed true true zero (suc b) = leb·suc-zero (suc b)
 below-signed true true (suc a) zero = lt-ltb 0 (suc a) (omega arith)
 below-signed true true (suc a) (suc b) = leb·suc-suc (suc b) a
 
--- not above: below, or the same
+-- less, or the same
 below-or-same : (a b : ℕ) (same : Bool) → (same ≡ true → a ≡ b) → (same ≡ false → a ≡ b → ⊥) → ltb a b || (same && true) ≡ leb a b
 below-or-same a b same holds fails = go (ltb a b) same refl refl
   where
@@ -64,12 +67,14 @@ below-or-same a b same holds fails = go (ltb a b) same refl refl
     go false true h k = sym (le-leb a b (omega (arith, holds k)))
     go false false h k = sym (lt-leb a b (lt-of-le-ne (ltb-false a b h) (λ e. fails k (sym e))))
 
+-- of two negative numbers the one of the larger size is the lesser
 leb-negative : (a b : ℕ) → leb b a ≡ leZ (negℤ (pos a)) (negℤ (pos b))
 leb-negative zero zero = refl
 leb-negative zero (suc b) = leb·suc-zero b
 leb-negative (suc a) zero = leb·zero (suc a)
 leb-negative (suc a) (suc b) = leb·suc-suc b a
 
+-- less or equal
 level-signed : (s t : Bool) (a b : ℕ) → below s a t b || level s a t b ≡ leZ (signed s a) (signed t b)
 level-signed false false a b = below-or-same a b (eqb a b) (eqb-true a b) (eqb-false a b)
 level-signed false true zero zero = refl
@@ -93,6 +98,7 @@ cross x a c d e h = mul-right-comm x e c ∙ ap (λ (n : ℕ). n * e) h ∙ mul-
 
 -- two numbers that are a / c and b / c in size
 module _ (s t : Bool) (m n : ℕ) (d e : ℤ) (a b c : ℕ) (some : 0 < c) (h : m * up d * c ≡ a * down d) (k : n * up e * c ≡ b * down e) where
+  -- the fractions that the library compares are a / c and b / c
   left : m * up d * down e * c ≡ a * (down d * down e)
   left = cross (m * up d) a c (down d) (down e) h
 

@@ -1,9 +1,9 @@
 -- The nearest whole number by a sum and a difference: x + S - S, with S = 1.5 × 2^(prec - 1). The sum lies where the format has whole
 -- numbers only, so it is rounded to one. The difference of two whole numbers is exact.
-use mathlib.Core.Path.{_≡_, refl, sym, ap, _∙_, subst}
-use mathlib.Core.Bool.{Bool, true, false, _&&_, cond}
+use mathlib.Core.Path.{_≡_, refl, sym, ap, _∙_}
+use mathlib.Core.Bool.{Bool, true, false, cond}
 use Prim.Native.Nat.{ℕ, suc, _+_, _-_, _*_, _^_, _≤_, _<_}
-use native.Mathlib.Nat.{mul-one, mul-assoc, mul-comm, pow-succ'}
+use native.Mathlib.Nat.{mul-one, mul-comm, pow-succ'}
 use native.Mathlib.Omega.{arith}
 use lib.Dec.{T, ltb}
 use lib.Pow.{pow-pos}
@@ -13,7 +13,7 @@ use lib.Ieee.{Float, fin, Format, prec, low, round, sum, add, sub, neg, ofInt, f
 use lib.Ieee.Exact.{HasValue}
 use lib.Ieee.Back.{round-whole}
 use lib.Ieee.Nearest.{closest}
-use Rattle.integers.proofs.Parts.{linear, var, _⊕_, _⊖_, _⊗_, ⊝_}
+use Rattle.integers.proofs.Parts.{linear, var, _⊕_, _⊖_, _⊗_}
 use Rattle.integers.proofs.Abs.{abs-parts}
 use Rattle.rounding.specs.Rounding.{nearest}
 use Rattle.floats.specs.Value.{isFinite, signed, inUnits}
@@ -43,6 +43,7 @@ unfolding sum
 shifted-sum f false u b c h = (u + b * c, ap pos (omega arith), refl)
 shifted-sum f true u b c h = (b * c - u, omega (linear, (var (pos c) ⊗ var (pos b) ⊖ var (pos u)) .tie, mul-comm b c), rw (lt-ltb u (b * c) h) refl)
 
+-- S = 6 × 2^j for a format of j + 3 digits
 module _ (f : Format) (j : ℕ) (digits : prec f ≡ suc (suc (suc j))) where
   abbrev S : ℕ
   S = 2 * (3 * 2 ^ j)
@@ -51,14 +52,16 @@ module _ (f : Format) (j : ℕ) (digits : prec f ≡ suc (suc (suc j))) where
   L = 2 ^ low f
 
   -- S as a float
-  abbrev pub shift : Float
+  abbrev shift : Float
   shift = fin false 3 (pos (suc j))
 
+  -- it is S c-ths of c, whatever c is
   shift-value : (c : ℕ) → 3 * 2 ^ suc j * c ≡ S * c * 1
   shift-value c = omega (arith, ap (λ (a : ℕ). a * c) (pow-succ' 2 j))
 
-  -- u over L is small beside S: the sum is in the range of the whole numbers
+  -- u / L is below 2^(j + 1), and n / L is the sum of S and u / L, with its sign
   module _ (s : Bool) (u n : ℕ) (small : u < 2 ^ suc j * L) (sums : pos n ≡ pos L *ℤ pos S +ℤ signed s u) where
+    -- so n / L is from 2^(j + 2) up to 2^(j + 3)
     low-end : 2 ^ suc (suc j) * L ≤ n
     low-end = omega (linear, sums, (var (pos L) ⊗ var (pos S) ⊕ var (signed s u)) .tie, abs-parts (signed s u), abs-signed s u, ap (λ (a : ℕ). a * L) (pow-succ' 2 j), ap (λ (a : ℕ). a * L) (pow-succ' 2 (suc j)))
 
@@ -84,7 +87,7 @@ module _ (f : Format) (j : ℕ) (digits : prec f ≡ suc (suc (suc j))) where
         shift-one = shift-value 1 ∙ mul-one (S * 1)
 
   -- x + S - S, for an x of the size u / L
-  pub shift-rounds : (x : Float) (s : Bool) (u : ℕ) → HasValue x s u L → u < 2 ^ suc j * L → sub f (add f x shift) shift ≡ ofInt f (nearest (signed s u) (low f))
+  shift-rounds : (x : Float) (s : Bool) (u : ℕ) → HasValue x s u L → u < 2 ^ suc j * L → sub f (add f x shift) shift ≡ ofInt f (nearest (signed s u) (low f))
   shift-rounds x s u v small =
       ap (λ (y : Float). sub f y shift) (add-values f x shift s false u (S * L) L (pow-pos (low f)) v (refl, shift-value L) ∙ added .2)
       ∙ sum-back s u (added .0) small (added .1)

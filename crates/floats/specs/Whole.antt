@@ -12,6 +12,6 @@ abbrev pub wholeOf : Float → ℤ
 wholeOf x = nearest (inUnits binary64 x) (low binary64)
 
 -- what rounding by one sum asks of x: finite, and below 2^51 in size
-pub record BelowHalf (x : Float) : Type 0 where
+pub record Roundable (x : Float) : Type 0 where
   pub finite : isFinite x ≡ true
   pub small : natAbs (inUnits binary64 x) < 2 ^ 51 * 2 ^ low binary64

@@ -13,7 +13,9 @@ use mir.Val.{toZ, ofZ}
 use mir.Facts.{toZ-ofZ}
 use Rattle.rounding.specs.Rounding.{nearest, limit}
 use Rattle.floats.specs.Value.{inUnits, factorTarget, bandLowest, targetLow, targetHigh}
-use Rattle.floats.proofs.Target.{factor-says, finite-no-nan, scaled-below, scaled-whole, target-back}
+use Rattle.floats.proofs.Casts.{finite-no-nan}
+use Rattle.floats.proofs.Laws.{factor-says}
+use Rattle.floats.proofs.Target.{scaled-roundable, scaled-whole, target-back}
 use Rattle.floats.proofs.factor_target.Statement.{statement}
 use Rattle.floats.proofs.factor_target.Tie as tie
 use Rattle.floats.proofs.factor_target.Reads as reads
@@ -38,7 +40,7 @@ float-to-float-scaled c =
 
 nearest-whole-requires : tie.Need-nearest-whole-requires
 unfolding ofBits
-nearest-whole-requires c κs = scaled-below (c .before .args .f) (fitting (c .before)) (c .before .pre)
+nearest-whole-requires c κs = scaled-roundable (c .before .args .f) (fitting (c .before)) (c .before .pre)
 
 -- the rounded product is the float of the rounded units
 module _ (c : Rounded) where
