@@ -8,18 +8,16 @@ use native.Mathlib.Nat.{eq-or-lt-of-le}
 use native.Mathlib.Omega.{arith}
 use lib.Dec.{T, eqb, leb, ltb}
 use lib.IntN.{ℤ, pos, _-ℤ_, _*ℤ_}
-use lib.Ieee.{Float, binary32}
-use lib.Signed.{leZ, ltZ, _≤ℤ_, ≤ℤ-refl}
+use lib.Ieee.{Float}
 use borrow.Author.Tests.{ltb-true, ltb-false, lt-ltb, le-ltb, ne-eqb, leb-true, leb-false, eqb-true, eq-eqb}
 use Rattle.integers.proofs.Parts.{linear, var, _⊖_, _⊗_}
-use Rattle.integers.proofs.Order.{≤ℤ-trans, both-true, leZ-true, le-leZ}
-use Rattle.rounding.specs.Rounding.{nearest, within}
-use Rattle.rounding.proofs.Nearest.{nearest-low}
-use Rattle.rounding.proofs.Limit.{limit-case, limit-low, limit-high, within-bounds, bounds-within}
+use Rattle.rounding.specs.Rounding.{within}
+use Rattle.rounding.proofs.Limit.{within-bounds, bounds-within}
 use Rattle.refusals.specs.Numbers.{unless, isAccepted}
 use Rattle.refusals.specs.declared.Verdict.the-variants.{Accepted, NoPlace, PositionOver, NotFinite, FactorRange, Unfit}
 use Rattle.refusals.proofs.Laws.{unless-accepted}
-use Rattle.floats.specs.Value.{isFinite, inUnits, oneUnits, inRange, isFactor, bandLowest, volumeLowest, factorTarget}
+use Rattle.floats.proofs.Laws.{volume-band, target-word as factor-word, volume-target}
+use Rattle.floats.specs.Value.{isFinite, inRange, isFactor, bandLowest, volumeLowest}
 use Rattle.bands.specs.Words.{wordLow, wordHigh, isWord}
 use Rattle.unit.specs.Cleared.{bandCount}
 use Rattle.unit.specs.Fit.{isVolume, SectionFit, ChannelFit, Fit, unitFits}
@@ -100,32 +98,6 @@ band-position p h = go (leb 16 p) refl
         (omega (linear, ((var (pos p) ⊖ var (pos 16)) ⊗ var (pos 104857)) .tie))
         (omega (linear, leb-false 16 p e, ((var (pos p) ⊖ var (pos 16)) ⊗ var (pos 104857)) .tie))
 
--- "limited to 8,388,607"
-factor-word : (f : Float) → isWord (factorTarget f) ≡ true
-unfolding factorTarget
-factor-word f =
-    bounds-within wordLow wordHigh _ (limit-low wordLow wordHigh (omega linear) whole) (limit-high wordLow wordHigh (omega linear) whole)
-  where
-    whole : ℤ
-    whole = nearest (inUnits binary32 f) 126
-
--- "0 ≤ f < 1 for the volume"
-factor-volume : (f : Float) → inRange (pos 0) f ≡ true → isVolume (factorTarget f) ≡ true
-unfolding isVolume factorTarget inRange
-factor-volume f e =
-    limit-case wordLow wordHigh whole (λ n. within (pos 0) wordHigh n ≡ true)
-    (λ u. absurd (omega (linear, positive)))
-    (λ u o. bounds-within (pos 0) wordHigh wordHigh (omega linear) (omega linear))
-    (λ u o. bounds-within (pos 0) wordHigh whole positive o)
-  where
-    whole : ℤ
-    whole = nearest (inUnits binary32 f) 126
-
-    positive : pos 0 ≤ℤ whole
-    positive =
-        nearest-low (inUnits binary32 f) 126
-        (leZ-true (pos 0) (inUnits binary32 f) (both-true (leZ (pos 0) (inUnits binary32 f)) (ltZ (inUnits binary32 f) (oneUnits binary32)) e .0))
-
 -- a volume is a word
 volume-word : (v : ℤ) → isVolume v ≡ true → isWord v ≡ true
 unfolding isVolume
@@ -142,27 +114,20 @@ position-accepted : (band p : ℕ) → isAccepted (levelVerdict band (Position p
 unfolding levelVerdict
 position-accepted band p e = leb-true p 31 (unless-accepted (leb p 31) PositionOver Accepted (λ t. refl) e .0)
 
-factor-accepted : (band : ℕ) (f : Float) → isAccepted (levelVerdict band (Factor f)) ≡ true → (isFinite f ≡ true) × (inRange (lowest band) f ≡ true)
+factor-accepted : (band : ℕ) (f : Float) → isAccepted (levelVerdict band (Factor f)) ≡ true → isFactor (lowest band) f ≡ true
 unfolding levelVerdict
-factor-accepted band f e = (first .0, unless-accepted (inRange (lowest band) f) FactorRange Accepted (λ t. refl) (first .1) .0)
+factor-accepted band f e = simp (first .0, unless-accepted (inRange (lowest band) f) FactorRange Accepted (λ t. refl) (first .1) .0)
   where
     first : (isFinite f ≡ true) × (isAccepted (unless (inRange (lowest band) f) FactorRange Accepted) ≡ true)
     first = unless-accepted (isFinite f) NotFinite (unless (inRange (lowest band) f) FactorRange Accepted) (λ t. refl) e
 
 -- a factor that the volume or a band takes is one that a band takes
 pub factor-fits : (band : ℕ) (f : Float) → isAccepted (levelVerdict band (Factor f)) ≡ true → isFactor bandLowest f ≡ true
-unfolding inRange
-factor-fits band f e = simp (factor-accepted band f e .0, le-leZ reaches, range .1)
+factor-fits band f e = go (eqb band volumeBand) (factor-accepted band f e)
   where
-    range : (leZ (lowest band) (inUnits binary32 f) ≡ true) × (ltZ (inUnits binary32 f) (oneUnits binary32) ≡ true)
-    range = both-true (leZ (lowest band) (inUnits binary32 f)) (ltZ (inUnits binary32 f) (oneUnits binary32)) (factor-accepted band f e .1)
-
-    wider : (t : Bool) → bandLowest ≤ℤ cond t volumeLowest bandLowest
-    wider true = leZ-true bandLowest volumeLowest refl
-    wider false = ≤ℤ-refl bandLowest
-
-    reaches : bandLowest ≤ℤ inUnits binary32 f
-    reaches = ≤ℤ-trans (wider (eqb band volumeBand)) (leZ-true (lowest band) (inUnits binary32 f) (range .0))
+    go : (t : Bool) → isFactor (cond t volumeLowest bandLowest) f ≡ true → isFactor bandLowest f ≡ true
+    go true h = volume-band f h
+    go false h = h
 
 -- "the volume V is 0 to 8,388,607": so is its target
 pub target-volume : (side band : ℕ) (setting : Setting) → isAccepted (orderArguments side band setting) ≡ true → band ≡ volumeBand → isVolume (targetOf band setting) ≡ true
@@ -174,7 +139,7 @@ target-volume side band setting e b = go setting (level-accepted side band setti
 
     go : (s : Setting) → isAccepted (levelVerdict band s) ≡ true → isVolume (targetOf band s) ≡ true
     go (Position p) a = simp is-volume (volume-position p (position-accepted band p a))
-    go (Factor f) a = factor-volume f (simp is-volume at (factor-accepted band f a .1))
+    go (Factor f) a = volume-target f (simp is-volume at (factor-accepted band f a))
     go Mute a = refl
 
 -- "Gains g are words": so are their targets
