@@ -6,11 +6,14 @@ use Prim.Native.Nat.{ℕ, _+_, _*_, _^_}
 use lib.IntN.{ℤ, pos, _+ℤ_}
 use lib.ListN.{length, getD}
 use Rattle.refusals.specs.Numbers.{numberOf, isAccepted}
+use Rattle.refusals.specs.declared.Verdict.{Verdict}
 use Rattle.bands.specs.Bands.{bandOf}
 use Rattle.section.specs.Equation.{flag}
 use Rattle.section.specs.declared.Section.{Section}
 use Rattle.section.specs.declared.Stepped.{Stepped}
-use Rattle.blocks.specs.declared.Played.{Played}
+use Rattle.unit.specs.declared.Unit.{Unit}
+use Rattle.orders.specs.declared.Setting.{Setting}
+use Rattle.orders.specs.Orders.{ordered}
 use Rattle.blocks.specs.Block.{blockPlayed, blockOutput}
 use Rattle.numbers.specs.Layout.{unitOf, numbersOf as unitNumbers}
 
@@ -32,14 +35,19 @@ numbersOf s = s .band .alpha ∷ s .band .beta ∷ s .band .gamma ∷ s .x1 ∷ 
 abbrev pub packed : Stepped → ℤ
 packed r = pos ((2 * numberOf (r .verdict) + flag (r .limited)) * 2 ^ 32) +ℤ r .y
 
--- ---- a block, on a unit's numbers
+-- ---- calls on a unit's numbers
 
--- the numbers after it: refused, those lent
-abbrev pub numbersAfter : List ℤ → Played → List ℤ
-numbersAfter l r = cond (isAccepted (r .verdict)) (unitNumbers (r .unit)) l
+-- the numbers after a call: refused, those lent
+abbrev pub numbersAfter : List ℤ → Verdict → Unit → List ℤ
+numbersAfter l verdict u = cond (isAccepted verdict) (unitNumbers u) l
 
--- the refusal's number, the numbers after it, and the output
+-- a block: the refusal's number, the numbers after it, and the output
 pub record BlockDone (l : List ℤ) (input room : List ℕ) (number : ℕ) (after : List ℤ) (filled : List ℕ) : Type 0 where
   pub number-is : number ≡ numberOf (blockPlayed 2 (unitOf l) input (length room) .verdict)
-  pub numbers-are : after ≡ numbersAfter l (blockPlayed 2 (unitOf l) input (length room))
+  pub numbers-are : after ≡ numbersAfter l (blockPlayed 2 (unitOf l) input (length room) .verdict) (blockPlayed 2 (unitOf l) input (length room) .unit)
   pub output-is : filled ≡ blockOutput 2 (unitOf l) input room
+
+-- a level order: the refusal's number, and the numbers after it
+pub record OrderDone (l : List ℤ) (side band : ℕ) (setting : Setting) (number : ℕ) (after : List ℤ) : Type 0 where
+  pub number-is : number ≡ numberOf (ordered (unitOf l) side band setting .verdict)
+  pub numbers-are : after ≡ numbersAfter l (ordered (unitOf l) side band setting .verdict) (ordered (unitOf l) side band setting .unit)

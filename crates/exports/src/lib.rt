@@ -11,9 +11,10 @@ ghost use Rattle.section.specs.Step.{stepped};
 ghost use Rattle.unit.specs.Fit.{unitFits};
 ghost use Rattle.loading.specs.Loading.{loaded};
 ghost use Rattle.numbers.specs.Layout.{unitOf, numbersOf as unitNumbers};
-ghost use Rattle.exports.specs.Layout.{sectionOf, numbersOf, packed, BlockDone};
+ghost use Rattle.exports.specs.Layout.{sectionOf, numbersOf, packed, BlockDone, OrderDone};
 use bands::Band;
 use levels::Level;
+use orders::Setting;
 use section::Section;
 use section::Stepped;
 
@@ -128,6 +129,56 @@ pub extern "C" fn fonddrys_block(numbers: &mut [i32; 118], input: &[u8], output:
 {
     let unit = numbers::unit_of(numbers);
     let answer = blocks::play(unit, input, output);
+    let verdict = answer.verdict;
+    if !refusals::accepted(verdict) {
+        return refusals::number(verdict);
+    }
+    let after = answer.unit;
+    *numbers = numbers::numbers_of(after);
+    refusals::number(verdict)
+}
+
+// Orders a band of a side, or the volume (band 10 of side 2), to a position from 0 to 31. The lent numbers are then those of the unit
+// after the order. 0 for an accepted order, else the number of its refusal: the lent numbers are then as they were.
+#[no_mangle]
+pub extern "C" fn fonddrys_order_position(
+    numbers: &mut [i32; 118],
+    side: u32,
+    band: u32,
+    position: u8,
+) -> u32
+    ensures { λ r. ⌜ OrderDone (now (numbers .entry)) side band (Setting.Position position) r (now (numbers .exit)) ⌝ }
+{
+    give_order(numbers, side, band, Setting::Position(position))
+}
+
+// The same, to a factor from -1 (from 0 for the volume) to below 1.
+#[no_mangle]
+pub extern "C" fn fonddrys_order_factor(
+    numbers: &mut [i32; 118],
+    side: u32,
+    band: u32,
+    factor: f32,
+) -> u32
+    ensures { λ r. ⌜ OrderDone (now (numbers .entry)) side band (Setting.Factor factor) r (now (numbers .exit)) ⌝ }
+{
+    give_order(numbers, side, band, Setting::Factor(factor))
+}
+
+// The same, to silence.
+#[no_mangle]
+pub extern "C" fn fonddrys_order_mute(numbers: &mut [i32; 118], side: u32, band: u32) -> u32
+    ensures { λ r. ⌜ OrderDone (now (numbers .entry)) side band Setting.Mute r (now (numbers .exit)) ⌝ }
+{
+    give_order(numbers, side, band, Setting::Mute)
+}
+
+// Gives an order to the unit whose numbers are lent.
+fn give_order(numbers: &mut [i32; 118], side: u32, band: u32, setting: Setting) -> u32
+    ensures { λ r. ⌜ OrderDone (now (numbers .entry)) side band setting r (now (numbers .exit)) ⌝ }
+{
+    let unit = numbers::unit_of(numbers);
+    let answer = orders::order(unit, side, band, setting);
     let verdict = answer.verdict;
     if !refusals::accepted(verdict) {
         return refusals::number(verdict);

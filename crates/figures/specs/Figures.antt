@@ -1,7 +1,9 @@
 -- "Figures to check (starred ones are proved)": what the definitions give, and what document 01 prints. Definitions only.
+use mathlib.Core.Bool.{true, false}
 use mathlib.Core.List.{List, [], _∷_}
 use Prim.Native.Nat.{_^_}
-use lib.IntN.{ℤ, pos, negℤ, _*ℤ_}
+use lib.IntN.{ℤ, pos, negsuc, negℤ, _*ℤ_}
+use lib.Ieee.{fin}
 use lib.ListN.{getD}
 use Rattle.bands.specs.Bands.{bandAt}
 use Rattle.bands.specs.House.{houseSet}
@@ -11,6 +13,8 @@ use Rattle.section.specs.declared.Section.{Section}
 use Rattle.unit.specs.declared.Unit.{Unit}
 use Rattle.unit.specs.Cleared.{clearedChannel, bandsOf}
 use Rattle.unit.specs.Frame.{unitFrame, heard}
+use Rattle.orders.specs.declared.Setting.the-variants.{Factor}
+use Rattle.orders.specs.Orders.{targetOf}
 
 pub record Figure : Type 0 where
   pub given : ℤ
@@ -63,6 +67,9 @@ starred =
     ∷ (last (pos 256000 ∷ []) is pos 403)
     ∷ (last (pos 256000 ∷ pos 256000 ∷ []) is pos 1208)
     ∷ (last (pos 0 ∷ pos 256000 ∷ pos 256000 ∷ []) is pos 1607)
+    -- "Factor 1 - 2^-24: target 8,388,607. Factor -1: -8,388,608". The first is 16,777,215 × 2^-24
+    ∷ (targetOf 0 (Factor (fin false 16777215 (negsuc 23))) is pos 8388607)
+    ∷ (targetOf 0 (Factor (fin true 1 (pos 0))) is negℤ (pos 8388608))
     -- "V = 419, gains 0, s = 32,767: output 2. V = 0: output 0"
     ∷ (soundAt (pos 419) (pos 32767) is pos 2)
     ∷ (soundAt (pos 0) (pos 32767) is pos 0)

@@ -1,32 +1,77 @@
 -- The laws of level orders: an accepted level's target is in its range, so that an order keeps a fit unit fit; and in a fit unit only the
 -- arguments decide.
-use mathlib.Core.Path.{_≡_, refl}
-use mathlib.Core.Bool.{Bool, true, false, cond}
-use Prim.Native.Nat.{ℕ, _≤_}
-use lib.Dec.{eqb, leb}
+use mathlib.Core.Path.{_≡_, refl, sym, _∙_, subst}
+use mathlib.Core.Logic.{⊎-elim}
+use mathlib.Core.Bool.{Bool, true, false, cond, _&&_, _||_}
+use Prim.Native.Nat.{ℕ, _≤_, _<_}
+use native.Mathlib.Nat.{eq-or-lt-of-le}
+use native.Mathlib.Omega.{arith}
+use lib.Dec.{T, eqb, leb, ltb}
 use lib.IntN.{ℤ, pos, _-ℤ_, _*ℤ_}
-use lib.Ieee.{Float, binary32}
-use lib.Signed.{leZ, ltZ, _≤ℤ_}
-use borrow.Author.Tests.{leb-true, leb-false, eqb-true, eq-eqb}
+use lib.Ieee.{Float}
+use borrow.Author.Tests.{ltb-true, ltb-false, lt-ltb, le-ltb, ne-eqb, leb-true, leb-false, eqb-true, eq-eqb}
 use Rattle.integers.proofs.Parts.{linear, var, _⊖_, _⊗_}
-use Rattle.integers.proofs.Order.{both-true, leZ-true}
-use Rattle.rounding.specs.Rounding.{nearest, within}
-use Rattle.rounding.proofs.Nearest.{nearest-low}
-use Rattle.rounding.proofs.Limit.{limit-case, limit-low, limit-high, within-bounds, bounds-within}
+use Rattle.rounding.specs.Rounding.{within}
+use Rattle.rounding.proofs.Limit.{within-bounds, bounds-within}
 use Rattle.refusals.specs.Numbers.{unless, isAccepted}
 use Rattle.refusals.specs.declared.Verdict.the-variants.{Accepted, NoPlace, PositionOver, NotFinite, FactorRange, Unfit}
 use Rattle.refusals.proofs.Laws.{unless-accepted}
-use Rattle.floats.specs.Value.{isFinite, inUnits, oneUnits, inRange, factorTarget}
+use Rattle.floats.proofs.Laws.{volume-band, target-word as factor-word, volume-target}
+use Rattle.floats.specs.Value.{isFinite, inRange, isFactor, bandLowest, volumeLowest}
 use Rattle.bands.specs.Words.{wordLow, wordHigh, isWord}
+use Rattle.unit.specs.Cleared.{bandCount}
 use Rattle.unit.specs.Fit.{isVolume, SectionFit, ChannelFit, Fit, unitFits}
 use Rattle.unit.specs.declared.BandSection.{BandSection}
 use Rattle.unit.specs.declared.Channel.{Channel}
 use Rattle.unit.specs.declared.Unit.{Unit}
 use Rattle.unit.proofs.Changed.{changed-each}
-use Rattle.unit.proofs.Fitness.{test-of-fit}
+use Rattle.unit.proofs.Fitness.{fit-of-test, test-of-fit}
 use Rattle.orders.specs.declared.Setting.{Setting}
 use Rattle.orders.specs.declared.Setting.the-variants.{Position, Factor, Mute}
-use Rattle.orders.specs.Orders.{volumeBand, isPlace, names, bandPosition, volumePosition, targetOf, lowest, levelVerdict, orderArguments, orderVerdict, aimedSection, aimedChannel, aimedVolume, aimedBand, aimedUnit, ordered}
+use Rattle.orders.specs.Orders.{bothSides, volumeBand, isPlace, names, bandPosition, volumePosition, targetOf, lowest, levelVerdict, orderArguments, orderVerdict, aimedSection, aimedChannel, aimedVolume, aimedBand, aimedUnit, ordered}
+
+-- ---- the place
+
+both-and : (a b : Bool) → (a && true) || (b && false) ≡ a
+both-and true b = refl
+both-and false true = refl
+both-and false false = refl
+
+and-both : (a b : Bool) → (a && false) || (b && true) ≡ b
+and-both true true = refl
+and-both true false = refl
+and-both false true = refl
+and-both false false = refl
+
+neither : (a b : Bool) → (a && false) || (b && false) ≡ false
+neither true true = refl
+neither true false = refl
+neither false true = refl
+neither false false = refl
+
+module _ (side band : ℕ) where
+  -- "a side (0 left, 1 right, 2 both), a band (0 to 9"
+  pub band-place : band < bandCount → isPlace side band ≡ leb side bothSides
+  unfolding isPlace
+  band-place h = simp (lt-ltb band bandCount h, ne-eqb band volumeBand (λ e. omega arith)) (both-and (leb side bothSides) (eqb side bothSides))
+
+  -- "or 10 for the volume, with side 2 only)"
+  pub volume-place : band ≡ volumeBand → isPlace side band ≡ eqb side bothSides
+  unfolding isPlace
+  volume-place e = simp (le-ltb band bandCount (omega arith), eq-eqb band volumeBand e) (and-both (leb side bothSides) (eqb side bothSides))
+
+  -- there is nothing past the volume
+  pub no-place : volumeBand < band → isPlace side band ≡ false
+  unfolding isPlace
+  no-place h = simp (le-ltb band bandCount (omega arith), ne-eqb band volumeBand (λ e. omega arith)) (neither (leb side bothSides) (eqb side bothSides))
+
+  -- so a place that isn't the volume's is one of the ten bands
+  pub place-below : isPlace side band ≡ true → (band ≡ volumeBand → ⊥) → band < bandCount
+  place-below e n = go (ltb volumeBand band) refl
+    where
+      go : (t : Bool) → ltb volumeBand band ≡ t → band < bandCount
+      go true h = absurd (subst T (sym (sym (no-place (ltb-true volumeBand band h)) ∙ e)) tt)
+      go false h = ⊎-elim (λ q. absurd (n q)) (λ l. l) (eq-or-lt-of-le (ltb-false volumeBand band h))
 
 -- ---- the target of an accepted level
 
@@ -53,51 +98,36 @@ band-position p h = go (leb 16 p) refl
         (omega (linear, ((var (pos p) ⊖ var (pos 16)) ⊗ var (pos 104857)) .tie))
         (omega (linear, leb-false 16 p e, ((var (pos p) ⊖ var (pos 16)) ⊗ var (pos 104857)) .tie))
 
--- "limited to 8,388,607"
-factor-word : (f : Float) → isWord (factorTarget f) ≡ true
-unfolding factorTarget
-factor-word f =
-    bounds-within wordLow wordHigh _ (limit-low wordLow wordHigh (omega linear) whole) (limit-high wordLow wordHigh (omega linear) whole)
-  where
-    whole : ℤ
-    whole = nearest (inUnits binary32 f) 126
-
--- "0 ≤ f < 1 for the volume"
-factor-volume : (f : Float) → inRange (pos 0) f ≡ true → isVolume (factorTarget f) ≡ true
-unfolding isVolume factorTarget inRange
-factor-volume f e =
-    limit-case wordLow wordHigh whole (λ n. within (pos 0) wordHigh n ≡ true)
-    (λ u. absurd (omega (linear, positive)))
-    (λ u o. bounds-within (pos 0) wordHigh wordHigh (omega linear) (omega linear))
-    (λ u o. bounds-within (pos 0) wordHigh whole positive o)
-  where
-    whole : ℤ
-    whole = nearest (inUnits binary32 f) 126
-
-    positive : pos 0 ≤ℤ whole
-    positive =
-        nearest-low (inUnits binary32 f) 126
-        (leZ-true (pos 0) (inUnits binary32 f) (both-true (leZ (pos 0) (inUnits binary32 f)) (ltZ (inUnits binary32 f) (oneUnits binary32)) e .0))
-
 -- a volume is a word
 volume-word : (v : ℤ) → isVolume v ≡ true → isWord v ≡ true
 unfolding isVolume
 volume-word v e = bounds-within wordLow wordHigh v (omega (linear, within-bounds (pos 0) wordHigh v e .0)) (within-bounds (pos 0) wordHigh v e .1)
 
--- what an accepted level has shown
-level-accepted : (side band : ℕ) (setting : Setting) → isAccepted (orderArguments side band setting) ≡ true → isAccepted (levelVerdict band setting) ≡ true
+-- what an accepted order has shown
+pub place-accepted : (side band : ℕ) (setting : Setting) → isAccepted (orderArguments side band setting) ≡ true → isPlace side band ≡ true
+place-accepted side band setting e = unless-accepted (isPlace side band) NoPlace (levelVerdict band setting) (λ t. refl) e .0
+
+pub level-accepted : (side band : ℕ) (setting : Setting) → isAccepted (orderArguments side band setting) ≡ true → isAccepted (levelVerdict band setting) ≡ true
 level-accepted side band setting e = unless-accepted (isPlace side band) NoPlace (levelVerdict band setting) (λ t. refl) e .1
 
 position-accepted : (band p : ℕ) → isAccepted (levelVerdict band (Position p)) ≡ true → p ≤ 31
 unfolding levelVerdict
 position-accepted band p e = leb-true p 31 (unless-accepted (leb p 31) PositionOver Accepted (λ t. refl) e .0)
 
-factor-accepted : (band : ℕ) (f : Float) → isAccepted (levelVerdict band (Factor f)) ≡ true → (isFinite f ≡ true) × (inRange (lowest band) f ≡ true)
+factor-accepted : (band : ℕ) (f : Float) → isAccepted (levelVerdict band (Factor f)) ≡ true → isFactor (lowest band) f ≡ true
 unfolding levelVerdict
-factor-accepted band f e = (first .0, unless-accepted (inRange (lowest band) f) FactorRange Accepted (λ t. refl) (first .1) .0)
+factor-accepted band f e = simp (first .0, unless-accepted (inRange (lowest band) f) FactorRange Accepted (λ t. refl) (first .1) .0)
   where
     first : (isFinite f ≡ true) × (isAccepted (unless (inRange (lowest band) f) FactorRange Accepted) ≡ true)
     first = unless-accepted (isFinite f) NotFinite (unless (inRange (lowest band) f) FactorRange Accepted) (λ t. refl) e
+
+-- a factor that the volume or a band takes is one that a band takes
+pub factor-fits : (band : ℕ) (f : Float) → isAccepted (levelVerdict band (Factor f)) ≡ true → isFactor bandLowest f ≡ true
+factor-fits band f e = go (eqb band volumeBand) (factor-accepted band f e)
+  where
+    go : (t : Bool) → isFactor (cond t volumeLowest bandLowest) f ≡ true → isFactor bandLowest f ≡ true
+    go true h = volume-band f h
+    go false h = h
 
 -- "the volume V is 0 to 8,388,607": so is its target
 pub target-volume : (side band : ℕ) (setting : Setting) → isAccepted (orderArguments side band setting) ≡ true → band ≡ volumeBand → isVolume (targetOf band setting) ≡ true
@@ -109,7 +139,7 @@ target-volume side band setting e b = go setting (level-accepted side band setti
 
     go : (s : Setting) → isAccepted (levelVerdict band s) ≡ true → isVolume (targetOf band s) ≡ true
     go (Position p) a = simp is-volume (volume-position p (position-accepted band p a))
-    go (Factor f) a = factor-volume f (simp is-volume at (factor-accepted band f a .1))
+    go (Factor f) a = volume-target f (simp is-volume at (factor-accepted band f a))
     go Mute a = refl
 
 -- "Gains g are words": so are their targets
@@ -162,10 +192,30 @@ aimed-fit u side band setting e f = go (eqb band volumeBand) refl
     go true b = aimed-volume-fit (targetOf band setting) (target-volume side band setting e (eqb-true band volumeBand b)) u f
     go false b = aimed-band-fit band (targetOf band setting) (target-word side band setting e) side u f
 
+-- ---- the answer
+
+module _ (u : Unit) (side band : ℕ) (setting : Setting) where
+  pub ordered-unfit : unitFits u ≡ false → ordered u side band setting ≡ record { verdict = Unfit; unit = u }
+  unfolding ordered orderVerdict
+  ordered-unfit e = simp e
+
+  pub ordered-refused : unitFits u ≡ true → isAccepted (orderArguments side band setting) ≡ false → ordered u side band setting ≡ record { verdict = orderArguments side band setting; unit = u }
+  unfolding ordered orderVerdict
+  ordered-refused f e = simp (f, e)
+
+  pub ordered-accepted : unitFits u ≡ true → isAccepted (orderArguments side band setting) ≡ true → ordered u side band setting ≡ record { verdict = orderArguments side band setting; unit = aimedUnit side band (targetOf band setting) u }
+  unfolding ordered orderVerdict
+  ordered-accepted f e = simp (f, e)
+
 -- in a fit unit only the arguments decide
 pub order-accepts : (u : Unit) (side band : ℕ) (setting : Setting) → Fit u → ordered u side band setting .verdict ≡ orderArguments side band setting
 unfolding ordered orderVerdict
 order-accepts u side band setting f = simp (test-of-fit u f)
+
+-- an accepted order is one on a fit unit
+pub accepted-fit : (u : Unit) (side band : ℕ) (setting : Setting) → isAccepted (ordered u side band setting .verdict) ≡ true → Fit u
+unfolding ordered orderVerdict
+accepted-fit u side band setting e = fit-of-test u (unless-accepted (unitFits u) Unfit (orderArguments side band setting) (λ t. refl) e .0)
 
 -- an order keeps a fit unit fit
 pub order-fit : (u : Unit) (side band : ℕ) (setting : Setting) → Fit u → Fit (ordered u side band setting .unit)

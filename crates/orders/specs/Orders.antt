@@ -3,12 +3,11 @@
 use mathlib.Core.Bool.{Bool, cond, _&&_, _||_}
 use Prim.Native.Nat.{ℕ}
 use lib.Dec.{eqb, leb, ltb}
-use lib.IntN.{ℤ, pos, negℤ, _-ℤ_, _*ℤ_}
-use lib.Ieee.{binary32}
+use lib.IntN.{ℤ, pos, _-ℤ_, _*ℤ_}
 use Rattle.refusals.specs.Numbers.{unless, isAccepted}
 use Rattle.refusals.specs.declared.Verdict.{Verdict}
 use Rattle.refusals.specs.declared.Verdict.the-variants.{Accepted, NoPlace, PositionOver, NotFinite, FactorRange, Unfit}
-use Rattle.floats.specs.Value.{isFinite, inRange, oneUnits, factorTarget}
+use Rattle.floats.specs.Value.{isFinite, inRange, bandLowest, volumeLowest, factorTarget}
 use Rattle.levels.specs.Levels.{aimed}
 use Rattle.unit.specs.Lists.{changed}
 use Rattle.unit.specs.Cleared.{bandCount}
@@ -40,9 +39,13 @@ names side channel = eqb side bothSides || eqb side channel
 
 -- ---- its level
 
+-- "558,681 from 16 up and (p - 16) × 104,857 below": what a position is worth to a band
+abbrev pub bandStep : ℕ → ℤ
+bandStep p = cond (leb 16 p) (pos 558681) (pos 104857)
+
 -- "Position p (0 to 31) sets a band's target to (p - 16) × 558,681 from 16 up and (p - 16) × 104,857 below"
 unfoldable pub bandPosition : ℕ → ℤ
-bandPosition p = (pos p -ℤ pos 16) *ℤ cond (leb 16 p) (pos 558681) (pos 104857)
+bandPosition p = (pos p -ℤ pos 16) *ℤ bandStep p
 
 -- "it sets the volume's to p × 270,600"
 unfoldable pub volumePosition : ℕ → ℤ
@@ -58,7 +61,7 @@ targetOf band Mute = pos 0
 
 -- "-1 ≤ f < 1 for a band and 0 ≤ f < 1 for the volume": where the range begins, in the units of a factor
 abbrev pub lowest : ℕ → ℤ
-lowest band = cond (eqb band volumeBand) (pos 0) (negℤ (oneUnits binary32))
+lowest band = cond (eqb band volumeBand) volumeLowest bandLowest
 
 -- "2 position over 31; 3 factor not finite; 4 factor outside its range"
 unfoldable pub levelVerdict : ℕ → Setting → Verdict

@@ -1,0 +1,53 @@
+-- `orders::aim_channels` meets its contract: the two channels one by one.
+use mathlib.Core.Path.{ap, _∙_}
+use mathlib.Core.List.{[], _∷_}
+use native.Mathlib.Omega.{arith}
+use lib.IntN.{ℤ, pos}
+use mir.Syntax.{w64}
+use mir.Val.{toZ, ofZ}
+use mir.Facts.{toZ-ofZ}
+use Rattle.unit.specs.Lists.{changed}
+use Rattle.unit.specs.declared.Channel.{Channel}
+use Rattle.unit.proofs.Tabulate.{tabulate-all}
+use Rattle.orders.specs.Orders.{names, aimedChannel}
+use borrow.Author.Needs.{needs}
+use Rattle.orders.proofs.aim_channels.Statement.{statement}
+use Rattle.orders.proofs.aim_channels.Tie as tie
+use Rattle.orders.proofs.aim_channels.Reads as reads
+use Rattle.orders.proofs.aim_channels.Lts as lts
+use Rattle.orders.proofs.aim_named.Reads as aim-named-reads
+
+-- what stands for a channel past the end
+abbrev zeroChannel : Channel
+zeroChannel = record { x1 = pos 0; x2 = pos 0; flag = pos 0; sections = [] }
+
+array-copy-out-first : tie.Need-array-copy-out-first
+array-copy-out-first c = search needs
+
+array-copy-out-second : tie.Need-array-copy-out-second
+array-copy-out-second c = search needs
+
+aim-named-requires : tie.Need-aim-named-requires
+aim-named-requires c κs = search needs
+
+aim-named-requires-2 : tie.Need-aim-named-requires-2
+aim-named-requires-2 c κs = search needs
+
+returns : tie.Need-returns
+returns c =
+    (λ i. c .before .aim-named .ensures i ∷ c .aim-named2 .ensures i ∷ [])
+    ∙ ap (changed (names (s .args .side)) (aimedChannel (s .args .band) (toZ w64 (ofZ w64 (s .args .target))))) (tabulate-all (s .args .t1) zeroChannel 2 (omega arith))
+    ∙ ap (λ (t : ℤ). changed (names (s .args .side)) (aimedChannel (s .args .band) t) (s .args .t1)) (toZ-ofZ {w = w64} (s .fits .target))
+  where
+    s : lts.Start (aim-named-reads.Asked, aim-named-reads.Learnt) reads.Pre reads.Post
+    s = c .before .before .before .before
+
+pub aim-channels-spec : {M : Type 1} → statement M
+aim-channels-spec =
+    tie.close
+    (tie.spec
+    array-copy-out-first
+    array-copy-out-second
+    aim-named-requires
+    aim-named-requires-2
+    returns)

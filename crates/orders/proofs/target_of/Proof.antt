@@ -1,0 +1,59 @@
+-- `orders::target_of` meets its contract, case by case. An accepted factor is one that a band takes, whatever the place.
+use mathlib.Core.Path.{_≡_, sym, ap, _∙_, subst}
+use mathlib.Core.Bool.{true}
+use mir.Syntax.{w64}
+use mir.Facts.{toZ-ofZ}
+use Rattle.refusals.specs.Numbers.{isAccepted}
+use Rattle.orders.specs.declared.Setting.{Setting}
+use Rattle.orders.specs.Orders.{levelVerdict, targetOf}
+use Rattle.orders.proofs.Laws.{factor-fits}
+use borrow.Author.Needs.{needs}
+use Rattle.orders.proofs.target_of.Statement.{statement}
+use Rattle.orders.proofs.target_of.Tie as tie
+
+enum-known-setting : tie.Need-enum-known-setting
+enum-known-setting c = search needs
+
+position-target-requires : tie.Need-position-target-requires
+position-target-requires c κs = search needs
+
+enum-known-setting-2 : tie.Need-enum-known-setting-2
+enum-known-setting-2 c = search needs
+
+factor-target-requires : tie.Need-factor-target-requires
+factor-target-requires c κs =
+    factor-fits (c .before .before .before .args .band) (c .before .setting2 .given .0 .0)
+    (subst (λ (s : Setting). isAccepted (levelVerdict (c .before .before .before .args .band) s) ≡ true) (c .before .setting2 .given .1) (c .before .before .before .pre))
+
+enum-told : tie.Need-enum-told
+enum-told c = search needs
+
+returns : tie.Need-returns
+returns c =
+    toZ-ofZ {w = w64} (record { sfits = c .position-target .ok })
+    ∙ c .position-target .ensures
+    ∙ sym (ap (targetOf (c .before .before .before .before .args .band)) (c .before .before .setting .given .1))
+
+returns-2 : tie.Need-returns-2
+unfolding targetOf
+returns-2 c =
+    toZ-ofZ {w = w64} (record { sfits = c .factor-target .ok })
+    ∙ c .factor-target .ensures
+    ∙ sym (ap (targetOf (c .before .before .before .before .args .band)) (c .before .before .setting2 .given .1))
+
+returns-3 : tie.Need-returns-3
+unfolding targetOf
+returns-3 c = sym (ap (targetOf (c .before .before .args .band)) (c .enum-told .given .1))
+
+pub target-of-spec : {M : Type 1} → statement M
+target-of-spec =
+    tie.close
+    (tie.spec
+    enum-known-setting
+    position-target-requires
+    enum-known-setting-2
+    factor-target-requires
+    enum-told
+    returns
+    returns-2
+    returns-3)
