@@ -1,12 +1,12 @@
 -- Reading behind a start, and storing from the front: one number, some numbers, and one store after another.
-use mathlib.Core.Path.{_≡_, sym, ap, _∙_, subst}
+use mathlib.Core.Path.{_≡_, refl, sym, ap, _∙_, subst}
 use mathlib.Core.List.{List, [], _∷_, _++_, append-assoc, append-nil}
-use Prim.Native.Nat.{ℕ, zero, suc, _+_, _≤_, _<_}
+use Prim.Native.Nat.{ℕ, zero, suc, _+_, _-_, _≤_, _<_}
 use native.Mathlib.Numerals.{add-one}
 use native.Mathlib.Omega.{arith}
 use lib.IntN.{ℤ, pos, natAbs}
 use lib.ListN.{length, getD, take, drop, set, length-set}
-use lib.Seq.{take-suc-set, take-all, take-suc, getD-drop}
+use lib.Seq.{take-suc-set, take-all, take-suc, getD-drop, drop-drop, drop-set-lt}
 use mir.Syntax.{w32, w64}
 use mir.Val.{SFits, toZ, ofZ}
 use Rattle.integers.proofs.Machine.{num, below-fits, unary-need, unary-reads}
@@ -37,7 +37,7 @@ module _ (z : ℤ) (size : natAbs z ≤ wordSize) where
 
 -- nothing stored
 pub put-none : (l : List ℤ) (i : ℕ) → length l ≡ unitSize → Put l i [] i l
-put-none l i h = record { size = h; front = sym (append-nil (take i l)) }
+put-none l i h = record { size = h; onward = omega arith; front = sym (append-nil (take i l)); behind = refl }
 
 -- all stored
 pub put-all : {l m new : List ℤ} → Put l 0 new unitSize m → m ≡ new
@@ -46,14 +46,27 @@ put-all {l} {m} {new} p = sym (take-all unitSize m (omega (arith, p .size))) ∙
 -- one store after another
 pub put-then : {l m n : List ℤ} {i j k : ℕ} {new more : List ℤ} → Put l i new j m → Put m j more k n → Put l i (new ++ more) k n
 put-then {l} {m} {n} {i} {j} {k} {new} {more} p q =
-    record { size = q .size; front = q .front ∙ ap (λ (x : List ℤ). x ++ more) (p .front) ∙ append-assoc (take i l) new more }
+    record {
+      size = q .size;
+      onward = omega (arith, p .onward, q .onward);
+      front = q .front ∙ ap (λ (x : List ℤ). x ++ more) (p .front) ∙ append-assoc (take i l) new more;
+      behind = q .behind ∙ further m ∙ ap (drop (k - j)) (p .behind) ∙ sym (further l);
+    }
+  where
+    reach : k ≡ j + (k - j)
+    reach = omega (arith, q .onward)
+
+    further : (x : List ℤ) → drop k x ≡ drop (k - j) (drop j x)
+    further x = ap (λ (t : ℕ). drop t x) reach ∙ sym (drop-drop (k - j) j x)
 
 -- one number, as it is read from its bits
 pub put-one : {v w : ℤ} (l : List ℤ) (i : ℕ) → length l ≡ unitSize → i < unitSize → w ≡ v → Put l i (v ∷ []) (i + 1) (set l i w)
 put-one {v} {w} l i h k e =
     record {
       size = length-set l i w ∙ h;
+      onward = omega arith;
       front = rw add-one (take-suc-set l i w (omega arith) ∙ ap (λ (z : ℤ). take i l ++ (z ∷ [])) e);
+      behind = drop-set-lt (i + 1) l i w (omega arith);
     }
 
 -- one number more

@@ -2,7 +2,7 @@
 -- "In order: V (volume, target); ten C (A, B, G); L (x1, x2, flag); ten S (y1, y2, gain, target); R as L; ten S."
 use mathlib.Core.Path.{_≡_}
 use mathlib.Core.List.{List, [], _∷_, _++_}
-use Prim.Native.Nat.{ℕ}
+use Prim.Native.Nat.{ℕ, _≤_}
 use lib.IntN.{ℤ, pos}
 use lib.ListN.{length, getD, take, drop}
 use Rattle.bands.specs.declared.Band.{Band}
@@ -72,7 +72,10 @@ pub record Shaped (u : Unit) : Type 0 where
 
 -- ---- storing a unit's numbers from the front
 
--- after the store, what stands before place `to` is what stood before place `from`, and then the new numbers
+-- after the store, what stands before place `to` is what stood before place `from`, and then the new numbers; what stands behind is as it
+-- was
 pub record Put (l : List ℤ) (from : ℕ) (new : List ℤ) (to : ℕ) (after : List ℤ) : Type 0 where
   pub size : length after ≡ unitSize
+  pub onward : from ≤ to
   pub front : take to after ≡ take from l ++ new
+  pub behind : drop to after ≡ drop to l
