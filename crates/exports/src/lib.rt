@@ -1,22 +1,25 @@
 // The static library: thin functions under C names, for tests, benchmarks and programs in other languages. Each promises what the
 // function that it calls promises. A lent array passes as a pointer to its first number, a slice as a pointer and a length.
 ghost use mathlib.Core.Path.{_≡_};
+ghost use mathlib.Core.Bool.{true};
 ghost use Rattle.rounding.specs.Rounding.{nearest, limit};
-ghost use Rattle.refusals.specs.Numbers.{numberOf};
+ghost use Rattle.refusals.specs.Numbers.{numberOf, isAccepted};
 ghost use Rattle.bands.specs.Bands.{bandVerdict, bandOf};
 ghost use Rattle.bands.specs.House.{houseSet};
 ghost use Rattle.levels.specs.Levels.{ramp};
 ghost use Rattle.section.specs.Equation.{flag};
 ghost use Rattle.section.specs.Step.{stepped};
-ghost use Rattle.unit.specs.Fit.{unitFits};
+ghost use Rattle.unit.specs.Fit.{Fit, unitFits};
 ghost use Rattle.loading.specs.Loading.{loaded};
 ghost use Rattle.numbers.specs.Layout.{unitOf, numbersOf as unitNumbers};
-ghost use Rattle.exports.specs.Layout.{sectionOf, numbersOf, packed, BlockDone, OrderDone};
+ghost use Rattle.exports.specs.Layout.{sectionOf, numbersOf, packed, numbersAfter, BlockDone, OrderDone};
 use bands::Band;
 use levels::Level;
 use orders::Setting;
+use refusals::Verdict;
 use section::Section;
 use section::Stepped;
+use unit::Unit;
 
 // The nearest whole number to v / 2^k, halves to even.
 #[no_mangle]
@@ -130,12 +133,8 @@ pub extern "C" fn fonddrys_block(numbers: &mut [i32; 118], input: &[u8], output:
     let unit = numbers::unit_of(numbers);
     let answer = blocks::play(unit, input, output);
     let verdict = answer.verdict;
-    if !refusals::accepted(verdict) {
-        return refusals::number(verdict);
-    }
     let after = answer.unit;
-    *numbers = numbers::numbers_of(after);
-    refusals::number(verdict)
+    store(numbers, verdict, after)
 }
 
 // Orders a band of a side, or the volume (band 10 of side 2), to a position from 0 to 31. The lent numbers are then those of the unit
@@ -180,10 +179,18 @@ fn give_order(numbers: &mut [i32; 118], side: u32, band: u32, setting: Setting) 
     let unit = numbers::unit_of(numbers);
     let answer = orders::order(unit, side, band, setting);
     let verdict = answer.verdict;
+    let after = answer.unit;
+    store(numbers, verdict, after)
+}
+
+// Replaces the lent numbers by those of the unit after an accepted call, and answers the verdict's number.
+fn store(numbers: &mut [i32; 118], verdict: Verdict, after: Unit) -> u32
+    requires { ⌜ (isAccepted verdict ≡ true → Fit after) ⌝ }
+    ensures { λ r. ⌜ (r ≡ numberOf verdict) × (now (numbers .exit) ≡ numbersAfter (now (numbers .entry)) verdict after) ⌝ }
+{
     if !refusals::accepted(verdict) {
         return refusals::number(verdict);
     }
-    let after = answer.unit;
     *numbers = numbers::numbers_of(after);
     refusals::number(verdict)
 }
