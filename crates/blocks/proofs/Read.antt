@@ -1,19 +1,18 @@
 -- One channel of a block: the words that it takes in, frame by frame, and its samples, read back from the output's bytes.
-use mathlib.Core.Path.{_≡_, refl, sym, ap, ap₂, _∙_}
+use mathlib.Core.Path.{_≡_, refl, sym, ap, _∙_}
 use mathlib.Core.Bool.{Bool, true, false, cond}
 use mathlib.Core.List.{List, [], _∷_, _++_, map}
-use Prim.Native.Nat.{ℕ, zero, suc, _+_, _*_, _/_, _%_, _≤_, _<_}
+use Prim.Native.Nat.{ℕ, zero, suc, _+_, _*_, _/_, _%_, _<_}
 use native.Mathlib.Nat.{div-add-mod', mod-lt, mod-eq-of-lt, mul-le-mul-left}
 use native.Mathlib.Omega.{arith}
 use lib.Dec.{eqb, ltb, lit≤}
-use lib.IntN.{ℤ, pos, natAbs, _+ℤ_, _-ℤ_}
+use lib.IntN.{ℤ, pos, _+ℤ_, _-ℤ_}
 use lib.ListN.{length, getD, drop, length-map, List·getD-map}
 use lib.Signed.{_≤ℤ_, leZ-yes}
 use borrow.Author.Tests.{eqb-true, eqb-false, ltb-true, ltb-false}
 use Rattle.integers.proofs.Parts.{linear, var, _⊕_, _⊖_}
 use Rattle.integers.proofs.Abs.{abs-nonneg}
 use Rattle.rounding.proofs.Limit.{limit-low, limit-high}
-use Rattle.rounding.specs.Rounding.{nearest}
 use Rattle.bands.specs.declared.Band.{Band}
 use Rattle.unit.specs.declared.Channel.{Channel}
 use Rattle.unit.specs.declared.Unit.{Unit}
@@ -21,7 +20,7 @@ use Rattle.unit.specs.Lists.{Each}
 use Rattle.unit.specs.Frame.{channelFrame, channelsFrame, unitFrame, mix, sampleLow, sampleHigh, output, heard}
 use Rattle.blocks.specs.Bytes.{signed, sampleAt, wordAt, wordsAt, frameSize, frameCount, bitsOf, lowByte, highByte, bytesOf}
 use Rattle.blocks.specs.Block.{played, sound, blockOutput}
-use Rattle.blocks.proofs.Block.{Accepts, words-length, played-channels, bytes-length, sound-length}
+use Rattle.blocks.proofs.Block.{Accepts, words-length, played-channels, sound-length}
 use Rattle.blocks.proofs.Append.{sample-front, sample-behind, accepted-output}
 
 -- ---- what a channel takes in

@@ -1,17 +1,16 @@
 -- One band: the error of its results runs on by the band's own recursion, and what is put in is what the rounding took.
 use mathlib.Core.Path.{_≡_, refl, sym, ap, ap₂, _∙_, subst}
-use mathlib.Core.Bool.{false}
 use mathlib.Core.List.{[], _∷_}
 use Prim.Native.Nat.{ℕ, zero, suc, _+_, _*_, _^_, _≤_}
 use native.Mathlib.Nat.{mul-le-mul-left, mul-le-mul-right, pow-suc}
 use native.Mathlib.Omega.{arith}
 use lib.IntN.{ℤ, pos, natAbs, _+ℤ_, _-ℤ_, _*ℤ_}
 use Rattle.integers.proofs.Abs.{abs-sum, abs-product}
-use Rattle.integers.proofs.Normal.{Poly, at, con, _:+_, _:-_, _:*_, solve}
+use Rattle.integers.proofs.Normal.{at, con, _:+_, _:-_, _:*_, solve}
 use Rattle.bands.specs.declared.Band.{Band}
 use Rattle.section.specs.Equation.{exactSum}
 use Rattle.closeness.specs.Claim.{divisor, Results, silentResults, rescaled, exactResults, response, summed}
-use Rattle.closeness.proofs.Recursion.{weight, Bounded, bounded-start, bounded-step, scaledSum, scaledSize, weight-now}
+use Rattle.closeness.proofs.Recursion.{Bounded, bounded-start, bounded-step, scaledSum, scaledSize, weight-now}
 
 -- ---- the recursion of a band
 

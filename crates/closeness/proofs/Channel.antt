@@ -2,13 +2,13 @@
 use mathlib.Core.Path.{_≡_, refl, sym, ap, ap₂, _∙_, subst}
 use mathlib.Core.Bool.{Bool, true, false, _||_}
 use mathlib.Core.List.{List, [], _∷_, map}
-use Prim.Native.Nat.{ℕ, zero, suc, _+_, _*_, _^_, _≤_}
+use Prim.Native.Nat.{ℕ, suc, _+_, _*_, _^_, _≤_}
 use native.Mathlib.Nat.{pow-suc}
 use native.Mathlib.Omega.{arith}
 use lib.Dec.{T}
 use lib.IntN.{ℤ, pos, natAbs, _+ℤ_, _-ℤ_, _*ℤ_}
 use lib.ListN.{length}
-use Rattle.integers.proofs.Abs.{abs-sum, abs-product}
+use Rattle.integers.proofs.Abs.{abs-sum}
 use Rattle.integers.proofs.Normal.{at, con, _:+_, _:-_, _:*_, solve}
 use Rattle.bands.specs.declared.Band.{Band}
 use Rattle.levels.specs.declared.Level.{Level}
@@ -18,7 +18,7 @@ use Rattle.section.proofs.Laws.{worked-near}
 use Rattle.unit.specs.declared.BandSection.{BandSection}
 use Rattle.unit.specs.declared.Channel.{Channel}
 use Rattle.unit.specs.Frame.{workOf, sectionFrame, sectionsFrame, anyLimits, raised, channelFrame, share, sumOf, exactMix, mix, output}
-use Rattle.closeness.specs.Claim.{divisor, Results, Exact, rescaled, exactResults, allResults, exactFrame, gained, exactMixed, outputScale, exactOutput, summed, gainedSums, bound, Close}
+use Rattle.closeness.specs.Claim.{divisor, Results, Exact, rescaled, allResults, exactFrame, gained, exactMixed, outputScale, exactOutput, gainedSums, bound, Close}
 use Rattle.closeness.proofs.Band.{Near, near-step, near-sum}
 use Rattle.closeness.proofs.Output.{scaled-small, output-near}
 

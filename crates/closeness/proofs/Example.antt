@@ -1,8 +1,8 @@
 -- The claim speaks of the example's frames, and its definitions give the figures.
 use mathlib.Core.Path.{_≡_, refl, sym, ap, subst}
-use mathlib.Core.Bool.{Bool, true, false}
+use mathlib.Core.Bool.{Bool, true}
 use mathlib.Core.List.{List, [], _∷_}
-use Prim.Native.Nat.{ℕ, _<_}
+use Prim.Native.Nat.{_<_}
 use lib.Dec.{lit≤}
 use lib.IntN.{ℤ, pos, negℤ}
 use lib.ListN.{length, getD, take}

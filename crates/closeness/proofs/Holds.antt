@@ -1,25 +1,21 @@
 -- Demand 3 holds.
-use mathlib.Core.Path.{_≡_, refl, sym, ap, _∙_, subst}
+use mathlib.Core.Path.{_≡_, refl, sym, subst}
 use mathlib.Core.Bool.{true, false}
-use mathlib.Core.List.{List, [], _∷_, map}
-use Prim.Native.Nat.{ℕ, zero, suc, _+_, _<_}
+use mathlib.Core.List.{List, [], _∷_}
+use Prim.Native.Nat.{ℕ, suc, _<_}
 use native.Mathlib.Nat.{zero-add}
-use native.Mathlib.Omega.{arith}
 use lib.IntN.{ℤ, pos}
 use lib.ListN.{length, getD, replicate, length-replicate, getD-replicate}
 use Rattle.refusals.specs.Numbers.{isAccepted}
-use Rattle.bands.specs.Bands.{bandAt}
 use Rattle.bands.specs.declared.Band.{Band}
-use Rattle.unit.specs.Lists.{tabulate}
 use Rattle.unit.specs.declared.Channel.{Channel}
-use Rattle.unit.specs.Cleared.{bandCount, clearedLevel, clearedSection, clearedChannel, clearedUnit, bandsOf}
+use Rattle.unit.specs.Cleared.{clearedLevel, clearedSection, clearedChannel, clearedUnit, bandsOf}
 use Rattle.unit.proofs.Fitness.{cleared-fit}
-use Rattle.unit.proofs.Tabulate.{tabulate-length}
 use Rattle.loading.specs.Loading.{setVerdict}
 use Rattle.loading.proofs.Laws.{accepted-set}
-use Rattle.closeness.specs.Claim.{Call, Exact, silentResults, silent, Close, begun, allSamples, allLimits, allExacts, CloseAt, Agreeing, Demand3}
+use Rattle.closeness.specs.Claim.{Call, silentResults, silent, Close, begun, allSamples, allLimits, allExacts, CloseAt, Agreeing, Demand3}
 use Rattle.closeness.proofs.Band.{near-start}
-use Rattle.closeness.proofs.Channel.{gainOf, NearAll, Tied}
+use Rattle.closeness.proofs.Channel.{NearAll, Tied}
 use Rattle.closeness.proofs.Follows.{Follows, follows-at, follows-length}
 use Rattle.closeness.proofs.Run.{TiedUnit, list-follows, list-flag}
 

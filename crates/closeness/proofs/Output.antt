@@ -1,12 +1,12 @@
 -- From the mix to the sample: how far the two roundings behind the sum take the sample from the exact output, and that limiting takes
 -- it no further. Stated for any scale, any exact mix and any error of the sum.
-use mathlib.Core.Path.{_≡_, refl, sym, ap, ap₂, _∙_, subst}
+use mathlib.Core.Path.{_≡_, refl, ap}
 use mathlib.Core.List.{[], _∷_}
 use Prim.Native.Nat.{ℕ, _+_, _*_, _^_, _≤_}
-use native.Mathlib.Nat.{mul-le-mul-left, le-trans}
+use native.Mathlib.Nat.{mul-le-mul-left}
 use native.Mathlib.Omega.{arith}
 use lib.IntN.{ℤ, pos, natAbs, _+ℤ_, _-ℤ_, _*ℤ_}
-use lib.Signed.{_≤ℤ_, leZ-yes}
+use lib.Signed.{leZ-yes}
 use Rattle.integers.proofs.Abs.{abs-sum, abs-product}
 use Rattle.integers.proofs.Order.{*ℤ-mono}
 use Rattle.integers.proofs.Normal.{at, _:+_, _:-_, _:*_, solve}

@@ -2,11 +2,11 @@
 use mathlib.Core.Path.{_≡_, refl, sym, ap, ap₂, _∙_, subst}
 use mathlib.Core.Bool.{Bool, true, false, cond, _||_}
 use mathlib.Core.List.{List, [], _∷_, _++_, map}
-use Prim.Native.Nat.{ℕ, zero, suc, _+_, _*_, _^_, _≤_, _<_}
+use Prim.Native.Nat.{ℕ, zero, suc, _+_, _≤_, _<_}
 use native.Mathlib.Omega.{arith}
 use lib.Dec.{eqb}
 use lib.IntN.{ℤ, pos}
-use lib.ListN.{length, getD}
+use lib.ListN.{length}
 use Rattle.refusals.specs.Numbers.{isAccepted}
 use Rattle.bands.specs.declared.Band.{Band}
 use Rattle.levels.specs.declared.Level.{Level}
@@ -17,22 +17,22 @@ use Rattle.unit.specs.declared.Channel.{Channel}
 use Rattle.unit.specs.declared.Unit.{Unit}
 use Rattle.unit.specs.Lists.{tabulate, changed, anyOf}
 use Rattle.unit.specs.Cleared.{clearedChannel}
-use Rattle.unit.specs.Frame.{anyLimits, channelFrame, mix, output, unitFrame}
-use Rattle.unit.specs.Fit.{Fit, unitFits}
+use Rattle.unit.specs.Frame.{anyLimits, channelFrame, unitFrame}
+use Rattle.unit.specs.Fit.{Fit}
 use Rattle.unit.proofs.Fitness.{test-of-fit}
 use Rattle.unit.proofs.Tabulate.{or-assoc, or-false, any-snoc, tabulate-length}
 use Rattle.unit.proofs.Changed.{changed-length, changed-at}
 use Rattle.orders.specs.declared.Setting.{Setting}
 use Rattle.orders.specs.Orders.{volumeBand, names, targetOf, orderArguments, aimedSection, aimedChannel, aimedVolume, aimedBand, aimedUnit, ordered}
 use Rattle.orders.proofs.Laws.{aimed-fit, order-accepts}
-use Rattle.blocks.specs.Bytes.{sampleAt, wordAt, frameSize, frameCount}
+use Rattle.blocks.specs.Bytes.{sampleAt, wordAt, frameCount}
 use Rattle.blocks.specs.Block.{blockArguments, blockVerdict, played, blockPlayed, blockOutput}
 use Rattle.blocks.proofs.Block.{Accepts, played-fit, played-channels, block-accepted}
 use Rattle.blocks.proofs.Read.{played-channel, output-sample}
-use Rattle.closeness.specs.Claim.{Call, order, block, placeOf, unitAfter, framesOf, samplesOf, samples, channelOf, limitsOn, limitsOf, limits, handedBack, Results, Exact, exactFrame, exactAimed, exactPlayed, exactAfter, exactsOf, exacts, Close}
+use Rattle.closeness.specs.Claim.{Call, order, block, placeOf, unitAfter, samplesOf, samples, channelOf, limitsOn, limitsOf, limits, handedBack, Results, Exact, exactFrame, exactAimed, exactPlayed, exactAfter, exactsOf, exacts, Close}
 use Rattle.closeness.proofs.Band.{Near}
 use Rattle.closeness.proofs.Channel.{gainOf, NearAll, Tied, frame-tied, tied-close}
-use Rattle.closeness.proofs.Follows.{Follows, follows-from, follows-append}
+use Rattle.closeness.proofs.Follows.{Follows, follows-append}
 
 any-append : (a b : List Bool) → anyOf (a ++ b) ≡ anyOf a || anyOf b
 any-append [] b = refl

@@ -9,7 +9,8 @@ use Rattle.integers.proofs.Order.{both-true, leZ-true, ltZ-true, le-leZ, lt-ltZ
 use Rattle.rounding.specs.Rounding.{nearest, within}
 use Rattle.rounding.proofs.Nearest.{nearest-nonneg}
 use Rattle.rounding.proofs.Limit.{limit-case, limit-low, limit-high, bounds-within}
-use Rattle.floats.specs.Value.{isFinite, inUnits, oneUnits, inRange, isFactor, bandLowest, volumeLowest, targetLow, targetHigh, factorTarget}
+use Rattle.bands.specs.Words.{wordLow, wordHigh, isWord}
+use Rattle.floats.specs.Value.{isFinite, inUnits, oneUnits, inRange, isFactor, bandLowest, volumeLowest, factorTarget}
 use Rattle.floats.proofs.Range.{band-lower}
 
 -- what the test of a factor tells
@@ -40,24 +41,24 @@ abbrev rounded : Float → ℤ
 rounded x = nearest (inUnits binary32 x) 126
 
 -- a target is at most 8,388,607
-target-high : (x : Float) → factorTarget x ≤ℤ targetHigh
+target-high : (x : Float) → factorTarget x ≤ℤ wordHigh
 unfolding factorTarget
-target-high x = limit-high targetLow targetHigh (leZ-yes tt) (rounded x)
+target-high x = limit-high wordLow wordHigh (leZ-yes tt) (rounded x)
 
 -- a target is a word
-pub target-word : (x : Float) → within targetLow targetHigh (factorTarget x) ≡ true
+pub target-word : (x : Float) → isWord (factorTarget x) ≡ true
 unfolding factorTarget
-target-word x = bounds-within targetLow targetHigh (factorTarget x) (limit-low targetLow targetHigh (leZ-yes tt) (rounded x)) (target-high x)
+target-word x = bounds-within wordLow wordHigh (factorTarget x) (limit-low wordLow wordHigh (leZ-yes tt) (rounded x)) (target-high x)
 
 -- and not negative where the factor is not
 pub target-nonneg : (x : Float) → pos 0 ≤ℤ inUnits binary32 x → pos 0 ≤ℤ factorTarget x
 unfolding factorTarget
 target-nonneg x h =
-    limit-case targetLow targetHigh (rounded x) (λ n. pos 0 ≤ℤ n)
+    limit-case wordLow wordHigh (rounded x) (λ n. pos 0 ≤ℤ n)
     (λ u. absurd (omega (linear, nearest-nonneg (inUnits binary32 x) 126 h)))
     (λ u o. leZ-yes tt)
     (λ u o. nearest-nonneg (inUnits binary32 x) 126 h)
 
 -- so the target of a factor for the volume is 0 to 8,388,607
-pub volume-target : (x : Float) → isFactor volumeLowest x ≡ true → within (pos 0) targetHigh (factorTarget x) ≡ true
-volume-target x e = bounds-within (pos 0) targetHigh (factorTarget x) (target-nonneg x (factor-says volumeLowest x e .1)) (target-high x)
+pub volume-target : (x : Float) → isFactor volumeLowest x ≡ true → within (pos 0) wordHigh (factorTarget x) ≡ true
+volume-target x e = bounds-within (pos 0) wordHigh (factorTarget x) (target-nonneg x (factor-says volumeLowest x e .1)) (target-high x)

@@ -5,6 +5,7 @@ use lib.IntN.{ℤ, pos, negℤ, natAbs, _+ℤ_}
 use lib.Signed.{ltZ, leZ}
 use lib.Ieee.{Float, nan, inf, fin, Format, binary32, low}
 use Rattle.rounding.specs.Rounding.{nearest, limit}
+use Rattle.bands.specs.Words.{wordLow, wordHigh}
 
 -- a number that is neither nan nor an infinity
 abbrev pub isFinite : Float → Bool
@@ -42,13 +43,6 @@ volumeLowest = pos 0
 abbrev pub isFactor : ℤ → Float → Bool
 isFactor lowest f = isFinite f && inRange lowest f
 
--- the ends of a word
-abbrev pub targetLow : ℤ
-targetLow = negℤ (pos 8388608)
-
-abbrev pub targetHigh : ℤ
-targetHigh = pos 8388607
-
 -- "Its target is f × 2^23 rounded, limited to 8,388,607": a unit is 2^-149, so f × 2^23 is f in units / 2^126
 unfoldable pub factorTarget : Float → ℤ
-factorTarget f = limit targetLow targetHigh (nearest (inUnits binary32 f) 126)
+factorTarget f = limit wordLow wordHigh (nearest (inUnits binary32 f) 126)

@@ -12,7 +12,8 @@ use mir.Syntax.{w64}
 use mir.Val.{toZ, ofZ}
 use mir.Facts.{toZ-ofZ}
 use Rattle.rounding.specs.Rounding.{nearest, limit}
-use Rattle.floats.specs.Value.{inUnits, factorTarget, bandLowest, targetLow, targetHigh}
+use Rattle.bands.specs.Words.{wordLow, wordHigh}
+use Rattle.floats.specs.Value.{inUnits, factorTarget, bandLowest}
 use Rattle.floats.proofs.Casts.{finite-no-nan}
 use Rattle.floats.proofs.Laws.{factor-says}
 use Rattle.floats.proofs.Target.{scaled-roundable, scaled-whole, target-back}
@@ -69,7 +70,7 @@ saturate-requires c κs = search needs
 
 returns : tie.Need-returns
 unfolding factorTarget
-returns c = toZ-ofZ (record { sfits = c .saturate .ok }) ∙ c .saturate .ensures ∙ ap (limit targetLow targetHigh) (cast (c .before))
+returns c = toZ-ofZ (record { sfits = c .saturate .ok }) ∙ c .saturate .ensures ∙ ap (limit wordLow wordHigh) (cast (c .before))
 
 pub factor-target-spec : {M : Type 1} → statement M
 factor-target-spec = tie.close (tie.spec float-to-float-scaled nearest-whole-requires float-to-int-saturate saturate-requires returns)
