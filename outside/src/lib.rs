@@ -2,6 +2,7 @@
 //! unit written from document 01 alone, and the comparison of the library with
 //! it.
 
+pub mod calls;
 pub mod checks;
 pub mod faults;
 pub mod ffi;

@@ -4,12 +4,13 @@
 use std::process::ExitCode;
 use std::time::Instant;
 
-use outside::checks::groups::{Group, SECTION_GROUPS, UNIT_GROUPS};
+use outside::checks::groups::{Group, ORDER_GROUPS, SECTION_GROUPS, UNIT_GROUPS};
 use outside::checks::{
-    arithmetic, bands, block_refusals, blocks, cuts, fitness, levels, loads, refusals, steps,
+    arithmetic, bands, block_refusals, blocks, call_lists, cuts, factors, fitness, levels, loads,
+    orders, refusals, steps,
 };
 use outside::checks::{Difference, Tally};
-use outside::faults::{section, unit, Impostor};
+use outside::faults::{desk, section, unit, Impostor};
 use outside::lent;
 use outside::subject::{Fast, Library, Subject};
 
@@ -44,6 +45,9 @@ fn print_seeds() {
         ("frames", blocks::FRAMES_SEED),
         ("cuts", cuts::CUTS_SEED),
         ("refused blocks", block_refusals::BLOCK_REFUSALS_SEED),
+        ("orders", orders::ORDERS_SEED),
+        ("factors", factors::FACTORS_SEED),
+        ("lists of calls", call_lists::CALLS_SEED),
     ];
     let seeds = seeds.map(|(name, seed)| format!("{name} {seed:#x}"));
     println!("seeds: {}", seeds.join(", "));
@@ -61,7 +65,9 @@ fn everything() -> Result<(), Difference> {
     println!("Wrong implementations, each to be found by the groups named:");
     nothing_wrong(&section::Fault::Nothing, &SECTION_GROUPS)?;
     nothing_wrong(&unit::Fault::Nothing, &UNIT_GROUPS)?;
-    for impostor in section::IMPOSTORS.iter().chain(&unit::IMPOSTORS) {
+    nothing_wrong(&desk::Fault::Nothing, &ORDER_GROUPS)?;
+    let impostors = section::IMPOSTORS.iter().chain(&unit::IMPOSTORS);
+    for impostor in impostors.chain(&desk::IMPOSTORS) {
         unmask(impostor)?;
     }
     Ok(())
@@ -70,7 +76,11 @@ fn everything() -> Result<(), Difference> {
 /// Runs all groups against one subject and prints a line for each.
 fn every_group(subject: &dyn Subject) -> Result<(), Difference> {
     let mut total = Tally::default();
-    for group in SECTION_GROUPS.iter().chain(&UNIT_GROUPS) {
+    for group in SECTION_GROUPS
+        .iter()
+        .chain(&UNIT_GROUPS)
+        .chain(&ORDER_GROUPS)
+    {
         let tally =
             (group.run)(subject).map_err(|difference| format!("{}: {difference}", group.name))?;
         let frames = match tally.frames {

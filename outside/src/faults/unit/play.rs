@@ -4,6 +4,7 @@ use super::Fault;
 use crate::reference::{fast, house_set, Section, ACCEPTED, WORD_MAX, WORD_MIN};
 use crate::subject::{Fast, Subject};
 use crate::unit::exact::level_moved;
+use crate::unit::orders::Order;
 use crate::unit::{self, cleared, Numbers, Side, Unit, LEFT, RIGHT};
 use crate::unit::{GAIN_SLOPE, OUTPUT_TOO_SHORT, PART_OF_A_FRAME, UNFIT, VOLUME_SLOPE};
 
@@ -264,5 +265,8 @@ impl Subject for Fault {
     }
     fn section_step(&self, section: &mut Section, x: i32) -> i64 {
         Fast.section_step(section, x)
+    }
+    fn order(&self, numbers: &mut Numbers, order: &Order) -> u32 {
+        Fast.order(numbers, order)
     }
 }
