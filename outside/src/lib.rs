@@ -4,6 +4,7 @@
 
 pub mod calls;
 pub mod checks;
+pub mod exact_sound;
 pub mod faults;
 pub mod ffi;
 pub mod lent;

@@ -2,7 +2,7 @@
 
 use super::{arithmetic, bands, figures, refusals, steps, Outcome};
 use super::{block_refusals, blocks, cuts, fitness, levels, loads, unit_figures};
-use super::{call_lists, factors, order_figures, orders};
+use super::{call_lists, distance, factors, order_figures, orders};
 use crate::subject::Subject;
 
 /// A group of tests: its name, what it compares and what it runs.
@@ -114,6 +114,11 @@ pub const LISTS_OF_CALLS: Group = Group {
     what: "orders and blocks from cleared units, refused ones among them",
     run: call_lists::lists,
 };
+pub const DISTANCE: Group = Group {
+    name: "distance",
+    what: "samples of lists of calls held to the bound around the exact sound",
+    run: distance::from_the_exact,
+};
 
 pub const SECTION_GROUPS: [Group; 8] = [
     NEAREST, LIMIT, BANDS, HOUSE, LISTS, CORNERS, REFUSED, FIGURES,
@@ -129,3 +134,4 @@ pub const UNIT_GROUPS: [Group; 8] = [
     UNIT_FIGURES,
 ];
 pub const ORDER_GROUPS: [Group; 4] = [ORDERS, FACTORS, ORDER_FIGURES, LISTS_OF_CALLS];
+pub const SOUND_GROUPS: [Group; 1] = [DISTANCE];

@@ -3,10 +3,13 @@
 
 pub mod arithmetic;
 pub mod bands;
+pub mod big_numbers;
 pub mod block_refusals;
 pub mod blocks;
 pub mod call_lists;
 pub mod cuts;
+pub mod distance;
+pub mod distance_lists;
 pub mod factors;
 pub mod figures;
 pub mod fitness;
@@ -14,6 +17,7 @@ pub mod groups;
 pub mod levels;
 pub mod loads;
 pub mod makers;
+pub mod one_step;
 pub mod order_figures;
 pub mod orders;
 pub mod refusals;

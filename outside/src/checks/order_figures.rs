@@ -8,9 +8,12 @@ use crate::subject::Subject;
 use crate::unit::orders::{Order, FACTOR_NOT_FINITE, FACTOR_OUTSIDE, VOLUME_BAND};
 use crate::unit::{cleared, Numbers, LEFT, RIGHT, STRIPS, VOLUME};
 
+/// The target that an order sets, or its refusal.
+type Wanted = Result<i32, u32>;
+
 /// Factors by their bits, with the targets or refusals that a band and the
 /// volume have for them. 2^-24 × 2^23 is a half, and so is (2^24 - 1) × 2^-24.
-const FACTORS: [(u32, Result<i32, u32>, Result<i32, u32>); 22] = [
+const FACTORS: [(u32, Wanted, Wanted); 22] = [
     // "Factor 1 - 2^-24: target 8,388,607. Factor -1: -8,388,608."
     (0x3F7F_FFFF, Ok(8_388_607), Ok(8_388_607)),
     (0xBF80_0000, Ok(-8_388_608), Err(FACTOR_OUTSIDE)),
@@ -58,7 +61,7 @@ fn target_place(side: usize, band: u32) -> usize {
 fn figure(
     subject: &dyn Subject,
     order: &Order,
-    wanted: Result<i32, u32>,
+    wanted: Wanted,
     places: &[usize],
     tally: &mut Tally,
 ) -> Result<(), Difference> {
@@ -82,7 +85,7 @@ fn figure(
 fn every_place(
     subject: &dyn Subject,
     order: impl Fn(u32, u32) -> Order,
-    [band_target, volume_target]: [Result<i32, u32>; 2],
+    [band_target, volume_target]: [Wanted; 2],
     tally: &mut Tally,
 ) -> Result<(), Difference> {
     for band in 0..10 {

@@ -33,6 +33,20 @@ impl Orders {
         self.halves.down += other.halves.down;
     }
 
+    /// What a comparison must reach, by name.
+    pub fn reached(&self) -> [(&'static str, u64); 8] {
+        [
+            ("accepted orders", self.accepted),
+            ("orders refused with 1", self.refused_1),
+            ("orders refused with 2", self.refused_2),
+            ("orders refused with 3", self.refused_3),
+            ("orders refused with 4", self.refused_4),
+            ("orders refused with 14", self.refused_14),
+            ("halves of factors rounded up", self.halves.up),
+            ("halves of factors rounded down", self.halves.down),
+        ]
+    }
+
     fn count(&mut self, order: &Order, refusal: u32) {
         match (refusal, order.setting) {
             (NO_SIDE_AND_BAND, _) => self.refused_1 += 1,

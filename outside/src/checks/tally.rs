@@ -1,6 +1,7 @@
 //! What a group went through.
 
 use super::same_order::Orders;
+use crate::exact_sound::judge::Distances;
 use crate::reference::{exact, Section};
 use crate::unit::exact::{Halves, Met};
 
@@ -27,6 +28,8 @@ pub struct Tally {
     pub met: Met,
     /// What the orders met.
     pub orders: Orders,
+    /// How far the lists lay from the exact sound.
+    pub distances: Distances,
 }
 
 fn add_halves(sum: &mut Halves, other: Halves) {
@@ -58,12 +61,20 @@ impl Tally {
         self.blocks_14 += other.blocks_14;
         add_met(&mut self.met, &other.met);
         self.orders.add(&other.orders);
+        self.distances.add(&other.distances);
     }
 
     /// Everything that a comparison must reach, by name: one that never limits
     /// or never meets a half proves nothing of them.
-    pub fn reached(&self) -> [(&'static str, u64); 28] {
-        let (met, orders) = (&self.met, &self.orders);
+    pub fn reached(&self) -> Vec<(&'static str, u64)> {
+        let mut reached = self.steps_and_blocks().to_vec();
+        reached.extend(self.orders.reached());
+        reached.extend(self.distances.reached());
+        reached
+    }
+
+    fn steps_and_blocks(&self) -> [(&'static str, u64); 20] {
+        let met = &self.met;
         [
             ("refused steps", self.refused),
             ("steps limited at the upper end", self.limited_high),
@@ -85,14 +96,6 @@ impl Tally {
             ("halves of mixes rounded down", met.mix_halves.down),
             ("halves of outputs rounded up", met.output_halves.up),
             ("halves of outputs rounded down", met.output_halves.down),
-            ("accepted orders", orders.accepted),
-            ("orders refused with 1", orders.refused_1),
-            ("orders refused with 2", orders.refused_2),
-            ("orders refused with 3", orders.refused_3),
-            ("orders refused with 4", orders.refused_4),
-            ("orders refused with 14", orders.refused_14),
-            ("halves of factors rounded up", orders.halves.up),
-            ("halves of factors rounded down", orders.halves.down),
         ]
     }
 
