@@ -76,10 +76,11 @@ impl Maker {
         List { set, calls }
     }
 
-    /// Noise at the highest volume, after silence in which the levels rise.
-    fn full_volume(&mut self, band: Band, gain: f32, frames: usize) -> List {
+    /// Noise after so many silent frames in which the levels rise; the volume
+    /// is at its highest after 20,021.
+    fn risen(&mut self, band: Band, gain: f32, rise: usize, frames: usize) -> List {
         let mut calls = levels(gain);
-        calls.push(silence(20_021));
+        calls.push(silence(rise));
         for sound in [Sound::Soft(13), Sound::Noise] {
             calls.push(Call::block(sound.block(frames, &mut self.random)));
         }
@@ -96,13 +97,14 @@ pub fn lists() -> Vec<List> {
         let set = maker.set(turn);
         lists.push(maker.list(set, turn % 2 == 0, 12, 8));
     }
+    lists.push(maker.risen(HIGH, 0.999, 8_000, 100));
     for turn in 0..90 {
         let set = maker.set(turn);
         lists.push(maker.list(set, true, 10, 60));
         lists.push(maker.rising(turn, 80));
     }
-    lists.push(maker.full_volume(PLAIN, 0.1, 1_000));
-    lists.push(maker.full_volume(PLAIN, -1.0, 300));
+    lists.push(maker.risen(PLAIN, 0.1, 20_021, 1_000));
+    lists.push(maker.risen(PLAIN, -1.0, 20_021, 300));
     for band in CLINGING {
         for first in [16_384, 24_248, 16_300] {
             lists.push(clinging(band, first, 600));
@@ -112,6 +114,5 @@ pub fn lists() -> Vec<List> {
     for turn in 0..3 {
         lists.push(maker.rising(turn, 500));
     }
-    lists.push(maker.full_volume(HIGH, 0.999, 100));
     lists
 }
