@@ -135,7 +135,7 @@ pub fn factors(subject: &dyn Subject) -> Outcome {
     for turn in 0..1_000 {
         let set = sets.draw(turn, &mut random);
         let fit = random_fit(&set, &mut random);
-        in_turn(subject, fit, 2_000, &mut random, &mut tally)?;
+        in_turn(subject, fit, 3_000, &mut random, &mut tally)?;
         let unfit = spoilt(&fit, &mut random);
         in_turn(subject, unfit, 30, &mut random, &mut tally)?;
     }
