@@ -112,7 +112,7 @@ pub fn lists() -> Vec<List> {
     }
     lists.push(clinging(CLINGING[1], 16_384, 2_500));
     for turn in 0..3 {
-        lists.push(maker.rising(turn, 500));
+        lists.push(maker.rising(turn, 300));
     }
     lists
 }

@@ -127,7 +127,8 @@ impl Unit {
     }
 
     pub fn to_numbers(&self) -> Numbers {
-        let mut numbers = vec![self.volume.present, self.volume.target];
+        let mut numbers = Vec::with_capacity(118);
+        numbers.extend([self.volume.present, self.volume.target]);
         for band in &self.bands {
             numbers.extend([band.a, band.b, band.g]);
         }
