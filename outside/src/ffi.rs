@@ -1,6 +1,7 @@
 //! The library's C ABI and thin safe wrappers.
 
 use crate::reference::Section;
+use crate::unit::orders::{Order, Setting};
 use crate::unit::Numbers;
 
 /// The functions as the static library `exports` gives them.
@@ -21,6 +22,19 @@ pub mod raw {
             output: *mut u8,
             output_len: usize,
         ) -> u32;
+        pub fn fonddrys_order_position(
+            unit: *mut [i32; 118],
+            side: u32,
+            band: u32,
+            position: u8,
+        ) -> u32;
+        pub fn fonddrys_order_factor(
+            unit: *mut [i32; 118],
+            side: u32,
+            band: u32,
+            factor: f32,
+        ) -> u32;
+        pub fn fonddrys_order_mute(unit: *mut [i32; 118], side: u32, band: u32) -> u32;
     }
 }
 
@@ -72,4 +86,17 @@ pub fn block(unit: &mut Numbers, input: &[u8], output: &mut [u8]) -> u32 {
     // SAFETY: the unit and the output are lent to the library alone, the input
     // is only read, and each pointer comes with its own length.
     unsafe { raw::fonddrys_block(unit, from, input.len(), to, output.len()) }
+}
+
+pub fn order(unit: &mut Numbers, order: &Order) -> u32 {
+    let Order { side, band, .. } = *order;
+    // SAFETY: the unit is 118 numbers that nobody else holds; the rest are
+    // numbers, and each function is defined for all of them.
+    unsafe {
+        match order.setting {
+            Setting::Position(position) => raw::fonddrys_order_position(unit, side, band, position),
+            Setting::Factor(factor) => raw::fonddrys_order_factor(unit, side, band, factor),
+            Setting::Mute => raw::fonddrys_order_mute(unit, side, band),
+        }
+    }
 }

@@ -12,7 +12,7 @@ const MARK_BYTE: u8 = 0xA5;
 /// True where every function that takes a pointer leaves what lies around its
 /// own numbers and bytes as it was, and what it only reads too.
 pub fn keeps_to_its_numbers() -> bool {
-    house_keeps() && steps_keep() && loads_keep() && fits_keep() && blocks_keep()
+    house_keeps() && steps_keep() && loads_keep() && fits_keep() && blocks_keep() && orders_keep()
 }
 
 /// Lends the middle of a buffer of marks, filled with these numbers, and gives
@@ -113,4 +113,40 @@ fn block_keeps(unit: &[i32; 118], sound: &[u8], room: usize, odd: usize) -> bool
         });
     });
     unit_after.is_some() && output_after.is_some() && input_after.as_deref() == Some(sound)
+}
+
+/// Orders of every kind to every side and band, also to none that there are,
+/// accepted and refused; fit units and unfit ones.
+fn orders_keep() -> bool {
+    let units = [cleared(&house_set()), [-1; 118]];
+    let places = [(0, 0), (1, 9), (2, 9), (2, 10), (0, 10), (2, 11), (3, 0)];
+    let far = [(2, 118), (2, 1 << 29), (u32::MAX, u32::MAX)];
+    units.iter().all(|unit| {
+        places
+            .iter()
+            .chain(&far)
+            .all(|&(side, band)| order_keeps(unit, side, band))
+    })
+}
+
+fn order_keeps(unit: &[i32; 118], side: u32, band: u32) -> bool {
+    let positions = [0, 31, 32, 255].into_iter().all(|position| {
+        // SAFETY: 118 numbers are lent.
+        lend(unit, |unit| unsafe {
+            raw::fonddrys_order_position(unit.cast(), side, band, position);
+        })
+        .is_some()
+    });
+    let factors = [0.5, -1.0, 1.0, f32::NAN].into_iter().all(|factor| {
+        // SAFETY: 118 numbers are lent.
+        lend(unit, |unit| unsafe {
+            raw::fonddrys_order_factor(unit.cast(), side, band, factor);
+        })
+        .is_some()
+    });
+    // SAFETY: 118 numbers are lent.
+    let muted = lend(unit, |unit| unsafe {
+        raw::fonddrys_order_mute(unit.cast(), side, band);
+    });
+    positions && factors && muted.is_some()
 }

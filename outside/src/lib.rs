@@ -2,7 +2,9 @@
 //! unit written from document 01 alone, and the comparison of the library with
 //! it.
 
+pub mod calls;
 pub mod checks;
+pub mod exact_sound;
 pub mod faults;
 pub mod ffi;
 pub mod lent;

@@ -2,9 +2,11 @@
 
 use crate::ffi;
 use crate::reference::{self, fast, Section};
+use crate::unit::orders::{self, Order};
 use crate::unit::{self, Numbers};
 
-/// The nine functions of the C ABI, whoever implements them.
+/// The twelve functions of the C ABI, whoever implements them. The three of the
+/// orders are one here.
 pub trait Subject {
     fn nearest(&self, v: i64, k: u32) -> i64;
     fn limit(&self, v: i64, low: i64, high: i64) -> i64;
@@ -15,6 +17,7 @@ pub trait Subject {
     fn load(&self, numbers: &mut Numbers, set: &[i32]) -> u32;
     fn unit_fit(&self, numbers: &Numbers) -> u32;
     fn block(&self, numbers: &mut Numbers, input: &[u8], output: &mut [u8]) -> u32;
+    fn order(&self, numbers: &mut Numbers, order: &Order) -> u32;
 }
 
 /// The library, over the C ABI.
@@ -47,6 +50,9 @@ impl Subject for Library {
     }
     fn block(&self, numbers: &mut Numbers, input: &[u8], output: &mut [u8]) -> u32 {
         ffi::block(numbers, input, output)
+    }
+    fn order(&self, numbers: &mut Numbers, order: &Order) -> u32 {
+        ffi::order(numbers, order)
     }
 }
 
@@ -86,5 +92,8 @@ impl Subject for Fast {
     }
     fn block(&self, numbers: &mut Numbers, input: &[u8], output: &mut [u8]) -> u32 {
         unit::fast::block(numbers, input, output)
+    }
+    fn order(&self, numbers: &mut Numbers, order: &Order) -> u32 {
+        orders::fast::order(numbers, order)
     }
 }

@@ -4,14 +4,21 @@
 use std::process::ExitCode;
 use std::time::Instant;
 
-use outside::checks::groups::{Group, SECTION_GROUPS, UNIT_GROUPS};
+use outside::checks::groups::{
+    Group, DISTANCE, LISTS_OF_CALLS, ORDER_GROUPS, SECTION_GROUPS, SOUND_GROUPS, UNIT_GROUPS,
+};
 use outside::checks::{
-    arithmetic, bands, block_refusals, blocks, cuts, fitness, levels, loads, refusals, steps,
+    arithmetic, bands, big_numbers, block_refusals, blocks, call_lists, cuts, distance_lists,
+    factors, fitness, levels, loads, one_step, orders, refusals, steps,
 };
 use outside::checks::{Difference, Tally};
-use outside::faults::{section, unit, Impostor};
+use outside::exact_sound::judge::Distances;
+use outside::faults::{desk, section, unit, Impostor};
 use outside::lent;
 use outside::subject::{Fast, Library, Subject};
+
+/// The least part of the bound that the largest distance must come to.
+const NEAR: f64 = 0.9;
 
 fn main() -> ExitCode {
     let begun = Instant::now();
@@ -44,12 +51,22 @@ fn print_seeds() {
         ("frames", blocks::FRAMES_SEED),
         ("cuts", cuts::CUTS_SEED),
         ("refused blocks", block_refusals::BLOCK_REFUSALS_SEED),
+        ("orders", orders::ORDERS_SEED),
+        ("factors", factors::FACTORS_SEED),
+        ("lists of calls", call_lists::CALLS_SEED),
+        ("distance", distance_lists::DISTANCE_SEED),
+        ("big numbers", big_numbers::BIG_SEED),
+        ("one step", one_step::ONE_STEP_SEED),
     ];
     let seeds = seeds.map(|(name, seed)| format!("{name} {seed:#x}"));
     println!("seeds: {}", seeds.join(", "));
 }
 
 fn everything() -> Result<(), Difference> {
+    let numbers =
+        big_numbers::agree().map_err(|difference| format!("big numbers: {difference}"))?;
+    println!("The arithmetic of the exact sound:");
+    println!("  {} answers agree", numbers.answers);
     println!("The fast Rust form against the exact one:");
     every_group(&Fast)?;
     println!("The library against the exact Rust form:");
@@ -59,18 +76,14 @@ fn everything() -> Result<(), Difference> {
     }
     println!("  numbers and bytes before and behind the lent ones kept");
     println!("Wrong implementations, each to be found by the groups named:");
-    nothing_wrong(&section::Fault::Nothing, &SECTION_GROUPS)?;
-    nothing_wrong(&unit::Fault::Nothing, &UNIT_GROUPS)?;
-    for impostor in section::IMPOSTORS.iter().chain(&unit::IMPOSTORS) {
-        unmask(impostor)?;
-    }
-    Ok(())
+    every_fault()
 }
 
 /// Runs all groups against one subject and prints a line for each.
 fn every_group(subject: &dyn Subject) -> Result<(), Difference> {
     let mut total = Tally::default();
-    for group in SECTION_GROUPS.iter().chain(&UNIT_GROUPS) {
+    let groups = SECTION_GROUPS.iter().chain(&UNIT_GROUPS);
+    for group in groups.chain(&ORDER_GROUPS).chain(&SOUND_GROUPS) {
         let tally =
             (group.run)(subject).map_err(|difference| format!("{}: {difference}", group.name))?;
         let frames = match tally.frames {
@@ -90,6 +103,40 @@ fn every_group(subject: &dyn Subject) -> Result<(), Difference> {
             return Err(format!("the comparison reached no {what}"));
         }
     }
+    near_the_bound(&total.distances)
+}
+
+/// Lists that stay far within the bound would pass a wrong sound too.
+fn near_the_bound(distances: &Distances) -> Result<(), Difference> {
+    let Distances {
+        largest,
+        largest_of_sections,
+        judged,
+        ..
+    } = distances;
+    println!(
+        "  largest distance {largest:.6} of the bound over {judged} samples, \
+         {largest_of_sections:.6} where the part of the sections is most of it"
+    );
+    if largest.min(*largest_of_sections) < NEAR {
+        return Err(format!("no distance came to {NEAR} of the bound"));
+    }
+    Ok(())
+}
+
+/// Every wrong implementation, and what they have in common.
+fn every_fault() -> Result<(), Difference> {
+    nothing_wrong(&section::Fault::Nothing, &SECTION_GROUPS)?;
+    nothing_wrong(&unit::Fault::Nothing, &UNIT_GROUPS)?;
+    nothing_wrong(&unit::Fault::Nothing, &[LISTS_OF_CALLS, DISTANCE])?;
+    nothing_wrong(&desk::Fault::Nothing, &ORDER_GROUPS)?;
+    nothing_wrong(&desk::Fault::Nothing, &SOUND_GROUPS)?;
+    let impostors = section::IMPOSTORS.iter().chain(&unit::IMPOSTORS);
+    for impostor in impostors.chain(&desk::IMPOSTORS) {
+        unmask(impostor)?;
+    }
+    let found = one_step::found_everywhere()?.answers;
+    println!("  a sample one step away: found by distance at each of {found} places");
     Ok(())
 }
 

@@ -149,6 +149,19 @@ pub fn random_accepted(random: &mut Random) -> Band {
     [a, b, random.between(-edge, edge)]
 }
 
+/// An accepted band whose poles lie close to the unit circle, with an A of any
+/// size: its results decay slowly.
+pub fn slow_accepted(random: &mut Random) -> Band {
+    let a = random.between(0, 8_388_607) >> random.below(23);
+    let b = 4_194_303 - (random.between(0, 4_095) >> random.below(12));
+    let edge = 4_194_304 + b - 1;
+    let g = match random.below(2) {
+        0 => random.between(-edge, edge),
+        _ => edge - (random.between(0, 4_095) >> random.below(12)),
+    };
+    [a, b, g]
+}
+
 fn accepted_of(every_a: &[i32], every_b: &[i32], every_g: impl Fn(i32) -> Vec<i32>) -> Vec<Band> {
     let mut bands = Vec::new();
     for &a in every_a {

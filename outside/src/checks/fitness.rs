@@ -55,6 +55,17 @@ fn edge_numbers(numbers: &Numbers, place: usize) -> Vec<i32> {
     }
 }
 
+/// A fit unit with one number unfit or several. A wrong B can make a wrong G
+/// beside it right, never itself.
+pub fn spoilt(numbers: &Numbers, random: &mut Random) -> Numbers {
+    let mut spoilt = *numbers;
+    for _ in 0..=random.below(5) {
+        let place = random.below(118) as usize;
+        spoilt[place] = random.pick(&unfit_numbers(numbers, place));
+    }
+    spoilt
+}
+
 /// The comparison under way.
 struct Run<'a> {
     subject: &'a dyn Subject,
@@ -110,12 +121,7 @@ impl Run<'_> {
 
     /// Several numbers unfit at once.
     fn several(&mut self, numbers: &Numbers) -> Result<(), Difference> {
-        let mut spoilt = *numbers;
-        for _ in 0..=self.random.below(5) {
-            let place = self.random.below(118) as usize;
-            spoilt[place] = self.random.pick(&unfit_numbers(numbers, place));
-        }
-        // A wrong B can make a wrong G beside it right, never itself.
+        let spoilt = spoilt(numbers, &mut self.random);
         self.unfit(&spoilt)
     }
 }

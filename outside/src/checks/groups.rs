@@ -2,6 +2,7 @@
 
 use super::{arithmetic, bands, figures, refusals, steps, Outcome};
 use super::{block_refusals, blocks, cuts, fitness, levels, loads, unit_figures};
+use super::{call_lists, distance, factors, order_figures, orders};
 use crate::subject::Subject;
 
 /// A group of tests: its name, what it compares and what it runs.
@@ -93,6 +94,32 @@ pub const UNIT_FIGURES: Group = Group {
     run: unit_figures::of_the_unit,
 };
 
+pub const ORDERS: Group = Group {
+    name: "orders",
+    what: "every side and band, all 256 positions, mute; fit and unfit units",
+    run: orders::places,
+};
+pub const FACTORS: Group = Group {
+    name: "factors",
+    what: "edges, halves and their neighbours, random bits; fit and unfit units",
+    run: factors::factors,
+};
+pub const ORDER_FIGURES: Group = Group {
+    name: "order figures",
+    what: "those that document 01 gives for orders, and their targets",
+    run: order_figures::of_orders,
+};
+pub const LISTS_OF_CALLS: Group = Group {
+    name: "lists of calls",
+    what: "orders and blocks from cleared units, refused ones among them",
+    run: call_lists::lists,
+};
+pub const DISTANCE: Group = Group {
+    name: "distance",
+    what: "samples of lists of calls held to the bound around the exact sound",
+    run: distance::from_the_exact,
+};
+
 pub const SECTION_GROUPS: [Group; 8] = [
     NEAREST, LIMIT, BANDS, HOUSE, LISTS, CORNERS, REFUSED, FIGURES,
 ];
@@ -106,3 +133,5 @@ pub const UNIT_GROUPS: [Group; 8] = [
     REFUSED_BLOCKS,
     UNIT_FIGURES,
 ];
+pub const ORDER_GROUPS: [Group; 4] = [ORDERS, FACTORS, ORDER_FIGURES, LISTS_OF_CALLS];
+pub const SOUND_GROUPS: [Group; 1] = [DISTANCE];

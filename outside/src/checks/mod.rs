@@ -3,16 +3,26 @@
 
 pub mod arithmetic;
 pub mod bands;
+pub mod big_numbers;
 pub mod block_refusals;
 pub mod blocks;
+pub mod call_lists;
 pub mod cuts;
+pub mod distance;
+pub mod distance_lists;
+pub mod factors;
 pub mod figures;
 pub mod fitness;
 pub mod groups;
 pub mod levels;
 pub mod loads;
+pub mod makers;
+pub mod one_step;
+pub mod order_figures;
+pub mod orders;
 pub mod refusals;
 pub mod same_block;
+pub mod same_order;
 pub mod sounds;
 pub mod steps;
 pub mod tally;

@@ -14,6 +14,8 @@ pub enum Sound {
     Ends,
     /// Samples from -2 to 2.
     Faint,
+    /// Any samples of so many bits.
+    Soft(u32),
     /// Zeros.
     Silence,
     /// Any samples for a third of the block, then zeros.
@@ -54,6 +56,7 @@ impl Sound {
             Sound::Square(_) => i16::MIN,
             Sound::Ends => random.pick(&[i16::MIN, i16::MAX]),
             Sound::Faint => random.between(-2, 2) as i16,
+            Sound::Soft(bits) => any_sample(random) >> (16 - bits),
             Sound::ThenSilence if frame < frames / 3 => any_sample(random),
             Sound::Impulse(sample) if frame == 0 => sample,
             Sound::OneSide(one) if side == one => any_sample(random),

@@ -1,5 +1,7 @@
 //! What a group went through.
 
+use super::same_order::Orders;
+use crate::exact_sound::judge::Distances;
 use crate::reference::{exact, Section};
 use crate::unit::exact::{Halves, Met};
 
@@ -24,6 +26,10 @@ pub struct Tally {
     pub blocks_14: u64,
     /// What the frames met.
     pub met: Met,
+    /// What the orders met.
+    pub orders: Orders,
+    /// How far the lists lay from the exact sound.
+    pub distances: Distances,
 }
 
 fn add_halves(sum: &mut Halves, other: Halves) {
@@ -54,11 +60,20 @@ impl Tally {
         self.blocks_6 += other.blocks_6;
         self.blocks_14 += other.blocks_14;
         add_met(&mut self.met, &other.met);
+        self.orders.add(&other.orders);
+        self.distances.add(&other.distances);
     }
 
     /// Everything that a comparison must reach, by name: one that never limits
     /// or never meets a half proves nothing of them.
-    pub fn reached(&self) -> [(&'static str, u64); 20] {
+    pub fn reached(&self) -> Vec<(&'static str, u64)> {
+        let mut reached = self.steps_and_blocks().to_vec();
+        reached.extend(self.orders.reached());
+        reached.extend(self.distances.reached());
+        reached
+    }
+
+    fn steps_and_blocks(&self) -> [(&'static str, u64); 20] {
         let met = &self.met;
         [
             ("refused steps", self.refused),

@@ -2,6 +2,7 @@
 //! every group named beside it; a comparison that passes one of them is itself
 //! wrong.
 
+pub mod desk;
 pub mod section;
 pub mod unit;
 

@@ -7,6 +7,7 @@ use crate::reference::{
     REFUSED_B, REFUSED_G, TABLE_1, WORD_MAX, WORD_MIN,
 };
 use crate::subject::{Fast, Subject};
+use crate::unit::orders::Order;
 use crate::unit::Numbers;
 
 /// What is wrong.
@@ -215,5 +216,8 @@ impl Subject for Fault {
     }
     fn block(&self, numbers: &mut Numbers, input: &[u8], output: &mut [u8]) -> u32 {
         Fast.block(numbers, input, output)
+    }
+    fn order(&self, numbers: &mut Numbers, order: &Order) -> u32 {
+        Fast.order(numbers, order)
     }
 }

@@ -1,11 +1,12 @@
 //! The two-sided unit, written from document 01: its numbers, its refusals and
 //! the loading of a band set. Quoted sentences are that document's.
 //!
-//! The playing of a block has two forms, as the section has. `exact` is the
-//! plain meaning; `fast` is what one would write for use.
+//! The playing of a block and the orders have two forms, as the section has.
+//! `exact` is the plain meaning; `fast` is what one would write for use.
 
 pub mod exact;
 pub mod fast;
+pub mod orders;
 
 use crate::reference::{band_refusal, house_set, ACCEPTED};
 
@@ -126,7 +127,8 @@ impl Unit {
     }
 
     pub fn to_numbers(&self) -> Numbers {
-        let mut numbers = vec![self.volume.present, self.volume.target];
+        let mut numbers = Vec::with_capacity(118);
+        numbers.extend([self.volume.present, self.volume.target]);
         for band in &self.bands {
             numbers.extend([band.a, band.b, band.g]);
         }

@@ -4,7 +4,8 @@ mod play;
 
 use super::{impostor, Impostor};
 use crate::checks::groups::{
-    BLOCKS, CUTS, FITNESS, FRAMES, LEVELS, LOADS, REFUSED_BLOCKS, UNIT_FIGURES,
+    BLOCKS, CUTS, DISTANCE, FITNESS, FRAMES, LEVELS, LISTS_OF_CALLS, LOADS, REFUSED_BLOCKS,
+    UNIT_FIGURES,
 };
 
 /// What is wrong.
@@ -44,23 +45,27 @@ pub enum Fault {
     RefusedBlockClearsOutput,
     RefusedSetKept,
     LoadKeepsLevels,
+    SampleOffByOne,
+    GainsMovedAfter,
+    SectionProductsRounded,
+    FlaggedSilence,
 }
 
-pub const IMPOSTORS: [Impostor; 33] = [
+pub const IMPOSTORS: [Impostor; 37] = [
     impostor(
         &Fault::CopiesInput,
         "input copied to output",
-        &[BLOCKS, FRAMES, UNIT_FIGURES],
+        &[BLOCKS, FRAMES, UNIT_FIGURES, DISTANCE],
     ),
     impostor(
         &Fault::Silence,
         "silence for an answer",
-        &[BLOCKS, FRAMES, UNIT_FIGURES],
+        &[BLOCKS, FRAMES, UNIT_FIGURES, DISTANCE],
     ),
     impostor(
         &Fault::RepeatsFirstFrame,
         "the first frame filtered and repeated",
-        &[BLOCKS, CUTS],
+        &[BLOCKS, CUTS, DISTANCE],
     ),
     impostor(
         &Fault::MixLimited,
@@ -70,7 +75,7 @@ pub const IMPOSTORS: [Impostor; 33] = [
     impostor(
         &Fault::MixProductsRounded,
         "each product of the mix rounded by itself",
-        &[BLOCKS, FRAMES],
+        &[BLOCKS, FRAMES, DISTANCE],
     ),
     impostor(
         &Fault::MixCutOff,
@@ -115,7 +120,7 @@ pub const IMPOSTORS: [Impostor; 33] = [
     impostor(
         &Fault::LeftGainsOnRight,
         "the right played with the left's gains",
-        &[BLOCKS, FRAMES],
+        &[BLOCKS, FRAMES, DISTANCE],
     ),
     impostor(
         &Fault::LevelPastTarget,
@@ -125,7 +130,7 @@ pub const IMPOSTORS: [Impostor; 33] = [
     impostor(
         &Fault::LevelsMovedAfter,
         "levels moved after the sound",
-        &[BLOCKS, FRAMES, UNIT_FIGURES],
+        &[BLOCKS, FRAMES, UNIT_FIGURES, DISTANCE],
     ),
     impostor(
         &Fault::LevelsMovedOnceABlock,
@@ -155,7 +160,7 @@ pub const IMPOSTORS: [Impostor; 33] = [
     impostor(
         &Fault::OutputWraps,
         "the output left to wrap",
-        &[BLOCKS, FRAMES],
+        &[BLOCKS, FRAMES, DISTANCE],
     ),
     impostor(
         &Fault::HighByteFirst,
@@ -207,5 +212,25 @@ pub const IMPOSTORS: [Impostor; 33] = [
         &Fault::LoadKeepsLevels,
         "levels kept by a loading",
         &[LOADS, UNIT_FIGURES],
+    ),
+    impostor(
+        &Fault::SampleOffByOne,
+        "a sample of each block off by one",
+        &[BLOCKS, FRAMES, CUTS, LISTS_OF_CALLS, DISTANCE],
+    ),
+    impostor(
+        &Fault::GainsMovedAfter,
+        "gains moved after the sound",
+        &[BLOCKS, FRAMES, LISTS_OF_CALLS, DISTANCE],
+    ),
+    impostor(
+        &Fault::SectionProductsRounded,
+        "each product of a unit's sections rounded by itself",
+        &[BLOCKS, FRAMES, LISTS_OF_CALLS, DISTANCE],
+    ),
+    impostor(
+        &Fault::FlaggedSilence,
+        "silence with the flags raised at the start",
+        &[BLOCKS, FRAMES, UNIT_FIGURES, LISTS_OF_CALLS, DISTANCE],
     ),
 ];

@@ -4,6 +4,7 @@ use super::Fault;
 use crate::reference::{fast, house_set, Section, ACCEPTED, WORD_MAX, WORD_MIN};
 use crate::subject::{Fast, Subject};
 use crate::unit::exact::level_moved;
+use crate::unit::orders::Order;
 use crate::unit::{self, cleared, Numbers, Side, Unit, LEFT, RIGHT};
 use crate::unit::{GAIN_SLOPE, OUTPUT_TOO_SHORT, PART_OF_A_FRAME, UNFIT, VOLUME_SLOPE};
 
@@ -36,6 +37,10 @@ impl Fault {
 
     fn move_levels(self, unit: &mut Unit) {
         self.move_volume(unit);
+        self.move_gains(unit);
+    }
+
+    fn move_gains(self, unit: &mut Unit) {
         let (gain_slope, _) = self.slopes();
         for strip in unit.sides.iter_mut().flat_map(|side| &mut side.strips) {
             let gain = &mut strip.gain;
@@ -46,7 +51,15 @@ impl Fault {
     /// A section's y, and whether it limited.
     fn step(self, section: &Section, x: i32) -> (i64, bool) {
         let [a, b, g, _, x2, y1, y2] = section.map(i64::from);
-        let number = self.divided(a * (i64::from(x) - x2) + g * y1 - b * y2, 22);
+        let products = [a * (i64::from(x) - x2), g * y1, -(b * y2)];
+        let number = if self == Fault::SectionProductsRounded {
+            products
+                .map(|product| self.divided(product, 22))
+                .iter()
+                .sum()
+        } else {
+            self.divided(products.iter().sum(), 22)
+        };
         let y = number.clamp(i64::from(WORD_MIN), i64::from(WORD_MAX));
         if self == Fault::SectionsUnlimited {
             (i64::from(number as i32), y != number)
@@ -96,9 +109,11 @@ impl Fault {
 
     /// One frame.
     fn frame(self, unit: &mut Unit, samples: [i16; 2], first: bool) -> [i16; 2] {
-        let moves = first || self != Fault::LevelsMovedOnceABlock;
-        if moves && self != Fault::LevelsMovedAfter {
-            self.move_levels(unit);
+        match self {
+            Fault::LevelsMovedAfter => {}
+            Fault::GainsMovedAfter => self.move_volume(unit),
+            Fault::LevelsMovedOnceABlock if !first => {}
+            _ => self.move_levels(unit),
         }
         let mut played = [0; 2];
         for place in 0..2 {
@@ -121,8 +136,10 @@ impl Fault {
             }
             played[place] = sample;
         }
-        if self == Fault::LevelsMovedAfter {
-            self.move_levels(unit);
+        match self {
+            Fault::LevelsMovedAfter => self.move_levels(unit),
+            Fault::GainsMovedAfter => self.move_gains(unit),
+            _ => {}
         }
         played
     }
@@ -149,7 +166,7 @@ impl Fault {
     fn flags_before(self, unit: &mut Unit) {
         for side in &mut unit.sides {
             match self {
-                Fault::FlagAtStart => side.flag = 1,
+                Fault::FlagAtStart | Fault::FlaggedSilence => side.flag = 1,
                 Fault::FlagCleared => side.flag = 0,
                 _ => {}
             }
@@ -172,7 +189,8 @@ impl Fault {
         *numbers = unit.to_numbers();
         match self {
             Fault::CopiesInput => output[..input.len()].copy_from_slice(input),
-            Fault::Silence => output[..input.len()].fill(0),
+            Fault::Silence | Fault::FlaggedSilence => output[..input.len()].fill(0),
+            Fault::SampleOffByOne if !input.is_empty() => output[input.len() - 2] ^= 1,
             Fault::RepeatsFirstFrame => {
                 for place in 4..input.len() {
                     output[place] = output[place - 4];
@@ -264,5 +282,8 @@ impl Subject for Fault {
     }
     fn section_step(&self, section: &mut Section, x: i32) -> i64 {
         Fast.section_step(section, x)
+    }
+    fn order(&self, numbers: &mut Numbers, order: &Order) -> u32 {
+        Fast.order(numbers, order)
     }
 }

@@ -1,0 +1,199 @@
+//! The distance of what a unit played from the exact sound. In every frame a
+//! side none of whose sections has limited is at most
+//! 1/2 + V / 2^32 + V × (sum of |g| × H) / 2^55 away.
+
+use super::fraction::Fraction;
+use super::limiting::Limiting;
+use super::response::Responses;
+use super::{ExactSound, ONE};
+use crate::calls::{Call, List};
+
+/// What the frames of lists were found to be. A frame counts once a side.
+#[derive(Clone, Copy, Default)]
+pub struct Distances {
+    pub lists: u64,
+    /// Lists in which a section limited.
+    pub limited: u64,
+    /// Frames held to the bound.
+    pub judged: u64,
+    /// Frames with a section limited up to then, and those of them that lie
+    /// beyond the bound.
+    pub skipped: u64,
+    pub skipped_beyond: u64,
+    /// Judged frames farther away than 1/2 + V / 2^32, so that the part of the
+    /// sections is needed.
+    pub need_sections: u64,
+    /// The largest distance as a part of the bound, and the largest where the
+    /// part of the sections is more than the rest of the bound.
+    pub largest: f64,
+    pub largest_of_sections: f64,
+}
+
+impl Distances {
+    pub fn add(&mut self, other: &Distances) {
+        self.lists += other.lists;
+        self.limited += other.limited;
+        self.judged += other.judged;
+        self.skipped += other.skipped;
+        self.skipped_beyond += other.skipped_beyond;
+        self.need_sections += other.need_sections;
+        self.largest = self.largest.max(other.largest);
+        self.largest_of_sections = self.largest_of_sections.max(other.largest_of_sections);
+    }
+
+    /// What a comparison must reach, by name.
+    pub fn reached(&self) -> [(&'static str, u64); 6] {
+        [
+            ("lists held against the exact sound", self.lists),
+            ("lists in which a section limited", self.limited),
+            ("samples held to the bound", self.judged),
+            (
+                "samples that need the sections' part of it",
+                self.need_sections,
+            ),
+            ("samples left out, a section having limited", self.skipped),
+            ("samples left out and beyond the bound", self.skipped_beyond),
+        ]
+    }
+}
+
+/// Twice the distance of a sample and twice its bound, all × 2^54.
+struct Measured {
+    distance: Fraction,
+    /// 2^54 + V × 2^23.
+    outer: Fraction,
+    /// V × sum of |g| × H.
+    sections: Fraction,
+    /// Both of these.
+    bound: Fraction,
+}
+
+impl Measured {
+    fn is_beyond(&self) -> bool {
+        self.distance.compared_with(&self.bound).is_gt()
+    }
+
+    /// Only printed, and held against what the lists must come to.
+    fn part_of_bound(&self) -> f64 {
+        self.distance.approximately() / self.bound.approximately()
+    }
+}
+
+/// The reckonings of one list side by side.
+struct Judge {
+    sound: ExactSound,
+    responses: Responses,
+    limiting: Limiting,
+    frames: u64,
+    distances: Distances,
+}
+
+impl Judge {
+    fn new(set: &[i32; 30]) -> Judge {
+        Judge {
+            sound: ExactSound::new(set),
+            responses: Responses::new(set),
+            limiting: Limiting::new(set),
+            frames: 0,
+            distances: Distances::default(),
+        }
+    }
+
+    /// None where the sample is the exact output.
+    fn measured(&self, side: usize, sample: i16) -> Option<Measured> {
+        let (played, exact) = (Fraction::whole(sample.into()), self.sound.output(side));
+        let distance = Fraction::sum(&[(2 * ONE, &played), (-2, &exact)]).size();
+        if distance.is_zero() {
+            return None;
+        }
+        let (volume, gains) = self.sound.levels(side);
+        let weights = gains.map(|gain| volume * gain.abs());
+        let outer = Fraction::whole(ONE + (volume << 23));
+        let sections = self.responses.weighted(&weights);
+        let bound = Fraction::sum(&[(1, &outer), (1, &sections)]);
+        Some(Measured {
+            distance,
+            outer,
+            sections,
+            bound,
+        })
+    }
+
+    /// Counts a sample of a side that has not limited, or says that it lies
+    /// beyond the bound.
+    fn judge(&mut self, side: usize, sample: i16) -> Result<(), String> {
+        self.distances.judged += 1;
+        let Some(measured) = self.measured(side, sample) else {
+            return Ok(());
+        };
+        let part = measured.part_of_bound();
+        if measured.is_beyond() {
+            return Err(format!(
+                "frame {} of a list, side {side}: the sample {sample} is {part} times the bound \
+                 away from the exact sound",
+                self.frames
+            ));
+        }
+        let (distances, outer) = (&mut self.distances, &measured.outer);
+        let needed = measured.distance.compared_with(outer).is_gt();
+        distances.need_sections += u64::from(needed);
+        distances.largest = distances.largest.max(part);
+        if measured.sections.compared_with(outer).is_gt() {
+            distances.largest_of_sections = distances.largest_of_sections.max(part);
+        }
+        Ok(())
+    }
+
+    /// Counts a sample of a side that has limited.
+    fn leave_out(&mut self, side: usize, sample: i16) {
+        let measured = self.measured(side, sample);
+        let beyond = measured.is_some_and(|measured| measured.is_beyond());
+        self.distances.skipped += 1;
+        self.distances.skipped_beyond += u64::from(beyond);
+    }
+
+    fn frame(&mut self, samples: [i16; 2], played: [i16; 2]) -> Result<(), String> {
+        self.frames += 1;
+        self.sound.frame(samples);
+        self.responses.grow();
+        self.limiting.frame(samples);
+        for (side, sample) in played.into_iter().enumerate() {
+            if self.limiting.has_limited(side) {
+                self.leave_out(side, sample);
+            } else {
+                self.judge(side, sample)?;
+            }
+        }
+        Ok(())
+    }
+}
+
+/// The samples of a frame.
+fn samples(frame: &[u8]) -> [i16; 2] {
+    [[frame[0], frame[1]], [frame[2], frame[3]]].map(i16::from_le_bytes)
+}
+
+/// Judges a list by the outputs that its blocks handed back, in turn.
+pub fn judge(list: &List, outputs: &[Vec<u8>]) -> Result<Distances, String> {
+    let mut judge = Judge::new(&list.set);
+    let mut outputs = outputs.iter();
+    for call in &list.calls {
+        let accepted = call.is_accepted();
+        match call {
+            Call::Order(order) if accepted => judge.sound.order(order),
+            Call::Order(_) => {}
+            Call::Block { input, .. } => {
+                let output = outputs.next().expect("an output for each block");
+                let frames = if accepted { input.len() / 4 } else { 0 };
+                let sounds = input.chunks_exact(4).zip(output.chunks_exact(4));
+                for (frame, played) in sounds.take(frames) {
+                    judge.frame(samples(frame), samples(played))?;
+                }
+            }
+        }
+    }
+    let limited = (0..2).any(|side| judge.limiting.has_limited(side));
+    judge.distances.lists = 1;
+    judge.distances.limited = limited.into();
+    Ok(judge.distances)
+}
