@@ -1,5 +1,5 @@
 -- `orders::aim_sections` meets its contract: a store at the band, of the section that stands there with its target set.
-use mathlib.Core.Path.{sym, ap, _∙_}
+use mathlib.Core.Path.{_≡_, sym, ap, _∙_}
 use native.Mathlib.Omega.{arith}
 use lib.IntN.{ℤ}
 use lib.ListN.{getD, set}
