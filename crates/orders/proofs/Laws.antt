@@ -32,38 +32,39 @@ use Rattle.orders.specs.Orders.{bothSides, volumeBand, isPlace, names, b
 
 -- ---- the place
 
-both-and : (a b : Bool) → (a && true) || (b && false) ≡ a
-both-and true b = refl
-both-and false true = refl
-both-and false false = refl
+-- where the test of the bands alone is left, that of the volume alone, and none
+first-alone : (a b : Bool) → (a && true) || (b && false) ≡ a
+first-alone true b = refl
+first-alone false true = refl
+first-alone false false = refl
 
-and-both : (a b : Bool) → (a && false) || (b && true) ≡ b
-and-both true true = refl
-and-both true false = refl
-and-both false true = refl
-and-both false false = refl
+second-alone : (a b : Bool) → (a && false) || (b && true) ≡ b
+second-alone true true = refl
+second-alone true false = refl
+second-alone false true = refl
+second-alone false false = refl
 
-neither : (a b : Bool) → (a && false) || (b && false) ≡ false
-neither true true = refl
-neither true false = refl
-neither false true = refl
-neither false false = refl
+none-alone : (a b : Bool) → (a && false) || (b && false) ≡ false
+none-alone true true = refl
+none-alone true false = refl
+none-alone false true = refl
+none-alone false false = refl
 
 module _ (side band : ℕ) where
   -- "a side (0 left, 1 right, 2 both), a band (0 to 9"
   pub band-place : band < bandCount → isPlace side band ≡ leb side bothSides
   unfolding isPlace
-  band-place h = simp (lt-ltb band bandCount h, ne-eqb band volumeBand (λ e. omega arith)) (both-and (leb side bothSides) (eqb side bothSides))
+  band-place h = simp (lt-ltb band bandCount h, ne-eqb band volumeBand (λ e. omega arith)) (first-alone (leb side bothSides) (eqb side bothSides))
 
   -- "or 10 for the volume, with side 2 only)"
   pub volume-place : band ≡ volumeBand → isPlace side band ≡ eqb side bothSides
   unfolding isPlace
-  volume-place e = simp (le-ltb band bandCount (omega arith), eq-eqb band volumeBand e) (and-both (leb side bothSides) (eqb side bothSides))
+  volume-place e = simp (le-ltb band bandCount (omega arith), eq-eqb band volumeBand e) (second-alone (leb side bothSides) (eqb side bothSides))
 
   -- there is nothing past the volume
   pub no-place : volumeBand < band → isPlace side band ≡ false
   unfolding isPlace
-  no-place h = simp (le-ltb band bandCount (omega arith), ne-eqb band volumeBand (λ e. omega arith)) (neither (leb side bothSides) (eqb side bothSides))
+  no-place h = simp (le-ltb band bandCount (omega arith), ne-eqb band volumeBand (λ e. omega arith)) (none-alone (leb side bothSides) (eqb side bothSides))
 
   -- so a place that isn't the volume's is one of the ten bands
   pub place-below : isPlace side band ≡ true → (band ≡ volumeBand → ⊥) → band < bandCount
@@ -103,13 +104,14 @@ volume-word : (v : ℤ) → isVolume v ≡ true → isWord v ≡ true
 unfolding isVolume
 volume-word v e = bounds-within wordLow wordHigh v (omega (linear, within-bounds (pos 0) wordHigh v e .0)) (within-bounds (pos 0) wordHigh v e .1)
 
--- what an accepted order has shown
+-- what an accepted order has shown: its place, and its level
 pub place-accepted : (side band : ℕ) (setting : Setting) → isAccepted (orderArguments side band setting) ≡ true → isPlace side band ≡ true
 place-accepted side band setting e = unless-accepted (isPlace side band) NoPlace (levelVerdict band setting) (λ t. refl) e .0
 
 pub level-accepted : (side band : ℕ) (setting : Setting) → isAccepted (orderArguments side band setting) ≡ true → isAccepted (levelVerdict band setting) ≡ true
 level-accepted side band setting e = unless-accepted (isPlace side band) NoPlace (levelVerdict band setting) (λ t. refl) e .1
 
+-- what an accepted position and an accepted factor have shown
 position-accepted : (band p : ℕ) → isAccepted (levelVerdict band (Position p)) ≡ true → p ≤ 31
 unfolding levelVerdict
 position-accepted band p e = leb-true p 31 (unless-accepted (leb p 31) PositionOver Accepted (λ t. refl) e .0)
@@ -158,6 +160,7 @@ target-word side band setting e = go setting (level-accepted side band setting e
 
 -- ---- the unit after an order
 
+-- a word as the target keeps a section fit, its channel, and the unit
 module _ (band : ℕ) (target : ℤ) (word : isWord target ≡ true) where
   aimed-section-fit : (s : BandSection) → SectionFit s → SectionFit (aimedSection target s)
   aimed-section-fit s f = record { y1 = f .y1; y2 = f .y2; present = f .present; target = word }
@@ -179,6 +182,7 @@ module _ (band : ℕ) (target : ℤ) (word : isWord target ≡ true) where
         channels = changed-each ChannelFit (names side) (aimedChannel band target) (u .channels) aimed-channel-fit (f .channels);
       }
 
+-- a volume as the target keeps the unit fit
 aimed-volume-fit : (target : ℤ) → isVolume target ≡ true → (u : Unit) → Fit u → Fit (aimedVolume target u)
 aimed-volume-fit target e u f =
     record { volume = record { present = f .volume .present; target = e }; bands = f .bands; channels = f .channels }
@@ -195,14 +199,17 @@ aimed-fit u side band setting e f = go (eqb band volumeBand) refl
 -- ---- the answer
 
 module _ (u : Unit) (side band : ℕ) (setting : Setting) where
+  -- an unfit unit
   pub ordered-unfit : unitFits u ≡ false → ordered u side band setting ≡ record { verdict = Unfit; unit = u }
   unfolding ordered orderVerdict
   ordered-unfit e = simp e
 
+  -- refused arguments
   pub ordered-refused : unitFits u ≡ true → isAccepted (orderArguments side band setting) ≡ false → ordered u side band setting ≡ record { verdict = orderArguments side band setting; unit = u }
   unfolding ordered orderVerdict
   ordered-refused f e = simp (f, e)
 
+  -- an accepted order
   pub ordered-accepted : unitFits u ≡ true → isAccepted (orderArguments side band setting) ≡ true → ordered u side band setting ≡ record { verdict = orderArguments side band setting; unit = aimedUnit side band (targetOf band setting) u }
   unfolding ordered orderVerdict
   ordered-accepted f e = simp (f, e)
