@@ -13,7 +13,7 @@ isFinite nan = false
 isFinite (inf s) = false
 isFinite (fin s m e) = true
 
--- n, negative where s is true; minus zero is zero
+-- n, negative where s is true: "minus zero is zero"
 abbrev pub signed : Bool → ℕ → ℤ
 signed false n = pos n
 signed true n = negℤ (pos n)
