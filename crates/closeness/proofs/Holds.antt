@@ -9,7 +9,7 @@ use lib.ListN.{length, getD, replicate, length-replicate, getD-replicate}
 use Rattle.refusals.specs.Numbers.{isAccepted}
 use Rattle.bands.specs.declared.Band.{Band}
 use Rattle.unit.specs.declared.Channel.{Channel}
-use Rattle.unit.specs.Cleared.{clearedLevel, clearedSection, clearedChannel, clearedUnit, bandsOf}
+use Rattle.unit.specs.Cleared.{clearedLevel, clearedSection, clearedChannel, bandsOf}
 use Rattle.unit.proofs.Fitness.{cleared-fit}
 use Rattle.loading.specs.Loading.{setVerdict}
 use Rattle.loading.proofs.Laws.{accepted-set}
@@ -41,7 +41,7 @@ module _ (channels channel : ℕ) (inside : channel < channels) (set : List ℤ)
         near = λ h. silent-near (bandsOf set);
       }
 
-  begun-tied : TiedUnit channels channel inside (bandsOf set) 0 false (clearedUnit channels (bandsOf set)) silent
+  begun-tied : TiedUnit channels channel inside (bandsOf set) 0 false (begun channels set) silent
   begun-tied =
       record {
         fit = cleared-fit channels (bandsOf set) (accepted-set set accepted .bands);
@@ -56,7 +56,7 @@ module _ (channels channel : ℕ) (inside : channel < channels) (set : List ℤ)
 
   module _ (calls : List Call) where
     all-follow : Follows (bandsOf set) 0 false (allSamples channels channel set calls) (allLimits channels channel set calls) (allExacts channels channel set calls)
-    all-follow = list-follows channels channel inside (bandsOf set) calls 0 false (begun channels channel set calls) silent begun-tied
+    all-follow = list-follows channels channel inside (bandsOf set) calls 0 false (begun channels set) silent begun-tied
 
     close-at : (i : ℕ) → CloseAt channels channel set calls i
     close-at i h q =
@@ -68,7 +68,7 @@ module _ (channels channel : ℕ) (inside : channel < channels) (set : List ℤ)
         record {
           exact-frames = lengths .0;
           limits-frames = lengths .1;
-          flag-agrees = list-flag channels channel inside (bandsOf set) calls 0 false (begun channels channel set calls) silent begun-tied;
+          flag-agrees = list-flag channels channel inside (bandsOf set) calls 0 false (begun channels set) silent begun-tied;
         }
       where
         lengths : (length (allExacts channels channel set calls) ≡ length (allSamples channels channel set calls)) × (length (allLimits channels channel set calls) ≡ length (allSamples channels channel set calls))

@@ -91,7 +91,7 @@ module _ (channels channel : ℕ) where
 -- ---- "The exact sound has a reckoning of its own. It is fed the band set and each call of the list with its arguments, and takes nothing
 -- from the unit."
 
--- "a fraction over powers of two, so whole numbers state them": after n frames all fractions stand over (2^22)^n
+-- "All are fractions over powers of two, so whole numbers state them": after n frames they stand over (2^22)^n
 abbrev pub divisor : ℕ
 divisor = 2 ^ sumShift
 
@@ -237,17 +237,18 @@ bound bands n e =
 pub record Close (bands : List Band) (n : ℕ) (s : ℤ) (e : Exact) : Type 0 where
   pub distance : 2 * natAbs (pos (outputScale e) *ℤ s -ℤ exactOutput e) ≤ bound bands n e
 
--- a list begun "with a cleared unit with an accepted band set", and one of its channels
-module _ (channels channel : ℕ) (set : List ℤ) (calls : List Call) where
-  abbrev pub begun : Unit
-  begun = clearedUnit channels (bandsOf set)
+-- "It begins with a cleared unit with an accepted band set": as `loading::load` hands it back
+abbrev pub begun : ℕ → List ℤ → Unit
+begun channels set = clearedUnit channels (bandsOf set)
 
+-- a list begun so, and one of its channels
+module _ (channels channel : ℕ) (set : List ℤ) (calls : List Call) where
   -- all frames of the list: the samples, whether a section limits, and the exact reckoning
   abbrev pub allSamples : List ℤ
-  allSamples = samples channels channel begun calls
+  allSamples = samples channels channel (begun channels set) calls
 
   abbrev pub allLimits : List Bool
-  allLimits = limits channels channel begun calls
+  allLimits = limits channels channel (begun channels set) calls
 
   abbrev pub allExacts : List Exact
   allExacts = exacts channels channel (bandsOf set) silent calls
@@ -262,7 +263,7 @@ module _ (channels channel : ℕ) (set : List ℤ) (calls : List Call) where
   pub record Agreeing : Type 0 where
     pub exact-frames : length allExacts ≡ length allSamples
     pub limits-frames : length allLimits ≡ length allSamples
-    pub flag-agrees : channelOf channels channel (handedBack channels begun calls) .flag ≡ pos (flag (anyOf allLimits))
+    pub flag-agrees : channelOf channels channel (handedBack channels (begun channels set) calls) .flag ≡ pos (flag (anyOf allLimits))
 
 -- "For every such list, whatever the orders ask and the blocks hold, and for every frame n and each side"
 pub record Demand3 : Type 0 where
