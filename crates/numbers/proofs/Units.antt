@@ -4,8 +4,8 @@ use mathlib.Core.List.{List, [], _∷_, _++_, append-nil}
 use Prim.Native.Nat.{ℕ, zero, suc, _+_, _*_, _≤_, _<_}
 use native.Mathlib.Omega.{arith}
 use lib.IntN.{ℤ, pos}
-use lib.ListN.{length, getD, take, drop, length-append}
-use lib.Seq.{take-suc, take-all, drop-at, drop-drop}
+use lib.ListN.{length, getD, drop, length-append}
+use lib.Seq.{drop-at, drop-drop}
 use Rattle.bands.specs.Bands.{bandAt}
 use Rattle.bands.specs.declared.Band.{Band}
 use Rattle.unit.specs.declared.BandSection.{BandSection}
@@ -13,7 +13,8 @@ use Rattle.unit.specs.declared.Channel.{Channel}
 use Rattle.unit.specs.declared.Unit.{Unit}
 use Rattle.unit.specs.Lists.{tabulate, Each}
 use Rattle.unit.specs.Cleared.{bandCount, bandsOf, clearedSection}
-use Rattle.unit.proofs.Tabulate.{tabulate-cong}
+use Rattle.unit.proofs.Tabulate.{tabulate-cong, tabulate-all}
+use Rattle.unit.proofs.PastEnd.{zeroBand}
 use Rattle.engine.specs.Numbers.{channelSize, place, sectionAt, channelOf}
 use Rattle.numbers.specs.Layout.{unitSize, joined, bandNumbers, sectionNumbers, channelNumbers, numbersOf, unitOf, Shaped}
 
@@ -51,17 +52,9 @@ numbers-length u s =
 
 -- ---- the entries that the numbers stand for
 
--- a list by its entries
-listed : {A : Type 0} (l : List A) (d : A) (n : ℕ) → n ≤ length l → tabulate n (λ k. getD l k d) ≡ take n l
-listed l d zero h = refl
-listed l d (suc n) h = ap (λ m. m ++ (getD l n d ∷ [])) (listed l d n (omega arith)) ∙ sym (take-suc l n d (omega arith))
-
 -- entry k of every list of n entries
 all-of : {A : Type 0} (l : List A) (d : A) (n : ℕ) (f : ℕ → A) → length l ≡ n → ((k : ℕ) → k < n → f k ≡ getD l k d) → tabulate n f ≡ l
-all-of l d n f e h = tabulate-cong n h ∙ listed l d n (omega arith) ∙ take-all n l (omega arith)
-
-abbrev zeroBand : Band
-zeroBand = record { alpha = pos 0; beta = pos 0; gamma = pos 0 }
+all-of l d n f e h = tabulate-cong n h ∙ tabulate-all l d n e
 
 -- ---- a band
 

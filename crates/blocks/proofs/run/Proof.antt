@@ -3,13 +3,14 @@ use mathlib.Core.Path.{_≡_, sym, ap, _∙_, subst}
 use mathlib.Core.List.{List, [], _∷_, _++_}
 use Prim.Native.Nat.{ℕ, _*_, _/_}
 use native.Mathlib.Omega.{arith}
-use lib.IntN.{ℤ, pos}
+use lib.IntN.{ℤ}
 use lib.ListN.{length, drop}
 use denote.Ref.{now}
 use Rattle.unit.specs.declared.Channel.{Channel}
 use Rattle.unit.specs.declared.Unit.{Unit}
 use Rattle.unit.specs.Fit.{Fit}
 use Rattle.unit.proofs.Tabulate.{tabulate-all}
+use Rattle.unit.proofs.PastEnd.{zeroChannel}
 use Rattle.blocks.specs.Block.{played, sound}
 use Rattle.blocks.specs.Run.{unitWith, unitOf}
 use Rattle.blocks.proofs.Block.{Accepts, block-accepted, four-a-frame}
@@ -22,10 +23,6 @@ use Rattle.blocks.proofs.frames.Reads as frames-reads
 use Rattle.packing.proofs.band_numbers.Reads as band-numbers-reads
 use Rattle.packing.proofs.channel_numbers.Reads as channel-numbers-reads
 use Rattle.packing.proofs.channel_of.Reads as channel-of-reads
-
--- what stands for a channel past the end
-abbrev zeroChannel : Channel
-zeroChannel = record { x1 = pos 0; x2 = pos 0; flag = pos 0; sections = [] }
 
 module _ (c : lts.After-channel-numbers2 (band-numbers-reads.Asked, band-numbers-reads.Learnt, channel-numbers-reads.Asked, channel-numbers-reads.Learnt, frames-reads.Asked, frames-reads.Learnt, channel-of-reads.Asked, channel-of-reads.Learnt) reads.Pre reads.Post) where
   abbrev s : lts.Start (band-numbers-reads.Asked, band-numbers-reads.Learnt, channel-numbers-reads.Asked, channel-numbers-reads.Learnt, frames-reads.Asked, frames-reads.Learnt, channel-of-reads.Asked, channel-of-reads.Learnt) reads.Pre reads.Post

@@ -2,7 +2,6 @@
 use mathlib.Core.Path.{_≡_, refl, sym, ap, _∙_}
 use mathlib.Core.List.{List}
 use Prim.Native.Nat.{ℕ, _+_, _-_, _≤_}
-use lib.IntN.{pos}
 use lib.ListN.{getD, drop}
 use native.Mathlib.Omega.{arith}
 use borrow.Author.Needs.{needs}
@@ -18,6 +17,7 @@ use Rattle.fitness.proofs.bands_fit.Reads as reads
 use Rattle.fitness.proofs.bands_fit.Lts as lts
 use Rattle.bands.proofs.check_band.Reads as check-band-reads
 use Rattle.refusals.proofs.accepted.Reads as accepted-reads
+use Rattle.unit.proofs.PastEnd.{zeroBand}
 
 abbrev Inv-loop : tie.InvT-loop
 Inv-loop bands i₀ i = (i ≤ 10) × (every bandFits bands ≡ every bandFits (drop i bands))
@@ -39,10 +39,6 @@ check-band-requires c κs = search needs
 
 accepted-requires : tie.Need-accepted-requires Inv-loop μ-loop
 accepted-requires c κs = search needs
-
--- what stands for a band past the end
-abbrev zeroBand : Band
-zeroBand = record { alpha = pos 0; beta = pos 0; gamma = pos 0 }
 
 -- the turn's test is that of the band at i
 module _ (c : lts.After-accepted (check-band-reads.Asked, check-band-reads.Learnt, accepted-reads.Asked, accepted-reads.Learnt) reads.Pre reads.Post Inv-loop μ-loop) where

@@ -1,8 +1,7 @@
 -- `fitness::channels_fit` meets its contract. The loop's invariant: the test of every entry is that of the entries from i on.
 use mathlib.Core.Path.{_≡_, refl, sym, _∙_}
-use mathlib.Core.List.{List, []}
+use mathlib.Core.List.{List}
 use Prim.Native.Nat.{ℕ, _+_, _-_, _≤_}
-use lib.IntN.{pos}
 use lib.ListN.{getD, drop}
 use native.Mathlib.Omega.{arith}
 use borrow.Author.Needs.{needs}
@@ -11,6 +10,7 @@ use Rattle.unit.specs.declared.Channel.{Channel}
 use Rattle.unit.specs.Lists.{every}
 use Rattle.unit.specs.Fit.{channelFits}
 use Rattle.unit.proofs.Lists.{every-fails, every-passes, every-done}
+use Rattle.unit.proofs.PastEnd.{zeroChannel}
 use Rattle.fitness.proofs.channels_fit.Statement.{statement}
 use Rattle.fitness.proofs.channels_fit.Tie as tie
 use Rattle.fitness.proofs.channels_fit.Reads as reads
@@ -34,10 +34,6 @@ array-copy-out-channel c = search needs
 
 channel-fits-requires : tie.Need-channel-fits-requires Inv-loop μ-loop
 channel-fits-requires c κs = search needs
-
--- what stands for a channel past the end
-abbrev zeroChannel : Channel
-zeroChannel = record { x1 = pos 0; x2 = pos 0; flag = pos 0; sections = [] }
 
 -- the turn's test is that of the channel at i
 module _ (c : lts.After-channel-fits (channel-fits-reads.Asked, channel-fits-reads.Learnt) reads.Pre reads.Post Inv-loop μ-loop) where

@@ -3,18 +3,13 @@ use Prim.Native.Nat.{_+_, _*_, _-_, _≤_}
 use native.Mathlib.Omega.{arith}
 use lib.ListN.{take}
 use denote.Ref.{now}
-use lib.IntN.{pos}
-use Rattle.bands.specs.declared.Band.{Band}
 use borrow.Author.Needs.{needs}
 use Rattle.unit.specs.Cleared.{bandCount}
+use Rattle.unit.proofs.PastEnd.{zeroBand}
 use Rattle.numbers.specs.Layout.{bandsPlace, leftPlace, joined, bandNumbers, Put}
 use Rattle.numbers.proofs.Put.{put-none, put-entry, put-entries}
 use Rattle.numbers.proofs.put_bands.Statement.{statement}
 use Rattle.numbers.proofs.put_bands.Tie as tie
-
--- what stands for a band past the end
-abbrev zeroBand : Band
-zeroBand = record { alpha = pos 0; beta = pos 0; gamma = pos 0 }
 
 abbrev Inv-loop : tie.InvT-loop
 Inv-loop out₀ bands b₀ out b = (b ≤ bandCount) × Put out₀ bandsPlace (joined bandNumbers (take b bands)) (3 * b + 2) out

@@ -1,21 +1,17 @@
 -- `numbers::put_channels` meets its contract: the right channel is stored behind the left.
 use mathlib.Core.Path.{sym, subst}
-use mathlib.Core.List.{List, []}
+use mathlib.Core.List.{List}
 use native.Mathlib.Omega.{arith}
 use lib.Dec.{lit≤}
-use lib.IntN.{ℤ, pos}
+use lib.IntN.{ℤ}
 use denote.Ref.{now}
-use Rattle.unit.specs.declared.Channel.{Channel}
 use Rattle.unit.specs.Fit.{ChannelFit}
+use Rattle.unit.proofs.PastEnd.{zeroChannel}
 use Rattle.numbers.specs.Layout.{unitSize, leftPlace, channelNumbers, Put}
 use Rattle.numbers.proofs.Put.{put-then, each-getD, joined-two}
 use borrow.Author.Needs.{needs}
 use Rattle.numbers.proofs.put_channels.Statement.{statement}
 use Rattle.numbers.proofs.put_channels.Tie as tie
-
--- what stands for a channel past the end
-abbrev zeroChannel : Channel
-zeroChannel = record { x1 = pos 0; x2 = pos 0; flag = pos 0; sections = [] }
 
 array-copy-out-left : tie.Need-array-copy-out-left
 array-copy-out-left c = search needs

@@ -2,13 +2,13 @@
 use mathlib.Core.Path.{ap, _∙_}
 use mathlib.Core.List.{[], _∷_}
 use native.Mathlib.Omega.{arith}
-use lib.IntN.{ℤ, pos}
+use lib.IntN.{ℤ}
 use mir.Syntax.{w64}
 use mir.Val.{toZ, ofZ}
 use mir.Facts.{toZ-ofZ}
 use Rattle.unit.specs.Lists.{changed}
-use Rattle.unit.specs.declared.Channel.{Channel}
 use Rattle.unit.proofs.Tabulate.{tabulate-all}
+use Rattle.unit.proofs.PastEnd.{zeroChannel}
 use Rattle.orders.specs.Orders.{names, aimedChannel}
 use borrow.Author.Needs.{needs}
 use Rattle.orders.proofs.aim_channels.Statement.{statement}
@@ -16,10 +16,6 @@ use Rattle.orders.proofs.aim_channels.Tie as tie
 use Rattle.orders.proofs.aim_channels.Reads as reads
 use Rattle.orders.proofs.aim_channels.Lts as lts
 use Rattle.orders.proofs.aim_named.Reads as aim-named-reads
-
--- what stands for a channel past the end
-abbrev zeroChannel : Channel
-zeroChannel = record { x1 = pos 0; x2 = pos 0; flag = pos 0; sections = [] }
 
 array-copy-out-first : tie.Need-array-copy-out-first
 array-copy-out-first c = search needs
