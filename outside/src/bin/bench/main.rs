@@ -1,5 +1,5 @@
-//! Times the library's section step, rounding and blocks over the C ABI against
-//! plain Rust of the same shape: same input, same loop, taken in turns. The
+//! Times the library's section step, rounding, level orders and blocks over the
+//! C ABI against plain Rust of the same shape: same input, same loop, taken in turns. The
 //! results must be equal. Exit status 0 only if a block of the library takes at
 //! most a tenth longer than one of the Rust form; no other time is asserted.
 
@@ -9,9 +9,11 @@ use std::hint::black_box;
 use std::process::ExitCode;
 use std::time::Instant;
 
-use outside::ffi::raw;
+use outside::ffi::{self, raw};
 use outside::random::Random;
 use outside::reference::{fast, house_set, Section};
+use outside::unit::orders::{self, Order};
+use outside::unit::{cleared, Numbers};
 
 const SEED: u64 = 0xF0DD_00BE;
 const COUNT: usize = 2_000_000;
@@ -21,6 +23,7 @@ const MOST: f64 = 1.10;
 
 type StepFn = unsafe extern "C" fn(*mut Section, i32) -> i64;
 type NearestFn = unsafe extern "C" fn(i64, u32) -> i64;
+type OrderFn = fn(&mut Numbers, &Order) -> u32;
 
 #[inline(never)]
 unsafe extern "C" fn rust_step(section: *mut Section, x: i32) -> i64 {
@@ -67,6 +70,20 @@ fn run_nearest(nearest: NearestFn, numbers: &[(i64, u32)]) -> (f64, u64) {
     (nanoseconds / numbers.len() as f64, black_box(checksum))
 }
 
+/// All orders to one unit: nanoseconds an order, and the checksum.
+#[inline(never)]
+fn run_orders(order: OrderFn, orders: &[Order]) -> (f64, u64) {
+    let mut unit = cleared(&house_set());
+    let mut checksum = 0;
+    let begun = Instant::now();
+    for given in orders {
+        checksum = fold(checksum, order(&mut unit, given).into());
+    }
+    let nanoseconds = begun.elapsed().as_nanos() as f64;
+    let checksum = unit.iter().fold(checksum, |sum, &n| fold(sum, n.into()));
+    (nanoseconds / orders.len() as f64, black_box(checksum))
+}
+
 /// Both in turns, the best of each, and their ratio.
 fn race<F: Copy>(name: &str, library: F, rust: F, run: impl Fn(F) -> (f64, u64)) {
     let (mut best_library, mut best_rust) = (f64::MAX, f64::MAX);
@@ -88,6 +105,7 @@ fn main() -> ExitCode {
     let mut random = Random::new(SEED);
     time_steps(&mut random);
     time_nearest(&mut random);
+    time_orders(&mut random);
     if blocks::within(MOST) {
         ExitCode::SUCCESS
     } else {
@@ -132,5 +150,31 @@ fn time_nearest(random: &mut Random) {
             rust_nearest,
             |nearest| run_nearest(nearest, &numbers),
         );
+    }
+}
+
+/// Orders for every side and band, a few of them refused. A unit is read from
+/// its numbers and tested for each.
+fn time_orders(random: &mut Random) {
+    const ORDERS: usize = COUNT / 20;
+    let mut place = || (random.below(3) as u32, random.below(10) as u32);
+    let places: Vec<(u32, u32)> = (0..ORDERS).map(|_| place()).collect();
+    let mut given = |make: &dyn Fn(u32, u32, u64) -> Order| -> Vec<Order> {
+        let drawn = places
+            .iter()
+            .map(|&(side, band)| (side, band, random.draw()));
+        drawn
+            .map(|(side, band, draw)| make(side, band, draw))
+            .collect()
+    };
+    let positions = given(&|side, band, draw| Order::position(side, band, (draw % 33) as u8));
+    let factors = given(&|side, band, draw| {
+        let factor = (draw % 4_096) as f32 / 2_000.0 - 1.024;
+        Order::factor(side, band, factor)
+    });
+    for (name, orders) in [("order, position", positions), ("order, factor", factors)] {
+        race(name, ffi::order as OrderFn, orders::fast::order, |order| {
+            run_orders(order, &orders)
+        });
     }
 }
