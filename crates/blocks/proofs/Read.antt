@@ -89,6 +89,7 @@ module _ (s : ℤ) (low : sampleLow ≤ℤ s) (high : s ≤ℤ sampleHigh) where
 abbrev SampleRange : ℤ → Type 0
 SampleRange s = (sampleLow ≤ℤ s) × (s ≤ℤ sampleHigh)
 
+-- so is every sample of a frame
 read-of : (ss : List ℤ) (c : ℕ) (d : ℤ) → Each SampleRange ss → c < length ss → sampleAt (bytesOf ss) (2 * c) ≡ getD ss c d
 unfolding sampleAt
 read-of [] c d r h = absurd (omega arith)
@@ -101,10 +102,12 @@ read-of (s ∷ ss) (suc c) d r h =
     place : 2 * suc c ≡ 2 + 2 * c
     place = omega arith
 
+-- an output is a sample
 output-range : (v m : ℤ) → SampleRange (output v m)
 unfolding output
 output-range v m = (limit-low sampleLow sampleHigh (leZ-yes tt) _, limit-high sampleLow sampleHigh (leZ-yes tt) _)
 
+-- and so is all that is heard
 heard-range : (v : ℤ) (cs : List Channel) → Each SampleRange (map (λ (c : Channel). output v (mix c)) cs)
 heard-range v [] = tt
 heard-range v (c ∷ cs) = (output-range v (mix c), heard-range v cs)

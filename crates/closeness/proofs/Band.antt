@@ -28,6 +28,7 @@ module _ (band : Band) where
   abbrev plus : Results → ℤ → Results → Results
   plus a c p = record { y1 = a .y1 +ℤ c *ℤ p .y1; y2 = a .y2 +ℤ c *ℤ p .y2 }
 
+  -- a step is linear
   quiet-linear : (a p : Results) (c : ℤ) → quiet (plus a c p) ≡ plus (quiet a) c (quiet p)
   quiet-linear a p c i = record { y1 = first i; y2 = second i }
     where
@@ -54,10 +55,12 @@ module _ (band : Band) where
   abbrev pulse : Results
   pulse = record { y1 = pos 1; y2 = pos 0 }
 
+  -- y1 of a step is worked from those of the two before, as h is
   later-twice : (k : ℕ) (d : Results) → later (suc (suc k)) d ≡ band .gamma *ℤ later (suc k) d -ℤ band .beta *ℤ rescaled (later k d)
   later-twice zero d = refl
   later-twice (suc k) d = later-twice k (quiet d)
 
+  -- so y1 of it is h, on its scale
   pulse-later : (k : ℕ) → later k pulse ≡ response band k
   pulse-later zero = refl
   pulse-later (suc zero) = solve (band .gamma ∷ band .beta ∷ []) (at 0 :* con (pos 1) :- at 1 :* con (pos 0)) (at 0) refl
@@ -96,6 +99,7 @@ module _ (band : Band) where
   Near n y1 y2 r = Bounded (scaledSize divisor) sizes later n (error n y1 y2 r)
 
   -- cleared, there is no error
+  -- silence stays
   quiet-silence : quiet silentResults ≡ silentResults
   quiet-silence i = record { y1 = first i; y2 = pos 0 }
     where
@@ -114,6 +118,7 @@ module _ (band : Band) where
     abbrev input : ℤ
     input = pos (scaleAt n) *ℤ (pos divisor *ℤ y -ℤ exactSum band x x2 y1 y2)
 
+    -- the error after a step is a quiet step of the error, with that put in
     error-step : error (suc n) y y1 (exactResults band (pos (scaleAt n) *ℤ x) (pos (scaleAt n) *ℤ x2) r) ≡ record { y1 = quiet (error n y1 y2 r) .y1 +ℤ input; y2 = quiet (error n y1 y2 r) .y2 }
     unfolding exactSum
     error-step i = record { y1 = first i; y2 = second i }

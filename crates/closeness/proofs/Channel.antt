@@ -35,6 +35,7 @@ NearAll n (band ∷ bands) [] rs = ⊥
 NearAll n (band ∷ bands) (s ∷ ss) [] = ⊥
 NearAll n (band ∷ bands) (s ∷ ss) (r ∷ rs) = Near band n (s .y1) (s .y2) r × NearAll n bands ss rs
 
+-- two tests of which neither passed
 neither : (a b : Bool) → a || b ≡ false → (a ≡ false) × (b ≡ false)
 neither true b e = absurd (subst T e tt)
 neither false b e = (refl, e)
@@ -89,6 +90,7 @@ sum-near n (band ∷ bands) (s ∷ ss) (r ∷ rs) near =
 
 -- ---- a frame's gains
 
+-- they have moved
 frame-gains : (x x2 : ℤ) (bands : List Band) (ss : List BandSection) → length ss ≡ length bands → map (moved gainSlope) (map gainOf ss) ≡ map gainOf (sectionsFrame bands x x2 ss)
 unfolding sectionFrame
 frame-gains x x2 [] [] h = refl
@@ -96,6 +98,7 @@ frame-gains x x2 [] (s ∷ ss) h = absurd (omega arith)
 frame-gains x x2 (band ∷ bands) [] h = refl
 frame-gains x x2 (band ∷ bands) (s ∷ ss) h = ap (λ (gs : List Level). moved gainSlope (s .gain) ∷ gs) (frame-gains x x2 bands ss (omega arith))
 
+-- and there are as many sections
 frame-length : (x x2 : ℤ) (bands : List Band) (ss : List BandSection) → length ss ≡ length bands → length (sectionsFrame bands x x2 ss) ≡ length bands
 frame-length x x2 [] ss h = refl
 frame-length x x2 (band ∷ bands) [] h = absurd (omega arith)

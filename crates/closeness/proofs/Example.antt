@@ -35,14 +35,15 @@ pub exact-hold : (exactOutput second ≡ secondOutput) × (bound (bandsOf houseS
 unfolding houseSet targetOf levelVerdict isPlace names bandPosition volumePosition factorTarget inUnits inRange sampleAt signed exactFrame exactMixed exactOutput exactPlayed exactSum nearest goesUp odd rest floor limit ramp
 exact-hold = (refl, refl)
 
-house-accepted : isAccepted (setVerdict houseSet) ≡ true
+-- the house set is accepted
+house-set-accepted : isAccepted (setVerdict houseSet) ≡ true
 unfolding setVerdict houseSet bandVerdict alphaAccepted betaAccepted gammaAccepted within
-house-accepted = refl
+house-set-accepted = refl
 
 -- the claim speaks of frame 2 on the left
 pub second-close : Close (bandsOf houseSet) 2 (negℤ (pos 3)) second
 second-close =
     subst (λ (s : ℤ). Close (bandsOf houseSet) 2 s second) (ap (λ (l : List ℤ). getD l 1 (pos 0)) (heard-hold .0))
-    (demand3 .close 2 0 houseSet exampleCalls (lit≤ tt) house-accepted 1
+    (demand3 .close 2 0 houseSet exampleCalls (lit≤ tt) house-set-accepted 1
     (subst (λ (l : List ℤ). 1 < length l) (sym (heard-hold .0)) (lit≤ tt))
     (ap (λ (l : List Bool). anyOf (take 2 l)) (heard-hold .1)))

@@ -1,5 +1,5 @@
 -- Demand 3 holds.
-use mathlib.Core.Path.{_≡_, refl, sym, subst}
+use mathlib.Core.Path.{_≡_, refl, sym, ap, subst}
 use mathlib.Core.Bool.{true, false}
 use mathlib.Core.List.{List, [], _∷_}
 use Prim.Native.Nat.{ℕ, suc, _<_}
@@ -9,15 +9,17 @@ use lib.ListN.{length, getD, replicate, length-replicate, getD-replicate}
 use Rattle.refusals.specs.Numbers.{isAccepted}
 use Rattle.bands.specs.declared.Band.{Band}
 use Rattle.unit.specs.declared.Channel.{Channel}
+use Rattle.unit.specs.Lists.{anyOf}
 use Rattle.unit.specs.Cleared.{clearedLevel, clearedSection, clearedChannel, bandsOf}
 use Rattle.unit.proofs.Fitness.{cleared-fit}
 use Rattle.loading.specs.Loading.{setVerdict}
-use Rattle.loading.proofs.Laws.{accepted-set}
-use Rattle.closeness.specs.Claim.{Call, silentResults, silent, Close, begun, allSamples, allLimits, allExacts, CloseAt, Agreeing, Demand3}
+use Rattle.loading.specs.declared.Loaded.{Loaded}
+use Rattle.loading.proofs.Laws.{accepted-set, loaded-accepted}
+use Rattle.closeness.specs.Claim.{Call, silentResults, silent, Close, begun, allSamples, allLimits, allExacts, CloseAt, ended, Agreeing, Demand3}
 use Rattle.closeness.proofs.Band.{near-start}
 use Rattle.closeness.proofs.Channel.{NearAll, Tied}
 use Rattle.closeness.proofs.Follows.{Follows, follows-at, follows-length}
-use Rattle.closeness.proofs.Run.{TiedUnit, list-follows, list-flag}
+use Rattle.closeness.proofs.Run.{TiedUnit, Ended, list-follows, list-ended}
 
 -- ---- where a list begins
 
@@ -68,16 +70,22 @@ module _ (channels channel : ℕ) (inside : channel < channels) (set : List ℤ)
         record {
           exact-frames = lengths .0;
           limits-frames = lengths .1;
-          flag-agrees = list-flag channels channel inside (bandsOf set) calls 0 false (begun channels set) silent begun-tied;
+          flag-agrees = after .flag-agrees;
+          stays-fit = after .stays-fit;
         }
       where
+        after : Ended channels channel inside (bandsOf set) (anyOf (allLimits channels channel set calls)) (ended channels channel set calls)
+        after = list-ended channels channel inside (bandsOf set) calls 0 false (begun channels set) silent begun-tied
+
         lengths : (length (allExacts channels channel set calls) ≡ length (allSamples channels channel set calls)) × (length (allLimits channels channel set calls) ≡ length (allSamples channels channel set calls))
         lengths =
             follows-length (bandsOf set) 0 false (allSamples channels channel set calls) (allLimits channels channel set calls) (allExacts channels channel set calls) all-follow
 
+-- demand 3
 pub demand3 : Demand3
 demand3 =
     record {
       close = λ channels channel set calls inside accepted. close-at channels channel inside set accepted calls;
+      begins = λ set accepted. ap (λ (l : Loaded). l .unit) (loaded-accepted set accepted);
       agreeing = λ channels channel set calls inside accepted. agreeing channels channel inside set accepted calls;
     }

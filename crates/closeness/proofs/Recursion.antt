@@ -38,6 +38,7 @@ module _ (D : ℕ) (r : ℕ → ℕ) where
   scaledSum zero = 0
   scaledSum (suc n) = D * (scaledSum n + r n)
 
+  -- one step more: on the next scale, and one entry of the response more
   weight-grows : (n k : ℕ) → weight (scaledSize D) r (suc n) k ≡ D * (weight (scaledSize D) r n k + r (n + k))
   weight-grows zero k = ap₂ (λ (p i : ℕ). 0 + D * p * r i) (pow-zero D) (sym (zero-add k)) ∙ first (r (0 + k))
     where

@@ -20,7 +20,7 @@ use Rattle.unit.specs.Cleared.{clearedChannel}
 use Rattle.unit.specs.Frame.{anyLimits, channelFrame, unitFrame}
 use Rattle.unit.specs.Fit.{Fit}
 use Rattle.unit.proofs.Fitness.{test-of-fit}
-use Rattle.unit.proofs.Tabulate.{or-assoc, or-false, any-snoc, tabulate-length}
+use Rattle.unit.proofs.Tabulate.{or-assoc, or-false, any-append, any-snoc, tabulate-length}
 use Rattle.unit.proofs.Changed.{changed-length, changed-at}
 use Rattle.orders.specs.declared.Setting.{Setting}
 use Rattle.orders.specs.Orders.{volumeBand, names, targetOf, orderArguments, aimedSection, aimedChannel, aimedVolume, aimedBand, aimedUnit, ordered}
@@ -33,10 +33,6 @@ use Rattle.closeness.specs.Claim.{Call, order, block, placeOf, unitAfter
 use Rattle.closeness.proofs.Band.{Near}
 use Rattle.closeness.proofs.Channel.{gainOf, NearAll, Tied, frame-tied, tied-close}
 use Rattle.closeness.proofs.Follows.{Follows, follows-append}
-
-any-append : (a b : List Bool) → anyOf (a ++ b) ≡ anyOf a || anyOf b
-any-append [] b = refl
-any-append (t ∷ a) b = ap (λ (r : Bool). t || r) (any-append a b) ∙ or-assoc t (anyOf a) (anyOf b)
 
 module _ (channels channel : ℕ) (inside : channel < channels) (bands : List Band) where
   -- the unit after n frames, and the exact reckoning of its channel
@@ -271,9 +267,19 @@ module _ (channels channel : ℕ) (inside : channel < channels) (bands : List Ba
       (call-follows n limited u e t call)
       (list-follows calls (n + length (limitsOf channels channel u call)) (limited || anyOf (limitsOf channels channel u call)) (unitAfter channels u call) (exactAfter channels channel bands e call) (call-tied n limited u e t call))
 
-  -- the flag says whether a section has limited
-  pub list-flag : (calls : List Call) (n : ℕ) (limited : Bool) (u : Unit) (e : Exact) → TiedUnit n limited u e → channelOf channels channel (handedBack channels u calls) .flag ≡ pos (flag (limited || anyOf (limits channels channel u calls)))
-  list-flag [] n limited u e t = t .tied .flags ∙ ap (λ (b : Bool). pos (flag b)) (sym (or-false limited))
-  list-flag (call ∷ calls) n limited u e t =
-      list-flag calls (n + length (limitsOf channels channel u call)) (limited || anyOf (limitsOf channels channel u call)) (unitAfter channels u call) (exactAfter channels channel bands e call) (call-tied n limited u e t call)
-      ∙ ap (λ (b : Bool). pos (flag b)) (sym (or-assoc limited (anyOf (limitsOf channels channel u call)) (anyOf (limits channels channel (unitAfter channels u call) calls))) ∙ ap (λ (b : Bool). limited || b) (sym (any-append (limitsOf channels channel u call) (limits channels channel (unitAfter channels u call) calls))))
+  -- the unit after it: its flag says whether a section has limited, and it is fit
+  pub record Ended (limited : Bool) (u : Unit) : Type 0 where
+    pub flag-agrees : channelOf channels channel u .flag ≡ pos (flag limited)
+    pub stays-fit : Fit u
+
+  pub list-ended : (calls : List Call) (n : ℕ) (limited : Bool) (u : Unit) (e : Exact) → TiedUnit n limited u e → Ended (limited || anyOf (limits channels channel u calls)) (handedBack channels u calls)
+  list-ended [] n limited u e t =
+      record { flag-agrees = t .tied .flags ∙ ap (λ (b : Bool). pos (flag b)) (sym (or-false limited)); stays-fit = t .fit }
+  list-ended (call ∷ calls) n limited u e t =
+      subst (λ (b : Bool). Ended b (handedBack channels (unitAfter channels u call) calls)) joined
+      (list-ended calls (n + length (limitsOf channels channel u call)) (limited || anyOf (limitsOf channels channel u call)) (unitAfter channels u call) (exactAfter channels channel bands e call) (call-tied n limited u e t call))
+    where
+      joined : (limited || anyOf (limitsOf channels channel u call)) || anyOf (limits channels channel (unitAfter channels u call) calls) ≡ limited || anyOf (limits channels channel u (call ∷ calls))
+      joined =
+          sym (or-assoc limited (anyOf (limitsOf channels channel u call)) (anyOf (limits channels channel (unitAfter channels u call) calls)))
+          ∙ ap (λ (b : Bool). limited || b) (sym (any-append (limitsOf channels channel u call) (limits channels channel (unitAfter channels u call) calls)))

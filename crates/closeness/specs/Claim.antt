@@ -26,7 +26,8 @@ use Rattle.unit.specs.declared.Unit.{Unit}
 use Rattle.unit.specs.Lists.{tabulate, changed, anyOf}
 use Rattle.unit.specs.Cleared.{bandCount, clearedLevel, clearedChannel, clearedUnit, bandsOf}
 use Rattle.unit.specs.Frame.{anyLimits, sampleLow, sampleHigh}
-use Rattle.loading.specs.Loading.{setVerdict}
+use Rattle.unit.specs.Fit.{Fit}
+use Rattle.loading.specs.Loading.{channelCount, setVerdict, loaded}
 use Rattle.orders.specs.declared.Setting.{Setting}
 use Rattle.orders.specs.Orders.{volumeBand, names, targetOf, orderArguments, ordered}
 use Rattle.blocks.specs.Bytes.{sampleAt, wordAt, frameSize, frameCount}
@@ -52,7 +53,8 @@ module _ (channels : ℕ) where
   handedBack u [] = u
   handedBack u (call ∷ calls) = handedBack (unitAfter u call) calls
 
-  -- "Frames are numbered from 1 over the accepted blocks": a frame of a call, read for each frame of an accepted block
+  -- "Frames are numbered from 1 over the accepted blocks": what `read` gives for each frame of an accepted block; orders and refused
+  -- blocks have no frames
   abbrev pub framesOf : {A : Type 0} → Unit → Call → (List ℕ → List ℕ → ℕ → A) → List A
   framesOf u (order side band level) read = []
   framesOf u (block input room) read =
@@ -237,7 +239,7 @@ bound bands n e =
 pub record Close (bands : List Band) (n : ℕ) (s : ℤ) (e : Exact) : Type 0 where
   pub distance : 2 * natAbs (pos (outputScale e) *ℤ s -ℤ exactOutput e) ≤ bound bands n e
 
--- "It begins with a cleared unit with an accepted band set": as `loading::load` hands it back
+-- "It begins with a cleared unit with an accepted band set": what `loading::load` hands back, by `Demand3 .begins`
 abbrev pub begun : ℕ → List ℤ → Unit
 begun channels set = clearedUnit channels (bandsOf set)
 
@@ -258,14 +260,20 @@ module _ (channels channel : ℕ) (set : List ℤ) (calls : List Call) where
   CloseAt i =
       i < length allSamples → anyOf (take (suc i) allLimits) ≡ false → Close (bandsOf set) (suc i) (getD allSamples i (pos 0)) (getD allExacts i silent)
 
-  -- and what makes sure that nothing else is meant: the three lists have the same frames, and the flag of the unit that the list hands
-  -- back says whether a section has limited
+  -- the unit that the list hands back
+  abbrev pub ended : Unit
+  ended = handedBack channels (begun channels set) calls
+
+  -- beside it: the three lists speak of the same frames; the flag tells the same as `limits`; and the unit stays fit, so that "14 can't
+  -- arise in the list"
   pub record Agreeing : Type 0 where
     pub exact-frames : length allExacts ≡ length allSamples
     pub limits-frames : length allLimits ≡ length allSamples
-    pub flag-agrees : channelOf channels channel (handedBack channels (begun channels set) calls) .flag ≡ pos (flag (anyOf allLimits))
+    pub flag-agrees : channelOf channels channel ended .flag ≡ pos (flag (anyOf allLimits))
+    pub stays-fit : Fit ended
 
 -- "For every such list, whatever the orders ask and the blocks hold, and for every frame n and each side"
 pub record Demand3 : Type 0 where
   pub close : (channels channel : ℕ) (set : List ℤ) (calls : List Call) → channel < channels → isAccepted (setVerdict set) ≡ true → (i : ℕ) → CloseAt channels channel set calls i
+  pub begins : (set : List ℤ) → isAccepted (setVerdict set) ≡ true → loaded set .unit ≡ begun channelCount set
   pub agreeing : (channels channel : ℕ) (set : List ℤ) (calls : List Call) → channel < channels → isAccepted (setVerdict set) ≡ true → Agreeing channels channel set calls

@@ -164,7 +164,7 @@ pub extern "C" fn fonddrys_order_factor(
     give_order(numbers, side, band, Setting::Factor(factor))
 }
 
-// The same, to silence.
+// The same, to mute: the target 0.
 #[no_mangle]
 pub extern "C" fn fonddrys_order_mute(numbers: &mut [i32; 118], side: u32, band: u32) -> u32
     ensures { λ r. ⌜ OrderDone (now (numbers .entry)) side band Setting.Mute r (now (numbers .exit)) ⌝ }

@@ -108,6 +108,7 @@ volume-word v e = bounds-within wordLow wordHigh v (omega (linear, within-bounds
 pub place-accepted : (side band : ℕ) (setting : Setting) → isAccepted (orderArguments side band setting) ≡ true → isPlace side band ≡ true
 place-accepted side band setting e = unless-accepted (isPlace side band) NoPlace (levelVerdict band setting) (λ t. refl) e .0
 
+-- and of the level
 pub level-accepted : (side band : ℕ) (setting : Setting) → isAccepted (orderArguments side band setting) ≡ true → isAccepted (levelVerdict band setting) ≡ true
 level-accepted side band setting e = unless-accepted (isPlace side band) NoPlace (levelVerdict band setting) (λ t. refl) e .1
 
@@ -116,6 +117,7 @@ position-accepted : (band p : ℕ) → isAccepted (levelVerdict band (Position p
 unfolding levelVerdict
 position-accepted band p e = leb-true p 31 (unless-accepted (leb p 31) PositionOver Accepted (λ t. refl) e .0)
 
+-- of a factor: finite, and in its range
 factor-accepted : (band : ℕ) (f : Float) → isAccepted (levelVerdict band (Factor f)) ≡ true → isFactor (lowest band) f ≡ true
 unfolding levelVerdict
 factor-accepted band f e = simp (first .0, unless-accepted (inRange (lowest band) f) FactorRange Accepted (λ t. refl) (first .1) .0)

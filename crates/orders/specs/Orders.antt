@@ -39,13 +39,20 @@ names side channel = eqb side bothSides || eqb side channel
 
 -- ---- its level
 
+-- "Position p (0 to 31)", and the one that a band's target is reckoned from
+abbrev pub lastPosition : ℕ
+lastPosition = 31
+
+abbrev pub middlePosition : ℕ
+middlePosition = 16
+
 -- "558,681 from 16 up and (p - 16) × 104,857 below": what a position is worth to a band
 abbrev pub bandStep : ℕ → ℤ
-bandStep p = cond (leb 16 p) (pos 558681) (pos 104857)
+bandStep p = cond (leb middlePosition p) (pos 558681) (pos 104857)
 
 -- "Position p (0 to 31) sets a band's target to (p - 16) × 558,681 from 16 up and (p - 16) × 104,857 below"
 unfoldable pub bandPosition : ℕ → ℤ
-bandPosition p = (pos p -ℤ pos 16) *ℤ bandStep p
+bandPosition p = (pos p -ℤ pos middlePosition) *ℤ bandStep p
 
 -- "it sets the volume's to p × 270,600"
 unfoldable pub volumePosition : ℕ → ℤ
@@ -65,7 +72,7 @@ lowest band = cond (eqb band volumeBand) volumeLowest bandLowest
 
 -- "2 position over 31; 3 factor not finite; 4 factor outside its range"
 unfoldable pub levelVerdict : ℕ → Setting → Verdict
-levelVerdict band (Position p) = unless (leb p 31) PositionOver Accepted
+levelVerdict band (Position p) = unless (leb p lastPosition) PositionOver Accepted
 levelVerdict band (Factor f) = unless (isFinite f) NotFinite (unless (inRange (lowest band) f) FactorRange Accepted)
 levelVerdict band Mute = Accepted
 

@@ -8,7 +8,7 @@ ghost use Rattle.floats.specs.Value.{isFactor};
 ghost use Rattle.levels.specs.Levels.{aimed};
 ghost use Rattle.unit.specs.Lists.{changed};
 ghost use Rattle.unit.specs.Cleared.{bandCount};
-ghost use Rattle.orders.specs.Orders.{isPlace, names, bandStep, targetOf, lowest, levelVerdict, orderArguments, aimedSection, aimedChannel, aimedUnit, ordered};
+ghost use Rattle.orders.specs.Orders.{isPlace, names, lastPosition, bandStep, targetOf, lowest, levelVerdict, orderArguments, aimedSection, aimedChannel, aimedUnit, ordered};
 use levels::Level;
 use refusals::Verdict;
 use unit::BandSection;
@@ -103,7 +103,7 @@ fn check_level(band: u32, setting: Setting) -> Verdict
 
 // Accepted, or that the position is over 31.
 fn check_position(position: u8) -> Verdict
-    ensures { λ r. ⌜ r ≡ unless (leb position 31) Verdict.PositionOver Verdict.Accepted ⌝ }
+    ensures { λ r. ⌜ r ≡ unless (leb position lastPosition) Verdict.PositionOver Verdict.Accepted ⌝ }
 {
     if position <= LAST_POSITION {
         return Verdict::Accepted;

@@ -56,10 +56,13 @@ pub or-false : (a : Bool) → a || false ≡ a
 or-false true = refl
 or-false false = refl
 
--- so does a test of any
+-- a test of any goes over appending
+pub any-append : (a b : List Bool) → anyOf (a ++ b) ≡ anyOf a || anyOf b
+any-append [] b = refl
+any-append (t ∷ a) b = ap (λ (r : Bool). t || r) (any-append a b) ∙ or-assoc t (anyOf a) (anyOf b)
+
 pub any-snoc : (l : List Bool) (t : Bool) → anyOf (l ++ (t ∷ [])) ≡ anyOf l || t
-any-snoc [] t = or-false t
-any-snoc (s ∷ l) t = ap (λ (r : Bool). s || r) (any-snoc l t) ∙ or-assoc s (anyOf l) t
+any-snoc l t = any-append l (t ∷ []) ∙ ap (λ (r : Bool). anyOf l || r) (or-false t)
 
 pub tabulate-length : {A : Type 0} (n : ℕ) (f : ℕ → A) → length (tabulate n f) ≡ n
 tabulate-length zero f = refl

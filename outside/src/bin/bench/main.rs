@@ -1,7 +1,8 @@
 //! Times the library's section step, rounding, level orders and blocks over the
-//! C ABI against plain Rust of the same shape: same input, same loop, taken in turns. The
-//! results must be equal. Exit status 0 only if a block of the library takes at
-//! most a tenth longer than one of the Rust form; no other time is asserted.
+//! C ABI against plain Rust of the same shape: same input, same loop, taken in
+//! turns. The results must be equal. Exit status 0 only if a block of the
+//! library takes at most a tenth longer than one of the Rust form; no other time
+//! is asserted.
 
 mod blocks;
 
