@@ -1,6 +1,6 @@
 //! The plain meaning of an order: a factor is worked from its bits.
 
-use super::{position_target, refusal_by, Order, Setting, FACTOR_NOT_FINITE, FACTOR_OUTSIDE};
+use super::{refusal_by, target_by, Order, FACTOR_NOT_FINITE, FACTOR_OUTSIDE};
 use crate::reference::{exact::nearest, ACCEPTED};
 use crate::unit::{exact::fit, Numbers, Unit, UNFIT};
 
@@ -51,11 +51,7 @@ pub fn refusal(order: &Order) -> u32 {
 
 /// The target that an accepted order sets.
 pub fn target(order: &Order) -> i32 {
-    match order.setting {
-        Setting::Position(position) => position_target(position, order.is_volume()),
-        Setting::Factor(f) => factor_target(f),
-        Setting::Mute => 0,
-    }
+    target_by(order, factor_target)
 }
 
 /// An order: "an unfit one is 14"; after a refusal "The unit comes back

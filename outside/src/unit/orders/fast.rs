@@ -1,6 +1,6 @@
 //! The same for use: a factor is worked in f64.
 
-use super::{position_target, refusal_by, Order, Setting, FACTOR_NOT_FINITE, FACTOR_OUTSIDE};
+use super::{refusal_by, target_by, Order, FACTOR_NOT_FINITE, FACTOR_OUTSIDE};
 use crate::reference::{ACCEPTED, WORD_MAX};
 use crate::unit::{fast::fit, Numbers, LEFT, RIGHT, STRIPS, UNFIT, VOLUME};
 
@@ -26,11 +26,7 @@ pub fn refusal(order: &Order) -> u32 {
 
 /// The target that an accepted order sets.
 pub fn target(order: &Order) -> i32 {
-    match order.setting {
-        Setting::Position(position) => position_target(position, order.is_volume()),
-        Setting::Factor(f) => factor_target(f),
-        Setting::Mute => 0,
-    }
+    target_by(order, factor_target)
 }
 
 /// Carries out an order.

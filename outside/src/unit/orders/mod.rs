@@ -96,6 +96,16 @@ fn refusal_by(order: &Order, factor: impl Fn(f32, bool) -> u32) -> u32 {
     }
 }
 
+/// The target that an accepted order sets, "Mute sets the target 0"; a factor's
+/// is worked by the given function.
+fn target_by(order: &Order, factor: impl Fn(f32) -> i32) -> i32 {
+    match order.setting {
+        Setting::Position(position) => position_target(position, order.is_volume()),
+        Setting::Factor(f) => factor(f),
+        Setting::Mute => 0,
+    }
+}
+
 /// "Position p (0 to 31) sets a band's target to (p - 16) × 558,681 from 16 up
 /// and (p - 16) × 104,857 below; it sets the volume's to p × 270,600."
 pub fn position_target(position: u8, volume: bool) -> i32 {
