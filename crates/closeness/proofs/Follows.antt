@@ -1,7 +1,7 @@
 -- Lists of frames, side by side: the samples, whether a section limits, and the exact reckoning. The claim holds of every frame of them,
 -- after n frames of which one has limited or none.
 use mathlib.Core.Path.{_≡_, refl, sym, ap, _∙_, subst}
-use mathlib.Core.Bool.{Bool, false, _||_}
+use mathlib.Core.Bool.{Bool, false, _||_, or-assoc, or-false}
 use mathlib.Core.List.{List, [], _∷_, _++_}
 use Prim.Native.Nat.{ℕ, zero, suc, _+_, _<_}
 use native.Mathlib.Omega.{arith}
@@ -9,7 +9,6 @@ use lib.IntN.{ℤ}
 use lib.ListN.{length, getD, take}
 use Rattle.bands.specs.declared.Band.{Band}
 use Rattle.unit.specs.Lists.{anyOf}
-use Rattle.unit.proofs.Tabulate.{or-assoc, or-false}
 use Rattle.closeness.specs.Claim.{Exact, Close}
 
 module _ (bands : List Band) where
@@ -34,7 +33,7 @@ module _ (bands : List Band) where
   follows-append n limited (s ∷ ss) [] es ss' ts' es' f g = absurd f
   follows-append n limited (s ∷ ss) (t ∷ ts) [] ss' ts' es' f g = absurd f
   follows-append n limited (s ∷ ss) (t ∷ ts) (e ∷ es) ss' ts' es' f g =
-      (f .0, follows-append (suc n) (limited || t) ss ts es ss' ts' es' (f .1) (follows-from ss' ts' es' (omega arith) (or-assoc limited t (anyOf ts)) g))
+      (f .0, follows-append (suc n) (limited || t) ss ts es ss' ts' es' (f .1) (follows-from ss' ts' es' (omega arith) (sym (or-assoc limited t (anyOf ts))) g))
 
   -- frame i of them, i from 0
   pub follows-at : (n : ℕ) (limited : Bool) (ss : List ℤ) (ts : List Bool) (es : List Exact) (s : ℤ) (e : Exact) → Follows n limited ss ts es → (i : ℕ) → i < length ss → limited || anyOf (take (suc i) ts) ≡ false → Close bands (suc (n + i)) (getD ss i s) (getD es i e)
@@ -45,7 +44,7 @@ module _ (bands : List Band) where
       subst (λ (k : ℕ). Close bands k a b) (omega arith) (f .0 (ap (λ (c : Bool). limited || c) (sym (or-false t)) ∙ q))
   follows-at n limited (a ∷ ss) (t ∷ ts) (b ∷ es) s e f (suc i) h q =
       subst (λ (k : ℕ). Close bands k (getD ss i s) (getD es i e)) next
-      (follows-at (suc n) (limited || t) ss ts es s e (f .1) i (omega arith) (sym (or-assoc limited t (anyOf (take (suc i) ts))) ∙ q))
+      (follows-at (suc n) (limited || t) ss ts es s e (f .1) i (omega arith) (or-assoc limited t (anyOf (take (suc i) ts)) ∙ q))
     where
       next : suc (suc n + i) ≡ suc (n + suc i)
       next = omega arith

@@ -1,6 +1,6 @@
 -- The unit and the exact reckoning through a list of calls: what ties them is kept by orders, refused calls and frames.
 use mathlib.Core.Path.{_≡_, refl, sym, ap, ap₂, _∙_, subst}
-use mathlib.Core.Bool.{Bool, true, false, cond, _||_}
+use mathlib.Core.Bool.{Bool, true, false, cond, _||_, or-assoc, or-false}
 use mathlib.Core.List.{List, [], _∷_, map}
 use Prim.Native.Nat.{ℕ, zero, suc, _+_, _≤_, _<_}
 use native.Mathlib.Omega.{arith}
@@ -20,7 +20,7 @@ use Rattle.unit.specs.Cleared.{clearedChannel}
 use Rattle.unit.specs.Frame.{anyLimits, channelFrame, unitFrame}
 use Rattle.unit.specs.Fit.{Fit}
 use Rattle.unit.proofs.Fitness.{test-of-fit}
-use Rattle.unit.proofs.Tabulate.{or-assoc, or-false, any-append, any-snoc, tabulate-length}
+use Rattle.unit.proofs.Tabulate.{any-append, any-snoc, tabulate-length}
 use Rattle.unit.proofs.Changed.{changed-length, changed-at}
 use Rattle.orders.specs.declared.Setting.{Setting}
 use Rattle.orders.specs.Orders.{volumeBand, names, targetOf, orderArguments, aimedSection, aimedChannel, aimedVolume, aimedBand, aimedUnit, ordered}
@@ -164,7 +164,7 @@ module _ (channels channel : ℕ) (inside : channel < channels) (bands : List Ba
 
     limited-more : (k : ℕ) → limitedBy k || limitsIn k ≡ limitedBy (suc k)
     limited-more k =
-        sym (or-assoc limited (anyOf (tabulate k limitsIn)) (limitsIn k))
+        or-assoc limited (anyOf (tabulate k limitsIn)) (limitsIn k)
         ∙ ap (λ (b : Bool). limited || b) (sym (any-snoc (tabulate k limitsIn) (limitsIn k)))
 
     -- the unit after k frames of the block
@@ -281,5 +281,5 @@ module _ (channels channel : ℕ) (inside : channel < channels) (bands : List Ba
     where
       joined : (limited || anyOf (limitsOf channels channel u call)) || anyOf (limits channels channel (unitAfter channels u call) calls) ≡ limited || anyOf (limits channels channel u (call ∷ calls))
       joined =
-          sym (or-assoc limited (anyOf (limitsOf channels channel u call)) (anyOf (limits channels channel (unitAfter channels u call) calls)))
+          or-assoc limited (anyOf (limitsOf channels channel u call)) (anyOf (limits channels channel (unitAfter channels u call) calls))
           ∙ ap (λ (b : Bool). limited || b) (sym (any-append (limitsOf channels channel u call) (limits channels channel (unitAfter channels u call) calls)))

@@ -15,6 +15,8 @@ use Rattle.unit.specs.declared.Unit.{Unit}
 use Rattle.orders.specs.declared.Setting.{Setting}
 use Rattle.orders.specs.Orders.{ordered}
 use Rattle.blocks.specs.Block.{blockPlayed, blockOutput}
+use Rattle.writing.specs.Written.{filledCount, filled}
+use Rattle.reading.specs.Reading.{sheetRead}
 use Rattle.numbers.specs.Layout.{unitOf, numbersOf as unitNumbers}
 
 -- a section is seven numbers: A, B, G, x1, x2, y1, y2
@@ -51,3 +53,13 @@ pub record BlockDone (l : List ℤ) (input room : List ℕ) (number : ℕ) (afte
 pub record OrderDone (l : List ℤ) (side band : ℕ) (setting : Setting) (number : ℕ) (after : List ℤ) : Type 0 where
   pub number-is : number ≡ numberOf (ordered (unitOf l) side band setting .verdict)
   pub numbers-are : after ≡ numbersAfter l (ordered (unitOf l) side band setting .verdict) (ordered (unitOf l) side band setting .unit)
+
+-- a sheet that is written: the count of its bytes, and the buffer
+pub record SheetWritten (l : List ℤ) (room : List ℕ) (count : ℕ) (after : List ℕ) : Type 0 where
+  pub count-is : count ≡ filledCount (unitOf l) (length room)
+  pub buffer-is : after ≡ filled (unitOf l) room
+
+-- a sheet that is read: the refusal's number, and the numbers after it
+pub record SheetDone (l : List ℤ) (bytes : List ℕ) (number : ℕ) (after : List ℤ) : Type 0 where
+  pub number-is : number ≡ numberOf (sheetRead bytes (unitOf l) .verdict)
+  pub numbers-are : after ≡ numbersAfter l (sheetRead bytes (unitOf l) .verdict) (sheetRead bytes (unitOf l) .unit)

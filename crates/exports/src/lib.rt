@@ -12,7 +12,7 @@ ghost use Rattle.section.specs.Step.{stepped};
 ghost use Rattle.unit.specs.Fit.{Fit, unitFits};
 ghost use Rattle.loading.specs.Loading.{loaded};
 ghost use Rattle.numbers.specs.Layout.{unitOf, numbersOf as unitNumbers};
-ghost use Rattle.exports.specs.Layout.{sectionOf, numbersOf, packed, numbersAfter, BlockDone, OrderDone};
+ghost use Rattle.exports.specs.Layout.{sectionOf, numbersOf, packed, numbersAfter, BlockDone, OrderDone, SheetWritten, SheetDone};
 use bands::Band;
 use levels::Level;
 use orders::Setting;
@@ -170,6 +170,29 @@ pub extern "C" fn fonddrys_order_mute(numbers: &mut [i32; 118], side: u32, band:
     ensures { λ r. ⌜ OrderDone (now (numbers .entry)) side band Setting.Mute r (now (numbers .exit)) ⌝ }
 {
     give_order(numbers, side, band, Setting::Mute)
+}
+
+// Writes the strip sheet of the unit whose numbers are lent to the front of the buffer, and gives the count of its bytes, 1,128. From a
+// shorter buffer, or for an unfit unit, the count is 0 and the buffer is as it was. Bytes behind the sheet keep their contents.
+#[no_mangle]
+pub extern "C" fn fonddrys_sheet_write(numbers: &[i32; 118], buffer: &mut [u8]) -> usize
+    ensures { λ r. ⌜ SheetWritten (now (numbers .entry)) (now (buffer .entry)) r (now (buffer .exit)) ⌝ }
+{
+    let unit = numbers::unit_of(numbers);
+    writing::fill(unit, buffer)
+}
+
+// Reads a strip sheet: the lent numbers are then those of the unit that it carries. 0 for an accepted sheet, else the number of its
+// refusal: the lent numbers are then as they were.
+#[no_mangle]
+pub extern "C" fn fonddrys_sheet_read(numbers: &mut [i32; 118], bytes: &[u8]) -> u32
+    ensures { λ r. ⌜ SheetDone (now (numbers .entry)) (now (bytes .entry)) r (now (numbers .exit)) ⌝ }
+{
+    let given = numbers::unit_of(numbers);
+    let answer = reading::read(bytes, given);
+    let found = answer.verdict;
+    let carried = answer.unit;
+    store(numbers, found, carried)
 }
 
 // Gives an order to the unit whose numbers are lent.

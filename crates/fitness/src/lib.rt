@@ -84,7 +84,7 @@ fn channel_fits(channel: Channel) -> bool
 }
 
 // Whether v is a word and a multiple of 256.
-fn input_fits(v: i64) -> bool
+pub fn input_fits(v: i64) -> bool
     ensures { λ r. ⌜ r ≡ isInput v ⌝ }
 {
     if !is_word(v) {

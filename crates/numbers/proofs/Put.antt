@@ -84,11 +84,11 @@ module _ (l : List ℤ) (i : ℕ) (h : length l ≡ unitSize) where
   pub put-four : {a b c d v w x y : ℤ} → i + 4 ≤ unitSize → v ≡ a → w ≡ b → x ≡ c → y ≡ d → Put l i (a ∷ b ∷ c ∷ d ∷ []) (i + 4) (set (set (set (set l i v) (i + 1) w) (i + 2) x) (i + 3) y)
   put-four k p q r s = put-next (put-three (omega arith) p q r) (omega arith) (i + 4) (omega arith) s
 
--- ---- the numbers of entries, one entry after the other
+-- ---- what is joined of entries, one entry after the other
 
-pub joined-snoc : {A : Type 0} (f : A → List ℤ) (l : List A) (a : A) → joined f (l ++ (a ∷ [])) ≡ joined f l ++ f a
+pub joined-snoc : {A B : Type 0} (f : A → List B) (l : List A) (a : A) → joined f (l ++ (a ∷ [])) ≡ joined f l ++ f a
 joined-snoc f [] a = append-nil (f a)
-joined-snoc f (b ∷ l) a = ap (λ (x : List ℤ). f b ++ x) (joined-snoc f l a) ∙ sym (append-assoc (f b) (joined f l) (f a))
+joined-snoc {B = B} f (b ∷ l) a = ap (λ (x : List B). f b ++ x) (joined-snoc f l a) ∙ sym (append-assoc (f b) (joined f l) (f a))
 
 -- of two entries
 pub joined-two : {A : Type 0} (f : A → List ℤ) (l : List A) (d : A) → length l ≡ 2 → joined f l ≡ f (getD l 0 d) ++ f (getD l 1 d)

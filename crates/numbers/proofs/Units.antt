@@ -50,6 +50,11 @@ numbers-length u s =
       channels-length (u .channels) (s .channels) (s .sections),
     )
 
+-- numbers stand for a unit of this shape
+pub unit-shaped : (l : List ℤ) → Shaped (unitOf l)
+unfolding unitOf
+unit-shaped l = record { bands = refl; channels = refl; sections = (refl, (refl, tt)) }
+
 -- ---- the entries that the numbers stand for
 
 -- entry k of every list of n entries

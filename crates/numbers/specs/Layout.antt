@@ -30,8 +30,8 @@ rightPlace = 75
 
 -- ---- a unit's numbers
 
--- the numbers of each entry, one entry after the other
-abbrev pub joined : {A : Type 0} → (A → List ℤ) → List A → List ℤ
+-- what f gives for each entry, one entry after the other
+abbrev pub joined : {A B : Type 0} → (A → List B) → List A → List B
 joined f [] = []
 joined f (a ∷ rest) = f a ++ joined f rest
 

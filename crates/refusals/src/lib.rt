@@ -18,7 +18,11 @@ pub enum Verdict {
     Alpha,
     Beta,
     Gamma,
-    // The desk, and whoever plays a block: the unit is unfit.
+    // The archive: the sheet is not 1,128 bytes, a line has a wrong letter or line end, or a field is badly written.
+    SheetLength,
+    LineMark,
+    FieldForm,
+    // The archive: a number is outside its range. The desk, and whoever plays a block: the unit is unfit, so it has such a number.
     Unfit,
     // Whoever steps a section alone: a number is no word.
     NotWord,
@@ -40,6 +44,9 @@ pub fn number(verdict: Verdict) -> u32
         Verdict::Alpha => 8,
         Verdict::Beta => 9,
         Verdict::Gamma => 10,
+        Verdict::SheetLength => 11,
+        Verdict::LineMark => 12,
+        Verdict::FieldForm => 13,
         Verdict::Unfit => 14,
         Verdict::NotWord => 15,
     }
@@ -61,6 +68,9 @@ pub fn accepted(verdict: Verdict) -> bool
         Verdict::Alpha => false,
         Verdict::Beta => false,
         Verdict::Gamma => false,
+        Verdict::SheetLength => false,
+        Verdict::LineMark => false,
+        Verdict::FieldForm => false,
         Verdict::Unfit => false,
         Verdict::NotWord => false,
     }

@@ -1,0 +1,2 @@
+-- Reading the strip sheet.
+pub mod Reading

@@ -1,0 +1,2 @@
+-- The round trip of the strip sheet.
+pub mod Claim

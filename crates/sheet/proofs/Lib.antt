@@ -1,0 +1,3 @@
+-- The laws of the lines.
+pub mod Groups
+pub mod Places

@@ -1,0 +1,2 @@
+-- The lines of the strip sheet.
+pub mod Lines

@@ -1,0 +1,70 @@
+-- What is filled: the front with the sheet, or nothing; and the front that is handed back.
+use mathlib.Core.Path.{_≡_, refl, sym, ap, ap₂, _∙_}
+use mathlib.Core.Bool.{Bool, true, false, cond, _&&_}
+use mathlib.Core.List.{List, [], _++_}
+use Prim.Native.Nat.{ℕ, _≤_, _<_}
+use native.Mathlib.Omega.{arith}
+use lib.Dec.{leb}
+use lib.IntN.{ℤ}
+use lib.ListN.{length, take, drop, length-append, length-drop}
+use lib.Seq.{sets, take-at}
+use borrow.Author.Tests.{leb-true, le-leb, lt-leb}
+use Rattle.integers.proofs.Order.{both-true}
+use Rattle.refusals.proofs.Laws.{failed}
+use Rattle.unit.specs.declared.Unit.{Unit}
+use Rattle.unit.specs.Fit.{unitFits}
+use Rattle.numbers.specs.Layout.{unitSize, numbersOf}
+use Rattle.fields.proofs.Stores.{stored-front}
+use Rattle.sheet.specs.Lines.{sheetSize, lines}
+use Rattle.writing.specs.Written.{written, sheetOf, writes, filledCount, filledPart, filled}
+use Rattle.writing.proofs.Laws.{written-length}
+
+-- ---- any bytes at the front of a buffer
+
+module _ (p b : List ℕ) (n : ℕ) where
+  -- they are the front of the buffer where they leave it as long as it was; or nothing is
+  front-taken : (t : Bool) (count : ℕ) (after : List ℕ) → (t ≡ true → n ≤ length b) → count ≡ cond t n 0 → after ≡ cond t (p ++ drop n b) b → length after ≡ length b → (count ≤ length after) × (take count after ≡ cond t p [])
+  front-taken true count after h e f k = (
+    omega (arith, h refl),
+    ap₂ take e f ∙ take-at p (drop n b) n (omega (arith, h refl, ap length f, length-append p (drop n b), length-drop n b)),
+  )
+  front-taken false count after h e f k = (omega arith, ap₂ take e f)
+
+-- ---- a unit's sheet
+
+module _ (u : Unit) (b : List ℕ) where
+  -- nothing is written into a shorter buffer
+  pub short-unwritten : length b < sheetSize → writes u (length b) ≡ false
+  unfolding writes
+  short-unwritten h = ap (λ (t : Bool). t && unitFits u) (lt-leb sheetSize (length b) h)
+
+  -- the unit's fitness decides where the buffer is long enough
+  pub fit-written : sheetSize ≤ length b → writes u (length b) ≡ unitFits u
+  unfolding writes
+  fit-written h = ap (λ (t : Bool). t && unitFits u) (le-leb sheetSize (length b) h)
+
+  -- a sheet is written into a buffer that is long enough
+  room-written : writes u (length b) ≡ true → sheetSize ≤ length b
+  unfolding writes
+  room-written e = leb-true sheetSize (length b) (both-true (leb sheetSize (length b)) (unitFits u) e .0)
+
+  -- nothing is filled
+  pub none-filled : writes u (length b) ≡ false → (0 ≡ filledCount u (length b)) × (b ≡ filled u b)
+  unfolding filledCount filled
+  none-filled e = (failed (writes u (length b)) _ 0 e, failed (writes u (length b)) _ b e)
+
+  -- the front is filled with the lines of the unit's numbers
+  pub sheet-filled : (ns : List ℤ) {after : List ℕ} → ns ≡ numbersOf u → length ns ≡ unitSize → sheetSize ≤ length b → writes u (length b) ≡ true → after ≡ sets b 0 (written lines ns) → (sheetSize ≡ filledCount u (length b)) × (after ≡ filled u b)
+  unfolding filledCount filled sheetOf
+  sheet-filled ns e size room w a = (
+    ap (λ (t : Bool). cond t sheetSize 0) (sym w),
+    a
+        ∙ stored-front (written lines ns) b sheetSize (written-length lines ns (omega arith)) room
+        ∙ ap (λ (m : List ℤ). written lines m ++ drop sheetSize b) e
+        ∙ ap (λ (t : Bool). cond t (written lines (numbersOf u) ++ drop sheetSize b) b) (sym w),
+  )
+
+  -- the part that is handed back is within the buffer, and holds the sheet or nothing
+  pub part-filled : {count : ℕ} {after : List ℕ} → count ≡ filledCount u (length b) → after ≡ filled u b → length after ≡ length b → (count ≤ length after) × (take count after ≡ filledPart u (length b))
+  unfolding filledCount filled filledPart
+  part-filled {count} {after} e f k = front-taken (sheetOf u) b sheetSize (writes u (length b)) count after room-written e f k

@@ -1,0 +1,54 @@
+-- The laws of a written sheet: how many bytes it has, and one line more.
+use mathlib.Core.Path.{_≡_, refl, sym, ap, ap₂, _∙_}
+use mathlib.Core.List.{List, [], _∷_, _++_, append-assoc, append-nil}
+use Prim.Native.Nat.{ℕ, _+_, _*_, _≤_}
+use native.Mathlib.Omega.{arith}
+use lib.IntN.{ℤ}
+use lib.ListN.{length, take, drop, length-append, length-drop}
+use lib.Seq.{length-take-le, drop-drop}
+use Rattle.unit.specs.declared.Unit.{Unit}
+use Rattle.numbers.specs.Layout.{joined, numbersOf, Shaped}
+use Rattle.numbers.proofs.Units.{numbers-length}
+use Rattle.fields.specs.Fields.{fieldSize, field}
+use Rattle.fields.proofs.Laws.{field-length}
+use Rattle.sheet.specs.declared.Line.{Line}
+use Rattle.sheet.specs.Lines.{sheetSize, lineFeed, lines, fieldCount, lineSize, fieldsOf, sizeOf}
+use Rattle.writing.specs.Written.{lineBytes, written, sheetOf}
+
+-- ---- how many bytes
+
+-- each field has as many
+pub fields-length : (ns : List ℤ) → length (joined field ns) ≡ fieldSize * length ns
+fields-length [] = refl
+fields-length (n ∷ ns) = omega (arith, length-append (field n) (joined field ns), field-length n, fields-length ns)
+
+-- a line's letter, its fields, a line feed
+pub line-length : (line : Line) (ns : List ℤ) → length ns ≡ fieldCount line → length (lineBytes line ns) ≡ lineSize line
+line-length line ns e = omega (arith, length-append (joined field ns) (lineFeed ∷ []), fields-length ns)
+
+-- lines with numbers enough for them
+pub written-length : (ls : List Line) (ns : List ℤ) → fieldsOf ls ≤ length ns → length (written ls ns) ≡ sizeOf ls
+written-length [] ns h = refl
+written-length (line ∷ ls) ns h =
+    length-append (lineBytes line (take (fieldCount line) ns)) (written ls (drop (fieldCount line) ns))
+    ∙ ap₂ _+_ (line-length line (take (fieldCount line) ns) (length-take-le (fieldCount line) ns (omega arith)))
+    (written-length ls (drop (fieldCount line) ns) (omega (arith, length-drop (fieldCount line) ns)))
+
+-- "1,128 bytes"
+pub sheet-length : (u : Unit) → Shaped u → length (sheetOf u) ≡ sheetSize
+unfolding sheetOf
+sheet-length u s = written-length lines (numbersOf u) (omega (arith, numbers-length u s))
+
+-- ---- one more
+
+-- one line more takes the numbers that come next
+pub written-snoc : (ls : List Line) (line : Line) (ns : List ℤ) → written (ls ++ (line ∷ [])) ns ≡ written ls ns ++ lineBytes line (take (fieldCount line) (drop (fieldsOf ls) ns))
+written-snoc [] line ns = append-nil (lineBytes line (take (fieldCount line) ns))
+written-snoc (first ∷ ls) line ns =
+    ap (λ (x : List ℕ). lineBytes first (take (fieldCount first) ns) ++ x)
+    (written-snoc ls line (drop (fieldCount first) ns)
+    ∙ ap (λ (m : List ℤ). written ls (drop (fieldCount first) ns) ++ lineBytes line (take (fieldCount line) m))
+    (drop-drop (fieldsOf ls) (fieldCount first) ns))
+    ∙ sym
+    (append-assoc (lineBytes first (take (fieldCount first) ns)) (written ls (drop (fieldCount first) ns))
+    (lineBytes line (take (fieldCount line) (drop (fieldCount first + fieldsOf ls) ns))))

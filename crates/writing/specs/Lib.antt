@@ -1,0 +1,2 @@
+-- Writing the strip sheet.
+pub mod Written
