@@ -35,6 +35,16 @@ pub mod raw {
             factor: f32,
         ) -> u32;
         pub fn fonddrys_order_mute(unit: *mut [i32; 118], side: u32, band: u32) -> u32;
+        pub fn fonddrys_sheet_write(
+            unit: *const [i32; 118],
+            buffer: *mut u8,
+            buffer_len: usize,
+        ) -> usize;
+        pub fn fonddrys_sheet_read(
+            unit: *mut [i32; 118],
+            bytes: *const u8,
+            bytes_len: usize,
+        ) -> u32;
     }
 }
 
@@ -99,4 +109,16 @@ pub fn order(unit: &mut Numbers, order: &Order) -> u32 {
             Setting::Mute => raw::fonddrys_order_mute(unit, side, band),
         }
     }
+}
+
+pub fn sheet_write(unit: &Numbers, buffer: &mut [u8]) -> usize {
+    // SAFETY: the unit is only read; the buffer is lent to the library alone,
+    // with its length.
+    unsafe { raw::fonddrys_sheet_write(unit, buffer.as_mut_ptr(), buffer.len()) }
+}
+
+pub fn sheet_read(unit: &mut Numbers, bytes: &[u8]) -> u32 {
+    // SAFETY: the unit is 118 numbers that nobody else holds; the bytes are read
+    // for their own length.
+    unsafe { raw::fonddrys_sheet_read(unit, bytes.as_ptr(), bytes.len()) }
 }

@@ -4,6 +4,7 @@
 use crate::ffi::raw;
 use crate::reference::house_set;
 use crate::unit::cleared;
+use crate::unit::sheet::{fast, SHEET};
 
 const FRONT: usize = 40;
 const MARK: i32 = 0x5AA5_1234;
@@ -12,7 +13,13 @@ const MARK_BYTE: u8 = 0xA5;
 /// True where every function that takes a pointer leaves what lies around its
 /// own numbers and bytes as it was, and what it only reads too.
 pub fn keeps_to_its_numbers() -> bool {
-    house_keeps() && steps_keep() && loads_keep() && fits_keep() && blocks_keep() && orders_keep()
+    house_keeps()
+        && steps_keep()
+        && loads_keep()
+        && fits_keep()
+        && blocks_keep()
+        && orders_keep()
+        && sheets_keep()
 }
 
 /// Lends the middle of a buffer of marks, filled with these numbers, and gives
@@ -149,4 +156,46 @@ fn order_keeps(unit: &[i32; 118], side: u32, band: u32) -> bool {
         raw::fonddrys_order_mute(unit.cast(), side, band);
     });
     positions && factors && muted.is_some()
+}
+
+/// Sheets written into buffers of several lengths and read from as many bytes,
+/// at several addresses; fit units and unfit ones, right sheets and wrong ones.
+fn sheets_keep() -> bool {
+    let units = [cleared(&house_set()), [-1; 118]];
+    let lengths = [0, 1, 20, SHEET - 1, SHEET, SHEET + 1, SHEET + 40, 2 * SHEET];
+    let mut right = vec![0; 2 * SHEET];
+    fast::write(&units[0], &mut right);
+    let mut wrong = right.clone();
+    wrong[SHEET - 1] = 0;
+    units.iter().all(|unit| {
+        lengths.iter().all(|&length| {
+            (0..4).all(|odd| {
+                written_keeps(unit, length, odd)
+                    && read_keeps(unit, &right[..length], odd)
+                    && read_keeps(unit, &wrong[..length], odd)
+            })
+        })
+    })
+}
+
+fn written_keeps(unit: &[i32; 118], room: usize, odd: usize) -> bool {
+    let mut buffer_after = None;
+    let unit_after = lend(unit, |unit| {
+        // SAFETY: 118 numbers are lent, and the buffer with its own length.
+        buffer_after = lend_bytes(&vec![0; room], odd, |buffer| unsafe {
+            raw::fonddrys_sheet_write(unit.cast(), buffer, room);
+        });
+    });
+    unit_after.as_deref() == Some(unit) && buffer_after.is_some()
+}
+
+fn read_keeps(unit: &[i32; 118], bytes: &[u8], odd: usize) -> bool {
+    let mut bytes_after = None;
+    let unit_after = lend(unit, |unit| {
+        // SAFETY: 118 numbers are lent, and the bytes with their own length.
+        bytes_after = lend_bytes(bytes, odd, |bytes_lent| unsafe {
+            raw::fonddrys_sheet_read(unit.cast(), bytes_lent, bytes.len());
+        });
+    });
+    unit_after.is_some() && bytes_after.as_deref() == Some(bytes)
 }

@@ -3,10 +3,10 @@
 use crate::ffi;
 use crate::reference::{self, fast, Section};
 use crate::unit::orders::{self, Order};
-use crate::unit::{self, Numbers};
+use crate::unit::{self, sheet, Numbers};
 
-/// The twelve functions of the C ABI, whoever implements them. The three of the
-/// orders are one here.
+/// The fourteen functions of the C ABI, whoever implements them. The three of
+/// the orders are one here.
 pub trait Subject {
     fn nearest(&self, v: i64, k: u32) -> i64;
     fn limit(&self, v: i64, low: i64, high: i64) -> i64;
@@ -18,6 +18,8 @@ pub trait Subject {
     fn unit_fit(&self, numbers: &Numbers) -> u32;
     fn block(&self, numbers: &mut Numbers, input: &[u8], output: &mut [u8]) -> u32;
     fn order(&self, numbers: &mut Numbers, order: &Order) -> u32;
+    fn sheet_write(&self, numbers: &Numbers, buffer: &mut [u8]) -> usize;
+    fn sheet_read(&self, numbers: &mut Numbers, bytes: &[u8]) -> u32;
 }
 
 /// The library, over the C ABI.
@@ -53,6 +55,12 @@ impl Subject for Library {
     }
     fn order(&self, numbers: &mut Numbers, order: &Order) -> u32 {
         ffi::order(numbers, order)
+    }
+    fn sheet_write(&self, numbers: &Numbers, buffer: &mut [u8]) -> usize {
+        ffi::sheet_write(numbers, buffer)
+    }
+    fn sheet_read(&self, numbers: &mut Numbers, bytes: &[u8]) -> u32 {
+        ffi::sheet_read(numbers, bytes)
     }
 }
 
@@ -95,5 +103,11 @@ impl Subject for Fast {
     }
     fn order(&self, numbers: &mut Numbers, order: &Order) -> u32 {
         orders::fast::order(numbers, order)
+    }
+    fn sheet_write(&self, numbers: &Numbers, buffer: &mut [u8]) -> usize {
+        sheet::fast::write(numbers, buffer)
+    }
+    fn sheet_read(&self, numbers: &mut Numbers, bytes: &[u8]) -> u32 {
+        sheet::fast::read(numbers, bytes)
     }
 }

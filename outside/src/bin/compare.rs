@@ -5,15 +5,19 @@ use std::process::ExitCode;
 use std::time::Instant;
 
 use outside::checks::groups::{
-    Group, DISTANCE, LISTS_OF_CALLS, ORDER_GROUPS, SECTION_GROUPS, SOUND_GROUPS, UNIT_GROUPS,
+    Group, DISTANCE, LISTS_OF_CALLS, MANY_SHEETS, ORDER_GROUPS, SECTION_GROUPS, SHEET_GROUPS,
+    SOUND_GROUPS, UNIT_GROUPS,
 };
 use outside::checks::{
     arithmetic, bands, big_numbers, block_refusals, blocks, call_lists, cuts, distance_lists,
     factors, fitness, levels, loads, one_step, orders, refusals, steps,
 };
+use outside::checks::{
+    sheet_damage, sheet_fields, sheet_lengths, sheet_lines, sheet_lists, sheets,
+};
 use outside::checks::{Difference, Tally};
 use outside::exact_sound::judge::Distances;
-use outside::faults::{desk, section, unit, Impostor};
+use outside::faults::{desk, section, sheet, unit, Impostor};
 use outside::lent;
 use outside::subject::{Fast, Library, Subject};
 
@@ -55,6 +59,13 @@ fn print_seeds() {
         ("factors", factors::FACTORS_SEED),
         ("lists of calls", call_lists::CALLS_SEED),
         ("distance", distance_lists::DISTANCE_SEED),
+        ("sheets", sheets::SHEETS_SEED),
+        ("many sheets", sheets::MANY_SEED),
+        ("sheet fields", sheet_fields::FIELDS_SEED),
+        ("sheet lines", sheet_lines::LINES_SEED),
+        ("damaged sheets", sheet_damage::DAMAGE_SEED),
+        ("sheet lengths", sheet_lengths::LENGTHS_SEED),
+        ("lists through sheets", sheet_lists::SHEET_LISTS_SEED),
         ("big numbers", big_numbers::BIG_SEED),
         ("one step", one_step::ONE_STEP_SEED),
     ];
@@ -68,9 +79,9 @@ fn everything() -> Result<(), Difference> {
     println!("The arithmetic of the exact sound:");
     println!("  {} answers agree", numbers.answers);
     println!("The fast Rust form against the exact one:");
-    every_group(&Fast)?;
+    every_group(&Fast, &[])?;
     println!("The library against the exact Rust form:");
-    every_group(&Library)?;
+    every_group(&Library, &[MANY_SHEETS])?;
     if !lent::keeps_to_its_numbers() {
         return Err("the library wrote outside what was lent to it".to_string());
     }
@@ -79,11 +90,13 @@ fn everything() -> Result<(), Difference> {
     every_fault()
 }
 
-/// Runs all groups against one subject and prints a line for each.
-fn every_group(subject: &dyn Subject) -> Result<(), Difference> {
+/// Runs all groups and these more against one subject and prints a line for
+/// each.
+fn every_group(subject: &dyn Subject, more: &[Group]) -> Result<(), Difference> {
     let mut total = Tally::default();
     let groups = SECTION_GROUPS.iter().chain(&UNIT_GROUPS);
-    for group in groups.chain(&ORDER_GROUPS).chain(&SOUND_GROUPS) {
+    let groups = groups.chain(&ORDER_GROUPS).chain(&SOUND_GROUPS);
+    for group in groups.chain(&SHEET_GROUPS).chain(more) {
         let tally =
             (group.run)(subject).map_err(|difference| format!("{}: {difference}", group.name))?;
         let frames = match tally.frames {
@@ -131,8 +144,10 @@ fn every_fault() -> Result<(), Difference> {
     nothing_wrong(&unit::Fault::Nothing, &[LISTS_OF_CALLS, DISTANCE])?;
     nothing_wrong(&desk::Fault::Nothing, &ORDER_GROUPS)?;
     nothing_wrong(&desk::Fault::Nothing, &SOUND_GROUPS)?;
+    nothing_wrong(&sheet::Fault::Nothing, &SHEET_GROUPS)?;
     let impostors = section::IMPOSTORS.iter().chain(&unit::IMPOSTORS);
-    for impostor in impostors.chain(&desk::IMPOSTORS) {
+    let impostors = impostors.chain(&desk::IMPOSTORS);
+    for impostor in impostors.chain(&sheet::IMPOSTORS) {
         unmask(impostor)?;
     }
     let found = one_step::found_everywhere()?.answers;

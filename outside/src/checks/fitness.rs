@@ -22,7 +22,7 @@ fn b_beside(numbers: &Numbers, place: usize) -> i32 {
 }
 
 /// Numbers that no accepted sheet could carry at this place.
-fn unfit_numbers(numbers: &Numbers, place: usize) -> Vec<i32> {
+pub fn unfit_numbers(numbers: &Numbers, place: usize) -> Vec<i32> {
     let mut unfit = match kind(place) {
         Kind::Coefficient(which) => wrong_numbers(b_beside(numbers, place), which),
         Kind::Volume => vec![-1, -2, -8_388_608, 8_388_608, 8_388_609, 16_777_216],
@@ -38,7 +38,7 @@ fn unfit_numbers(numbers: &Numbers, place: usize) -> Vec<i32> {
 }
 
 /// Numbers that stand at the edges of what a sheet could carry at this place.
-fn edge_numbers(numbers: &Numbers, place: usize) -> Vec<i32> {
+pub fn edge_numbers(numbers: &Numbers, place: usize) -> Vec<i32> {
     match kind(place) {
         Kind::Volume | Kind::Coefficient(0) => vec![0, 1, 8_388_606, 8_388_607],
         Kind::Coefficient(1) => {

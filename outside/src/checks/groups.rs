@@ -3,6 +3,8 @@
 use super::{arithmetic, bands, figures, refusals, steps, Outcome};
 use super::{block_refusals, blocks, cuts, fitness, levels, loads, unit_figures};
 use super::{call_lists, distance, factors, order_figures, orders};
+use super::{sheet_damage, sheet_fields, sheet_figures, sheet_lengths, sheet_lines};
+use super::{sheet_lists, sheets};
 use crate::subject::Subject;
 
 /// A group of tests: its name, what it compares and what it runs.
@@ -120,6 +122,47 @@ pub const DISTANCE: Group = Group {
     run: distance::from_the_exact,
 };
 
+pub const SHEETS: Group = Group {
+    name: "sheets",
+    what: "fit units written and read back; short buffers, unfit units",
+    run: sheets::units,
+};
+pub const MANY_SHEETS: Group = Group {
+    name: "many sheets",
+    what: "the same with more units, held against the fast form",
+    run: sheets::many,
+};
+pub const SHEET_FIGURES: Group = Group {
+    name: "sheet figures",
+    what: "the sheets that document 01 gives, and the ends of every range",
+    run: sheet_figures::of_sheets,
+};
+pub const SHEET_FIELDS: Group = Group {
+    name: "sheet fields",
+    what: "each field badly written, at the ends of its range and outside",
+    run: sheet_fields::each,
+};
+pub const SHEET_LINES: Group = Group {
+    name: "sheet lines",
+    what: "letter, fields and end of each line wrong in all ways together",
+    run: sheet_lines::every,
+};
+pub const DAMAGED_SHEETS: Group = Group {
+    name: "damaged sheets",
+    what: "each byte changed; two bytes, several fields; bytes put in or left out",
+    run: sheet_damage::anywhere,
+};
+pub const SHEET_LENGTHS: Group = Group {
+    name: "sheet lengths",
+    what: "sheets cut short at every byte, and too long",
+    run: sheet_lengths::wrong,
+};
+pub const SHEET_LISTS: Group = Group {
+    name: "lists through sheets",
+    what: "units that orders and blocks lead to, written and read back",
+    run: sheet_lists::carried_on,
+};
+
 pub const SECTION_GROUPS: [Group; 8] = [
     NEAREST, LIMIT, BANDS, HOUSE, LISTS, CORNERS, REFUSED, FIGURES,
 ];
@@ -135,3 +178,12 @@ pub const UNIT_GROUPS: [Group; 8] = [
 ];
 pub const ORDER_GROUPS: [Group; 4] = [ORDERS, FACTORS, ORDER_FIGURES, LISTS_OF_CALLS];
 pub const SOUND_GROUPS: [Group; 1] = [DISTANCE];
+pub const SHEET_GROUPS: [Group; 7] = [
+    SHEETS,
+    SHEET_FIGURES,
+    SHEET_FIELDS,
+    SHEET_LINES,
+    DAMAGED_SHEETS,
+    SHEET_LENGTHS,
+    SHEET_LISTS,
+];

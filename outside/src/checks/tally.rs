@@ -1,6 +1,7 @@
 //! What a group went through.
 
 use super::same_order::Orders;
+use super::same_sheet::Sheets;
 use crate::exact_sound::judge::Distances;
 use crate::reference::{exact, Section};
 use crate::unit::exact::{Halves, Met};
@@ -28,6 +29,8 @@ pub struct Tally {
     pub met: Met,
     /// What the orders met.
     pub orders: Orders,
+    /// What the sheets met.
+    pub sheets: Sheets,
     /// How far the lists lay from the exact sound.
     pub distances: Distances,
 }
@@ -61,6 +64,7 @@ impl Tally {
         self.blocks_14 += other.blocks_14;
         add_met(&mut self.met, &other.met);
         self.orders.add(&other.orders);
+        self.sheets.add(&other.sheets);
         self.distances.add(&other.distances);
     }
 
@@ -69,6 +73,7 @@ impl Tally {
     pub fn reached(&self) -> Vec<(&'static str, u64)> {
         let mut reached = self.steps_and_blocks().to_vec();
         reached.extend(self.orders.reached());
+        reached.extend(self.sheets.reached());
         reached.extend(self.distances.reached());
         reached
     }

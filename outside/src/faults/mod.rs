@@ -4,6 +4,7 @@
 
 pub mod desk;
 pub mod section;
+pub mod sheet;
 pub mod unit;
 
 use crate::checks::groups::Group;

@@ -1,12 +1,14 @@
 //! The two-sided unit, written from document 01: its numbers, its refusals and
 //! the loading of a band set. Quoted sentences are that document's.
 //!
-//! The playing of a block and the orders have two forms, as the section has.
-//! `exact` is the plain meaning; `fast` is what one would write for use.
+//! The playing of a block, the orders and the sheet have two forms, as the
+//! section has. `exact` is the plain meaning; `fast` is what one would write for
+//! use.
 
 pub mod exact;
 pub mod fast;
 pub mod orders;
+pub mod sheet;
 
 use crate::reference::{band_refusal, house_set, ACCEPTED};
 

@@ -1,10 +1,11 @@
-//! Times the library's section step, rounding, level orders and blocks over the
-//! C ABI against plain Rust of the same shape: same input, same loop, taken in
-//! turns. The results must be equal. Exit status 0 only if a block of the
-//! library takes at most a tenth longer than one of the Rust form; no other time
-//! is asserted.
+//! Times the library's section step, rounding, level orders, blocks and strip
+//! sheets over the C ABI against plain Rust of the same shape: same input, same
+//! loop, taken in turns. The results must be equal. Exit status 0 only if a block
+//! of the library takes at most a tenth longer than one of the Rust form, and a
+//! sheet written or read at most half longer; no other time is asserted.
 
 mod blocks;
+mod sheets;
 
 use std::hint::black_box;
 use std::process::ExitCode;
@@ -21,6 +22,8 @@ const COUNT: usize = 2_000_000;
 const ROUNDS: usize = 11;
 /// The most that a block of 4,096 frames may take, in times of the Rust form.
 const MOST: f64 = 1.10;
+/// The most that a sheet may take, written and read.
+const MOST_SHEET: f64 = 1.50;
 
 type StepFn = unsafe extern "C" fn(*mut Section, i32) -> i64;
 type NearestFn = unsafe extern "C" fn(i64, u32) -> i64;
@@ -85,8 +88,8 @@ fn run_orders(order: OrderFn, orders: &[Order]) -> (f64, u64) {
     (nanoseconds / orders.len() as f64, black_box(checksum))
 }
 
-/// Both in turns, the best of each, and their ratio.
-fn race<F: Copy>(name: &str, library: F, rust: F, run: impl Fn(F) -> (f64, u64)) {
+/// Both in turns: prints the best of each and gives their ratio.
+fn race<F: Copy>(name: &str, library: F, rust: F, run: impl Fn(F) -> (f64, u64)) -> f64 {
     let (mut best_library, mut best_rust) = (f64::MAX, f64::MAX);
     for _ in 0..ROUNDS {
         let (library_time, library_sum) = run(black_box(library));
@@ -95,10 +98,9 @@ fn race<F: Copy>(name: &str, library: F, rust: F, run: impl Fn(F) -> (f64, u64))
         best_library = best_library.min(library_time);
         best_rust = best_rust.min(rust_time);
     }
-    println!(
-        "{name}: library {best_library:.2} ns, Rust {best_rust:.2} ns, ratio {:.2}",
-        best_library / best_rust
-    );
+    let ratio = best_library / best_rust;
+    println!("{name}: library {best_library:.2} ns, Rust {best_rust:.2} ns, ratio {ratio:.2}");
+    ratio
 }
 
 fn main() -> ExitCode {
@@ -107,10 +109,17 @@ fn main() -> ExitCode {
     time_steps(&mut random);
     time_nearest(&mut random);
     time_orders(&mut random);
-    if blocks::within(MOST) {
+    let blocks = blocks::within(MOST);
+    if !blocks {
+        println!("FAILED: blocks of 4,096 frames, ratio over {MOST:.2}");
+    }
+    let sheets = sheets::within(MOST_SHEET);
+    if !sheets {
+        println!("FAILED: sheets written or read, ratio over {MOST_SHEET:.2}");
+    }
+    if blocks && sheets {
         ExitCode::SUCCESS
     } else {
-        println!("FAILED: blocks of 4,096 frames, ratio over {MOST:.2}");
         ExitCode::FAILURE
     }
 }

@@ -135,4 +135,10 @@ impl Subject for Fault {
     fn block(&self, numbers: &mut Numbers, input: &[u8], output: &mut [u8]) -> u32 {
         Fast.block(numbers, input, output)
     }
+    fn sheet_write(&self, numbers: &Numbers, buffer: &mut [u8]) -> usize {
+        Fast.sheet_write(numbers, buffer)
+    }
+    fn sheet_read(&self, numbers: &mut Numbers, bytes: &[u8]) -> u32 {
+        Fast.sheet_read(numbers, bytes)
+    }
 }

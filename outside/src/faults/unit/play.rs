@@ -286,4 +286,10 @@ impl Subject for Fault {
     fn order(&self, numbers: &mut Numbers, order: &Order) -> u32 {
         Fast.order(numbers, order)
     }
+    fn sheet_write(&self, numbers: &Numbers, buffer: &mut [u8]) -> usize {
+        Fast.sheet_write(numbers, buffer)
+    }
+    fn sheet_read(&self, numbers: &mut Numbers, bytes: &[u8]) -> u32 {
+        Fast.sheet_read(numbers, bytes)
+    }
 }

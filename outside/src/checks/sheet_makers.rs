@@ -1,0 +1,141 @@
+//! Fit units with numbers of every length, their sheets, and the units that a
+//! reading is given.
+
+use super::fitness::spoilt;
+use super::units::{kind, Kind, Sets};
+use crate::random::Random;
+use crate::reference::{house_set, WORD_MAX, WORD_MIN};
+use crate::unit::sheet::{exact, SHEET};
+use crate::unit::{cleared, Numbers};
+
+/// What the numbers of a unit are like.
+#[derive(Clone, Copy)]
+enum Style {
+    /// As a cleared unit has them.
+    Cleared,
+    /// One digit.
+    Small,
+    /// Any count of digits, often the least or the most of that count.
+    Lengths,
+    /// At the ends of their ranges or beside them.
+    Ends,
+    /// Anywhere in their ranges.
+    Anywhere,
+    /// Each of another style.
+    Mixed,
+}
+
+const STYLES: [Style; 6] = [
+    Style::Cleared,
+    Style::Small,
+    Style::Lengths,
+    Style::Ends,
+    Style::Anywhere,
+    Style::Mixed,
+];
+
+/// A number of any count of digits, brought into this range.
+fn any_length([low, high]: [i32; 2], random: &mut Random) -> i32 {
+    let least = random.pick(&[1, 10, 100, 1_000, 10_000, 100_000, 1_000_000, 10_000_000]);
+    let any = random.between(least, 10 * least - 1);
+    let size = random.pick(&[least - 1, least, any, any]);
+    let sign = if low < 0 { random.pick(&[1, -1]) } else { 1 };
+    (sign * size).clamp(low, high)
+}
+
+impl Style {
+    /// A number of this range.
+    fn number(self, [low, high]: [i32; 2], random: &mut Random) -> i32 {
+        match self {
+            Style::Cleared => 0,
+            Style::Small => random.between(-9, 9).clamp(low, high),
+            Style::Lengths => any_length([low, high], random),
+            Style::Ends => random
+                .pick(&[low, low + 1, high - 1, high])
+                .clamp(low, high),
+            Style::Anywhere => random.between(low, high),
+            Style::Mixed => {
+                let style = random.pick(&STYLES[..5]);
+                style.number([low, high], random)
+            }
+        }
+    }
+}
+
+/// The range of a number of this kind; that of G goes by the B before it.
+fn range(kind: Kind, b: i32) -> [i32; 2] {
+    match kind {
+        Kind::Volume | Kind::Coefficient(0) => [0, WORD_MAX],
+        Kind::Coefficient(1) => [-4_194_303, 4_194_303],
+        Kind::Coefficient(_) => [-4_194_303 - b, 4_194_303 + b],
+        Kind::Flag => [0, 1],
+        Kind::Input | Kind::Strip(_) => [WORD_MIN, WORD_MAX],
+    }
+}
+
+/// What sheets are made with.
+pub struct SheetMaker {
+    pub random: Random,
+    sets: Sets,
+    given: Vec<Numbers>,
+    bytes: Vec<u8>,
+}
+
+impl SheetMaker {
+    pub fn new(seed: u64) -> SheetMaker {
+        let mut maker = SheetMaker {
+            random: Random::new(seed),
+            sets: Sets::all(),
+            given: vec![[-1; 118], [i32::MIN; 118], [i32::MAX; 118]],
+            bytes: Vec::new(),
+        };
+        let fit = [3, 4, 5].map(|turn| maker.unit(turn));
+        let unfit = fit.map(|numbers| spoilt(&numbers, &mut maker.random));
+        let anything = [(); 118].map(|()| maker.random.any_i32());
+        maker.given.extend(fit);
+        maker.given.extend(unfit);
+        maker.given.extend([anything, cleared(&house_set())]);
+        maker.bytes = (0..20_000).map(|_| maker.random.draw() as u8).collect();
+        maker
+    }
+
+    /// A fit unit, by turns of each style.
+    pub fn unit(&mut self, turn: u64) -> Numbers {
+        let style = STYLES[turn as usize % STYLES.len()];
+        if matches!(style, Style::Cleared) {
+            return cleared(&self.sets.draw(turn / 6, &mut self.random));
+        }
+        let mut numbers = [0; 118];
+        for place in 0..118 {
+            let kind = kind(place);
+            let before = if place == 0 { 0 } else { numbers[place - 1] };
+            let number = style.number(range(kind, before), &mut self.random);
+            let mask = if kind == Kind::Input { -256 } else { -1 };
+            numbers[place] = number & mask;
+        }
+        numbers
+    }
+
+    /// The sheet of such a unit.
+    pub fn sheet(&mut self, turn: u64) -> Vec<u8> {
+        sheet_of(&self.unit(turn))
+    }
+
+    /// A unit to read into: fit, unfit in some numbers or in all.
+    pub fn given(&mut self) -> Numbers {
+        self.random.pick(&self.given)
+    }
+
+    /// Up to 10,000 bytes.
+    pub fn bytes(&mut self, count: usize) -> Vec<u8> {
+        let begin = self.random.below(10_000) as usize;
+        self.bytes[begin..begin + count].to_vec()
+    }
+}
+
+/// The sheet of a fit unit.
+pub fn sheet_of(numbers: &Numbers) -> Vec<u8> {
+    let mut sheet = vec![0; SHEET];
+    assert_eq!(exact::write(numbers, &mut sheet), SHEET, "a fit unit");
+    sheet
+}

@@ -1,0 +1,145 @@
+//! The plain meaning of a sheet: a field is a number as it is formatted, and a
+//! sheet is read from its first byte on.
+
+use super::{BADLY_WRITTEN, FIELD, LETTER_OR_END, LINE_FEED, NOT_A_SHEET, OUTSIDE, SHEET};
+use crate::reference::{band_refusal, is_word, ACCEPTED};
+use crate::unit::{exact::fit, Level, Numbers, Unit};
+use std::fmt::Write;
+
+/// "each a letter, fields of nine columns with decimal numbers right-justified
+/// in blanks, and a line feed".
+fn write_line(text: &mut String, letter: char, numbers: &[i32]) {
+    text.push(letter);
+    for number in numbers {
+        write!(text, "{number:>9}").expect("a string takes all");
+    }
+    text.push('\n');
+}
+
+/// "In order: V (volume, target); ten C (A, B, G); L (x1, x2, flag); ten S (y1,
+/// y2, gain, target); R as L; ten S."
+fn text(unit: &Unit) -> String {
+    let mut text = String::with_capacity(SHEET);
+    let Level { present, target } = unit.volume;
+    write_line(&mut text, 'V', &[present, target]);
+    for band in &unit.bands {
+        write_line(&mut text, 'C', &[band.a, band.b, band.g]);
+    }
+    for (letter, side) in ['L', 'R'].into_iter().zip(&unit.sides) {
+        write_line(&mut text, letter, &[side.x1, side.x2, side.flag]);
+        for strip in &side.strips {
+            let Level { present, target } = strip.gain;
+            write_line(&mut text, 'S', &[strip.y1, strip.y2, present, target]);
+        }
+    }
+    text
+}
+
+/// Writes the sheet to the front of the buffer and gives its length; "from a
+/// shorter buffer, or for an unfit unit", 0, "and writes nothing. Bytes behind
+/// the sheet keep their contents."
+pub fn write(numbers: &Numbers, buffer: &mut [u8]) -> usize {
+    if buffer.len() < SHEET || !fit(numbers) {
+        return 0;
+    }
+    let text = text(&Unit::from_numbers(numbers));
+    buffer[..SHEET].copy_from_slice(text.as_bytes());
+    SHEET
+}
+
+/// "No leading zeros, no plus, minus only before a number that isn't 0": behind
+/// its blanks a field holds just what its number formats to.
+fn parsed(field: &[u8]) -> Option<i32> {
+    let text = std::str::from_utf8(field).ok()?.trim_start_matches(' ');
+    let number: i32 = text.parse().ok()?;
+    (number.to_string() == text).then_some(number)
+}
+
+/// Whether a number is inside its range.
+type Range = fn(i32) -> bool;
+
+/// "the volume V is 0 to 8,388,607", and its target too.
+const VOLUME: Range = |number| (0..=8_388_607).contains(&number);
+/// "x1 and x2 are words and multiples of 256; a flag is 0 or 1."
+const INPUT: Range = |number| is_word(number) && number % 256 == 0;
+const FLAG: Range = |number| number == 0 || number == 1;
+/// Results, gains and targets.
+const WORD: Range = is_word;
+
+/// What is left of a sheet, and the numbers read so far.
+struct Reading<'a> {
+    rest: &'a [u8],
+    numbers: Vec<i32>,
+}
+
+impl Reading<'_> {
+    fn byte(&mut self, wanted: u8) -> Result<(), u32> {
+        let (byte, rest) = self.rest.split_first().expect("1,128 bytes");
+        self.rest = rest;
+        (*byte == wanted).then_some(()).ok_or(LETTER_OR_END)
+    }
+
+    fn field(&mut self) -> Result<i32, u32> {
+        let (field, rest) = self.rest.split_at(FIELD);
+        self.rest = rest;
+        parsed(field).ok_or(BADLY_WRITTEN)
+    }
+
+    /// A line whose numbers have these ranges.
+    fn line(&mut self, letter: u8, ranges: &[Range]) -> Result<(), u32> {
+        self.byte(letter)?;
+        for inside in ranges {
+            let number = self.field()?;
+            if !inside(number) {
+                return Err(OUTSIDE);
+            }
+            self.numbers.push(number);
+        }
+        self.byte(LINE_FEED)
+    }
+
+    /// "a C line tests 8 to 10 after its three fields, in place of 14 and ahead
+    /// of its line end."
+    fn band(&mut self) -> Result<(), u32> {
+        self.byte(b'C')?;
+        let [a, b, g] = [self.field()?, self.field()?, self.field()?];
+        let refusal = band_refusal(a, b, g);
+        if refusal != ACCEPTED {
+            return Err(refusal);
+        }
+        self.numbers.extend([a, b, g]);
+        self.byte(LINE_FEED)
+    }
+}
+
+/// The numbers of a sheet, or its refusal.
+fn sheet(bytes: &[u8]) -> Result<Vec<i32>, u32> {
+    if bytes.len() != SHEET {
+        return Err(NOT_A_SHEET);
+    }
+    let (rest, numbers) = (bytes, Vec::with_capacity(118));
+    let mut reading = Reading { rest, numbers };
+    reading.line(b'V', &[VOLUME; 2])?;
+    for _ in 0..10 {
+        reading.band()?;
+    }
+    for letter in [b'L', b'R'] {
+        reading.line(letter, &[INPUT, INPUT, FLAG])?;
+        for _ in 0..10 {
+            reading.line(b'S', &[WORD; 4])?;
+        }
+    }
+    Ok(reading.numbers)
+}
+
+/// Reads a sheet into the numbers. After a refusal "The given unit comes back,
+/// unexamined."
+pub fn read(numbers: &mut Numbers, bytes: &[u8]) -> u32 {
+    match sheet(bytes) {
+        Ok(read) => {
+            numbers.copy_from_slice(&read);
+            ACCEPTED
+        }
+        Err(refusal) => refusal,
+    }
+}
