@@ -6,9 +6,7 @@ use crate::reference::{
     band_refusal, exact, fast, house_set, is_word, pack, Section, ACCEPTED, NO_WORD, REFUSED_A,
     REFUSED_B, REFUSED_G, TABLE_1, WORD_MAX, WORD_MIN,
 };
-use crate::subject::{Fast, Subject};
-use crate::unit::orders::Order;
-use crate::unit::Numbers;
+use crate::subject::Altered;
 
 /// What is wrong.
 #[derive(Clone, Copy, PartialEq)]
@@ -148,7 +146,7 @@ impl Fault {
     }
 }
 
-impl Subject for Fault {
+impl Altered for Fault {
     fn nearest(&self, v: i64, k: u32) -> i64 {
         let wide = i128::from(v);
         match self {
@@ -203,27 +201,5 @@ impl Subject for Fault {
         let (y, remembered, limited) = self.limited(self.rounded(section, x));
         *section = [a, b, g, x, x1, remembered, y1];
         pack(ACCEPTED, limited, y)
-    }
-
-    fn level_moved(&self, present: i32, target: i32, slope: u32) -> i32 {
-        Fast.level_moved(present, target, slope)
-    }
-    fn load(&self, numbers: &mut Numbers, set: &[i32]) -> u32 {
-        Fast.load(numbers, set)
-    }
-    fn unit_fit(&self, numbers: &Numbers) -> u32 {
-        Fast.unit_fit(numbers)
-    }
-    fn block(&self, numbers: &mut Numbers, input: &[u8], output: &mut [u8]) -> u32 {
-        Fast.block(numbers, input, output)
-    }
-    fn order(&self, numbers: &mut Numbers, order: &Order) -> u32 {
-        Fast.order(numbers, order)
-    }
-    fn sheet_write(&self, numbers: &Numbers, buffer: &mut [u8]) -> usize {
-        Fast.sheet_write(numbers, buffer)
-    }
-    fn sheet_read(&self, numbers: &mut Numbers, bytes: &[u8]) -> u32 {
-        Fast.sheet_read(numbers, bytes)
     }
 }

@@ -1,8 +1,9 @@
 //! What each wrong desk does.
 
 use super::Fault;
-use crate::reference::{Section, ACCEPTED};
-use crate::subject::{Fast, Subject};
+use crate::reference::ACCEPTED;
+use crate::subject::Altered;
+use crate::unit::fast::fit;
 use crate::unit::orders::{fast, Order, Setting, BOTH, FACTOR_NOT_FINITE, FACTOR_OUTSIDE};
 use crate::unit::orders::{NO_SIDE_AND_BAND, POSITION_OVER_31, VOLUME_BAND};
 use crate::unit::{Numbers, UNFIT};
@@ -73,7 +74,7 @@ impl Fault {
     /// The refusals with that of the unit among them.
     fn unit_refusal(self, numbers: &Numbers, order: &Order) -> u32 {
         let refusal = self.refusal(order);
-        let fit = Fast.unit_fit(numbers) == 1;
+        let fit = fit(numbers);
         match self {
             _ if fit => refusal,
             Fault::Test14Last if refusal != ACCEPTED => refusal,
@@ -93,7 +94,7 @@ fn set_present(numbers: &mut Numbers, order: &Order) {
     }
 }
 
-impl Subject for Fault {
+impl Altered for Fault {
     fn order(&self, numbers: &mut Numbers, order: &Order) -> u32 {
         let taken = self.taken(order);
         let refusal = self.unit_refusal(numbers, &taken);
@@ -106,39 +107,5 @@ impl Subject for Fault {
             set_present(numbers, &taken);
         }
         refusal
-    }
-
-    fn nearest(&self, v: i64, k: u32) -> i64 {
-        Fast.nearest(v, k)
-    }
-    fn limit(&self, v: i64, low: i64, high: i64) -> i64 {
-        Fast.limit(v, low, high)
-    }
-    fn band_refusal(&self, a: i32, b: i32, g: i32) -> u32 {
-        Fast.band_refusal(a, b, g)
-    }
-    fn house_set(&self) -> [i32; 30] {
-        Fast.house_set()
-    }
-    fn section_step(&self, section: &mut Section, x: i32) -> i64 {
-        Fast.section_step(section, x)
-    }
-    fn level_moved(&self, present: i32, target: i32, slope: u32) -> i32 {
-        Fast.level_moved(present, target, slope)
-    }
-    fn load(&self, numbers: &mut Numbers, set: &[i32]) -> u32 {
-        Fast.load(numbers, set)
-    }
-    fn unit_fit(&self, numbers: &Numbers) -> u32 {
-        Fast.unit_fit(numbers)
-    }
-    fn block(&self, numbers: &mut Numbers, input: &[u8], output: &mut [u8]) -> u32 {
-        Fast.block(numbers, input, output)
-    }
-    fn sheet_write(&self, numbers: &Numbers, buffer: &mut [u8]) -> usize {
-        Fast.sheet_write(numbers, buffer)
-    }
-    fn sheet_read(&self, numbers: &mut Numbers, bytes: &[u8]) -> u32 {
-        Fast.sheet_read(numbers, bytes)
     }
 }

@@ -2,9 +2,9 @@
 
 use super::Fault;
 use crate::reference::{fast, house_set, Section, ACCEPTED, WORD_MAX, WORD_MIN};
-use crate::subject::{Fast, Subject};
+use crate::subject::Altered;
 use crate::unit::exact::level_moved;
-use crate::unit::orders::Order;
+use crate::unit::fast::fit;
 use crate::unit::{self, cleared, Numbers, Side, Unit, LEFT, RIGHT};
 use crate::unit::{GAIN_SLOPE, OUTPUT_TOO_SHORT, PART_OF_A_FRAME, UNFIT, VOLUME_SLOPE};
 
@@ -213,7 +213,7 @@ impl Fault {
     }
 }
 
-impl Subject for Fault {
+impl Altered for Fault {
     fn level_moved(&self, present: i32, target: i32, slope: u32) -> i32 {
         if *self == Fault::LevelPastTarget && present != target {
             let step = i64::from(slope) * i64::from((target > present) as i8 * 2 - 1);
@@ -250,7 +250,7 @@ impl Subject for Fault {
                 strip.gain.target = 0;
             }
         }
-        Fast.unit_fit(&unit.to_numbers())
+        fit(&unit.to_numbers()).into()
     }
 
     fn block(&self, numbers: &mut Numbers, input: &[u8], output: &mut [u8]) -> u32 {
@@ -266,30 +266,5 @@ impl Subject for Fault {
             _ => {}
         }
         refusal
-    }
-
-    fn nearest(&self, v: i64, k: u32) -> i64 {
-        Fast.nearest(v, k)
-    }
-    fn limit(&self, v: i64, low: i64, high: i64) -> i64 {
-        Fast.limit(v, low, high)
-    }
-    fn band_refusal(&self, a: i32, b: i32, g: i32) -> u32 {
-        Fast.band_refusal(a, b, g)
-    }
-    fn house_set(&self) -> [i32; 30] {
-        house_set()
-    }
-    fn section_step(&self, section: &mut Section, x: i32) -> i64 {
-        Fast.section_step(section, x)
-    }
-    fn order(&self, numbers: &mut Numbers, order: &Order) -> u32 {
-        Fast.order(numbers, order)
-    }
-    fn sheet_write(&self, numbers: &Numbers, buffer: &mut [u8]) -> usize {
-        Fast.sheet_write(numbers, buffer)
-    }
-    fn sheet_read(&self, numbers: &mut Numbers, bytes: &[u8]) -> u32 {
-        Fast.sheet_read(numbers, bytes)
     }
 }
