@@ -15,10 +15,9 @@ use outside::unit::{cleared, Numbers};
 use super::{fold, race, ROUNDS};
 
 const SEED: u64 = 0xF0DD_00C0;
-/// So many units are taken in turn that the processor's branch prediction does
-/// not learn their sheets: a sheet is read once.
+/// So many units are taken in turn, since a sheet is read once.
 const UNITS: usize = 1_024;
-/// So few that it does. Printed beside the others, with no limit.
+/// With so few both are faster. Printed beside the others, with no limit.
 const FEW: usize = 64;
 const CALLS: usize = 65_536;
 

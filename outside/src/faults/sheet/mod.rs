@@ -7,7 +7,8 @@ mod write;
 
 use super::{impostor, Impostor};
 use crate::checks::groups::{
-    DAMAGED_SHEETS, SHEETS, SHEET_FIELDS, SHEET_FIGURES, SHEET_LENGTHS, SHEET_LINES, SHEET_LISTS,
+    DAMAGED_SHEETS, SHEETS, SHEET_FIELDS, SHEET_FIGURES, SHEET_GROUPS, SHEET_LENGTHS, SHEET_LINES,
+    SHEET_LISTS,
 };
 
 /// What is wrong.
@@ -125,28 +126,12 @@ pub const IMPOSTORS: [Impostor; 44] = [
     impostor(
         &Fault::AllBadlyWritten,
         "all sheets called badly written",
-        &[
-            SHEETS,
-            SHEET_FIGURES,
-            SHEET_FIELDS,
-            SHEET_LINES,
-            DAMAGED_SHEETS,
-            SHEET_LENGTHS,
-            SHEET_LISTS,
-        ],
+        &SHEET_GROUPS,
     ),
     impostor(
         &Fault::AllAccepted,
         "all sheets accepted and none read",
-        &[
-            SHEETS,
-            SHEET_FIGURES,
-            SHEET_FIELDS,
-            SHEET_LINES,
-            DAMAGED_SHEETS,
-            SHEET_LENGTHS,
-            SHEET_LISTS,
-        ],
+        &SHEET_GROUPS,
     ),
     impostor(
         &Fault::Test14Before13,
@@ -294,14 +279,6 @@ pub const IMPOSTORS: [Impostor; 44] = [
     impostor(
         &Fault::GivenExamined,
         "14 for an unfit given unit",
-        &[
-            SHEETS,
-            SHEET_FIGURES,
-            SHEET_FIELDS,
-            SHEET_LINES,
-            DAMAGED_SHEETS,
-            SHEET_LENGTHS,
-            SHEET_LISTS,
-        ],
+        &SHEET_GROUPS,
     ),
 ];
