@@ -178,8 +178,7 @@ pub extern "C" fn fonddrys_order_mute(numbers: &mut [i32; 118], side: u32, band:
 pub extern "C" fn fonddrys_sheet_write(numbers: &[i32; 118], buffer: &mut [u8]) -> usize
     ensures { λ r. ⌜ SheetWritten (now (numbers .entry)) (now (buffer .entry)) r (now (buffer .exit)) ⌝ }
 {
-    let unit = numbers::unit_of(numbers);
-    writing::fill(unit, buffer)
+    writing::fill_numbers(numbers, buffer)
 }
 
 // Reads a strip sheet: the lent numbers are then those of the unit that it carries. 0 for an accepted sheet, else the number of its
@@ -188,11 +187,13 @@ pub extern "C" fn fonddrys_sheet_write(numbers: &[i32; 118], buffer: &mut [u8]) 
 pub extern "C" fn fonddrys_sheet_read(numbers: &mut [i32; 118], bytes: &[u8]) -> u32
     ensures { λ r. ⌜ SheetDone (now (numbers .entry)) (now (bytes .entry)) r (now (numbers .exit)) ⌝ }
 {
-    let given = numbers::unit_of(numbers);
-    let answer = reading::read(bytes, given);
-    let found = answer.verdict;
-    let carried = answer.unit;
-    store(numbers, found, carried)
+    let mut carried = [0i32; 118];
+    let found = reading::read_numbers(bytes, &mut carried);
+    if !refusals::accepted(found) {
+        return refusals::number(found);
+    }
+    *numbers = carried;
+    refusals::number(found)
 }
 
 // Gives an order to the unit whose numbers are lent.

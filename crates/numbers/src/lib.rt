@@ -17,9 +17,9 @@ use unit::Channel;
 use unit::Unit;
 
 // Where the numbers of the left channel and of the right channel begin.
-const LEFT: usize = 32;
+pub const LEFT: usize = 32;
 
-const RIGHT: usize = 75;
+pub const RIGHT: usize = 75;
 
 // The unit that the numbers stand for.
 pub fn unit_of(numbers: &[i32; 118]) -> Unit

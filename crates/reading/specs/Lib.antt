@@ -1,2 +1,3 @@
 -- Reading the strip sheet.
 pub mod Reading
+pub mod Parts

@@ -12,29 +12,27 @@ use Rattle.refusals.specs.declared.Verdict.{Verdict}
 use Rattle.refusals.specs.declared.Verdict.the-variants.{Accepted, SheetLength, LineMark, FieldForm, Unfit}
 use Rattle.unit.specs.declared.Unit.{Unit}
 use Rattle.numbers.specs.Layout.{unitOf}
-use Rattle.fields.specs.Fields.{fieldSize, fieldOf}
-use Rattle.fields.specs.declared.Field.{Field}
+use Rattle.fields.specs.Fields.{fieldSize, numberIn, isField}
 use Rattle.sheet.specs.declared.Line.{Line}
 use Rattle.sheet.specs.Lines.{sheetSize, lineFeed, lines, letterOf, rangesOf, together, fieldCount, lineSize}
 use Rattle.reading.specs.declared.SheetRead.{SheetRead}
 
 -- ---- a field of this range: "13 field badly written, 14 number outside its range"
 
-abbrev pub fieldVerdict : (ℤ → Bool) → Field → Verdict
-fieldVerdict range f = unless (f .good) FieldForm (unless (range (f .number)) Unfit Accepted)
+abbrev pub fieldVerdict : (ℤ → Bool) → List ℕ → Verdict
+fieldVerdict range columns = unless (isField columns) FieldForm (unless (range (numberIn columns)) Unfit Accepted)
 
 -- ---- some fields, in the bytes from the first of them on
 
 -- the first refusal of the fields of these ranges
 abbrev pub fieldsVerdict : List (ℤ → Bool) → List ℕ → Verdict
 fieldsVerdict [] bytes = Accepted
-fieldsVerdict (range ∷ ranges) bytes =
-    firstOf (fieldVerdict range (fieldOf (take fieldSize bytes))) (fieldsVerdict ranges (drop fieldSize bytes))
+fieldsVerdict (range ∷ ranges) bytes = firstOf (fieldVerdict range (take fieldSize bytes)) (fieldsVerdict ranges (drop fieldSize bytes))
 
 -- the numbers of so many fields
 abbrev pub fieldNumbers : ℕ → List ℕ → List ℤ
 fieldNumbers zero bytes = []
-fieldNumbers (suc n) bytes = fieldOf (take fieldSize bytes) .number ∷ fieldNumbers n (drop fieldSize bytes)
+fieldNumbers (suc n) bytes = numberIn (take fieldSize bytes) ∷ fieldNumbers n (drop fieldSize bytes)
 
 -- ---- a line, in the bytes from its letter on
 

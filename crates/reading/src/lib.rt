@@ -1,19 +1,26 @@
 // Reading the strip sheet: the unit that it carries, or the first refusal and the given unit.
+// A routine that reads a part of the sheet stops at the first refusal; it has then stored the numbers ahead of it.
 ghost use mathlib.Core.Path.{_≡_};
-ghost use Prim.Native.Nat.{_+_, _*_, _≤_, _<_};
-ghost use lib.ListN.{length, getD, take, drop};
-ghost use lib.Seq.{sets};
-ghost use Rattle.numbers.specs.Layout.{unitSize};
-ghost use Rattle.refusals.specs.Numbers.{firstOf};
+ghost use Prim.Native.Nat.{_+_, _*_, _≤_};
+ghost use lib.ListN.{length, take, drop, replicate};
+ghost use Rattle.rounding.specs.Rounding.{within};
 ghost use Rattle.bands.specs.Bands.{bandVerdict, bandAt};
+ghost use Rattle.unit.specs.Cleared.{bandCount};
+ghost use Rattle.unit.specs.Fit.{isInput};
+ghost use Rattle.numbers.specs.Layout.{unitSize, bandsPlace};
 ghost use Rattle.fields.specs.Fields.{fieldSize};
-ghost use Rattle.sheet.specs.Lines.{sheetSize, lines, anyNumber, rangesOf, together, fieldCount, lineSize};
-ghost use Rattle.reading.specs.Reading.{fieldVerdict, fieldsVerdict, fieldNumbers, markVerdict, lineNumbers, lineVerdict, linesVerdict, numbersIn, sheetRead};
+ghost use Rattle.sheet.specs.Lines.{sheetSize, lines, channelRanges};
+ghost use Rattle.reading.specs.Reading.{markVerdict, sheetRead};
+ghost use Rattle.reading.specs.Parts.{fieldPart, fieldsPart, plainPart, linePart, linesPart, channelPart, sheetPart, Stored};
 use bands::Band;
-use fields::Field;
 use refusals::Verdict;
 use sheet::Line;
 use unit::Unit;
+
+// The numbers of nine digits: a number of a C line has no range by itself.
+const LEAST: i64 = -999_999_999;
+
+const MOST: i64 = 999_999_999;
 
 // What reading a sheet gives.
 pub struct SheetRead {
@@ -25,14 +32,8 @@ pub struct SheetRead {
 pub fn read(bytes: &[u8], given: Unit) -> SheetRead
     ensures { λ r. ⌜ r ≡ sheetRead (now (bytes .entry)) given ⌝ }
 {
-    if bytes.len() != sheet::SHEET_SIZE {
-        return SheetRead {
-            verdict: Verdict::SheetLength,
-            unit: given,
-        };
-    }
     let mut numbers = [0i32; 118];
-    let verdict = read_lines(bytes, &mut numbers);
+    let verdict = read_numbers(bytes, &mut numbers);
     if refusals::accepted(verdict) {
         let unit = numbers::unit_of(&numbers);
         return SheetRead { verdict, unit };
@@ -43,49 +44,225 @@ pub fn read(bytes: &[u8], given: Unit) -> SheetRead
     }
 }
 
-// The first refusal of the lines; the numbers are those of all fields, in order.
+// Reads a sheet into a unit's numbers: 11 for a wrong length, then the first refusal from the first byte on.
+pub fn read_numbers(bytes: &[u8], numbers: &mut [i32; 118]) -> Verdict
+    requires { ⌜ length (now numbers) ≡ unitSize ⌝ }
+    ensures { λ r. ⌜ Stored (sheetPart (now (bytes .entry))) (now (numbers .entry)) 0 r (now (numbers .exit)) ⌝ }
+{
+    if bytes.len() != sheet::SHEET_SIZE {
+        return Verdict::SheetLength;
+    }
+    read_lines(bytes, numbers)
+}
+
+// Reads all lines: the V line, ten C lines, then the lines of the left and of the right channel.
 fn read_lines(bytes: &[u8], numbers: &mut [i32; 118]) -> Verdict
     requires { ⌜ (length (now bytes) ≡ sheetSize) × (length (now numbers) ≡ unitSize) ⌝ }
-    ensures { λ r. ⌜ (r ≡ linesVerdict lines (now (bytes .entry))) × (now (numbers .exit) ≡ sets (now (numbers .entry)) 0 (numbersIn lines (now (bytes .entry)))) ⌝ }
+    ensures { λ r. ⌜ Stored (linesPart lines (now (bytes .entry))) (now (numbers .entry)) 0 r (now (numbers .exit)) ⌝ }
 {
-    let mut verdict = Verdict::Accepted;
-    let mut at = 0;
-    let mut place = 0;
+    let volume = read_line(bytes, 0, b'V', 2, 0, bands::WORD_HIGH, numbers, 0);
+    if !refusals::accepted(volume) {
+        return volume;
+    }
+    let bands = read_bands(bytes, numbers);
+    if !refusals::accepted(bands) {
+        return bands;
+    }
+    let left = read_channel(bytes, sheet::LEFT_AT, b'L', numbers, numbers::LEFT);
+    if !refusals::accepted(left) {
+        return left;
+    }
+    read_channel(bytes, sheet::RIGHT_AT, b'R', numbers, numbers::RIGHT)
+}
+
+// Reads the ten C lines.
+fn read_bands(bytes: &[u8], numbers: &mut [i32; 118]) -> Verdict
+    requires { ⌜ (length (now bytes) ≡ sheetSize) × (length (now numbers) ≡ unitSize) ⌝ }
+    ensures { λ r. ⌜ Stored (linesPart (replicate bandCount Line.Band) (drop 20 (now (bytes .entry)))) (now (numbers .entry)) bandsPlace r (now (numbers .exit)) ⌝ }
+{
     let mut i = 0;
-    while i < sheet::LINE_COUNT {
-        let line = sheet::line_at(i);
-        let count = sheet::field_count(line);
-        let next = read_line(bytes, at, line, numbers, place);
-        verdict = first(verdict, next);
-        at += fields::FIELD_SIZE * count + 2;
-        place += count;
+    while i < 10 {
+        let at = sheet::BAND_LINE * i + sheet::BANDS_AT;
+        let found = read_band(bytes, at, numbers, 3 * i + 2);
+        if !refusals::accepted(found) {
+            return found;
+        }
         i += 1;
     }
-    verdict
+    Verdict::Accepted
 }
 
-// The first refusal of the line whose letter is at `at`; its numbers are stored from `place` on.
-fn read_line(bytes: &[u8], at: usize, line: Line, numbers: &mut [i32; 118], place: usize) -> Verdict
-    requires { ⌜ (at + lineSize line ≤ length (now bytes)) × (length (now numbers) ≡ unitSize) × (place + fieldCount line ≤ unitSize) ⌝ }
-    ensures { λ r. ⌜ (r ≡ lineVerdict line (drop at (now (bytes .entry)))) × (now (numbers .exit) ≡ sets (now (numbers .entry)) place (lineNumbers line (drop at (now (bytes .entry))))) ⌝ }
+// Reads a C line from place at on: 8 to 10 stand behind its fields and ahead of its line end.
+fn read_band(bytes: &[u8], at: usize, numbers: &mut [i32; 118], place: usize) -> Verdict
+    requires { ⌜ (at + 29 ≤ length (now bytes)) × (length (now numbers) ≡ unitSize) × (place + 3 ≤ unitSize) ⌝ }
+    ensures { λ r. ⌜ Stored (linePart Line.Band (drop at (now (bytes .entry)))) (now (numbers .entry)) place r (now (numbers .exit)) ⌝ }
 {
-    let count = sheet::field_count(line);
-    let letter = sheet::letter(line);
-    let front = check_mark(bytes[at], letter);
-    let middle = read_fields(bytes, at + 1, line, numbers, place);
-    let joint = check_together(line, numbers, place);
-    let end = check_mark(bytes[at + 1 + fields::FIELD_SIZE * count], sheet::LINE_FEED);
-    first(front, first(middle, first(joint, end)))
-}
-
-// The first of two answers, or the second where the first is accepted.
-fn first(earlier: Verdict, later: Verdict) -> Verdict
-    ensures { λ r. ⌜ r ≡ firstOf earlier later ⌝ }
-{
-    if refusals::accepted(earlier) {
-        return later;
+    let front = check_mark(bytes[at], b'C');
+    if !refusals::accepted(front) {
+        return front;
     }
-    earlier
+    let middle = read_fields(bytes, at + 1, 3, LEAST, MOST, numbers, place);
+    if !refusals::accepted(middle) {
+        return middle;
+    }
+    let joint = check_band_at(numbers, place);
+    if !refusals::accepted(joint) {
+        return joint;
+    }
+    check_mark(bytes[at + 28], sheet::LINE_FEED)
+}
+
+// Reads the lines of a channel from place at on: an L or an R line, and ten S lines.
+fn read_channel(
+    bytes: &[u8],
+    at: usize,
+    letter: u8,
+    numbers: &mut [i32; 118],
+    place: usize,
+) -> Verdict
+    requires { ⌜ (at + 409 ≤ length (now bytes)) × (length (now numbers) ≡ unitSize) × (place + 43 ≤ unitSize) ⌝ }
+    ensures { λ r. ⌜ Stored (channelPart letter (drop at (now (bytes .entry)))) (now (numbers .entry)) place r (now (numbers .exit)) ⌝ }
+{
+    let head = read_head(bytes, at, letter, numbers, place);
+    if !refusals::accepted(head) {
+        return head;
+    }
+    read_sections(bytes, at + 29, numbers, place + 3)
+}
+
+// Reads an L or an R line from place at on.
+fn read_head(bytes: &[u8], at: usize, letter: u8, numbers: &mut [i32; 118], place: usize) -> Verdict
+    requires { ⌜ (at + 29 ≤ length (now bytes)) × (length (now numbers) ≡ unitSize) × (place + 3 ≤ unitSize) ⌝ }
+    ensures { λ r. ⌜ Stored (plainPart letter channelRanges (drop at (now (bytes .entry)))) (now (numbers .entry)) place r (now (numbers .exit)) ⌝ }
+{
+    let front = check_mark(bytes[at], letter);
+    if !refusals::accepted(front) {
+        return front;
+    }
+    let middle = read_state(bytes, at + 1, numbers, place);
+    if !refusals::accepted(middle) {
+        return middle;
+    }
+    check_mark(bytes[at + 28], sheet::LINE_FEED)
+}
+
+// Reads the fields of an L or an R line from place at on: two inputs and a flag.
+fn read_state(bytes: &[u8], at: usize, numbers: &mut [i32; 118], place: usize) -> Verdict
+    requires { ⌜ (at + 27 ≤ length (now bytes)) × (length (now numbers) ≡ unitSize) × (place + 3 ≤ unitSize) ⌝ }
+    ensures { λ r. ⌜ Stored (fieldsPart channelRanges (drop at (now (bytes .entry)))) (now (numbers .entry)) place r (now (numbers .exit)) ⌝ }
+{
+    let first = read_input(bytes, at, numbers, place);
+    if !refusals::accepted(first) {
+        return first;
+    }
+    let second = read_input(bytes, at + 9, numbers, place + 1);
+    if !refusals::accepted(second) {
+        return second;
+    }
+    read_fields(bytes, at + 18, 1, 0, 1, numbers, place + 2)
+}
+
+// Reads the field of an input from place at on.
+fn read_input(bytes: &[u8], at: usize, numbers: &mut [i32; 118], place: usize) -> Verdict
+    requires { ⌜ (at + fieldSize ≤ length (now bytes)) × (length (now numbers) ≡ unitSize) × (place + 1 ≤ unitSize) ⌝ }
+    ensures { λ r. ⌜ Stored (fieldPart isInput (take fieldSize (drop at (now (bytes .entry))))) (now (numbers .entry)) place r (now (numbers .exit)) ⌝ }
+{
+    let input = fields::read_field(bytes, at);
+    if input == fields::NO_NUMBER {
+        return Verdict::FieldForm;
+    }
+    if !fitness::input_fits(input as i64) {
+        return Verdict::Unfit;
+    }
+    numbers[place] = input;
+    Verdict::Accepted
+}
+
+// Reads the ten S lines from place at on.
+fn read_sections(bytes: &[u8], at: usize, numbers: &mut [i32; 118], place: usize) -> Verdict
+    requires { ⌜ (at + 380 ≤ length (now bytes)) × (length (now numbers) ≡ unitSize) × (place + 40 ≤ unitSize) ⌝ }
+    ensures { λ r. ⌜ Stored (linesPart (replicate bandCount Line.Section) (drop at (now (bytes .entry)))) (now (numbers .entry)) place r (now (numbers .exit)) ⌝ }
+{
+    let mut i = 0;
+    while i < 10 {
+        let start = sheet::SECTION_LINE * i + at;
+        let found = read_words(bytes, start, numbers, 4 * i + place);
+        if !refusals::accepted(found) {
+            return found;
+        }
+        i += 1;
+    }
+    Verdict::Accepted
+}
+
+// Reads an S line from place at on.
+fn read_words(bytes: &[u8], at: usize, numbers: &mut [i32; 118], place: usize) -> Verdict
+    requires { ⌜ (at + 38 ≤ length (now bytes)) × (length (now numbers) ≡ unitSize) × (place + 4 ≤ unitSize) ⌝ }
+    ensures { λ r. ⌜ Stored (linePart Line.Section (drop at (now (bytes .entry)))) (now (numbers .entry)) place r (now (numbers .exit)) ⌝ }
+{
+    read_line(
+        bytes,
+        at,
+        b'S',
+        4,
+        bands::WORD_LOW,
+        bands::WORD_HIGH,
+        numbers,
+        place,
+    )
+}
+
+// Reads a line from place at on: a letter, so many fields of one range, a line feed.
+fn read_line(
+    bytes: &[u8],
+    at: usize,
+    letter: u8,
+    count: usize,
+    low: i64,
+    high: i64,
+    numbers: &mut [i32; 118],
+    place: usize,
+) -> Verdict
+    requires { ⌜ (at + (fieldSize * count + 2) ≤ length (now bytes)) × (length (now numbers) ≡ unitSize) × (place + count ≤ unitSize) ⌝ }
+    ensures { λ r. ⌜ Stored (plainPart letter (replicate count (within low high)) (drop at (now (bytes .entry)))) (now (numbers .entry)) place r (now (numbers .exit)) ⌝ }
+{
+    let front = check_mark(bytes[at], letter);
+    if !refusals::accepted(front) {
+        return front;
+    }
+    let middle = read_fields(bytes, at + 1, count, low, high, numbers, place);
+    if !refusals::accepted(middle) {
+        return middle;
+    }
+    check_mark(bytes[at + fields::FIELD_SIZE * count + 1], sheet::LINE_FEED)
+}
+
+// Reads so many fields of one range from place at on: 13 for a badly written field, 14 for a number outside the range.
+fn read_fields(
+    bytes: &[u8],
+    at: usize,
+    count: usize,
+    low: i64,
+    high: i64,
+    numbers: &mut [i32; 118],
+    place: usize,
+) -> Verdict
+    requires { ⌜ (at + fieldSize * count ≤ length (now bytes)) × (length (now numbers) ≡ unitSize) × (place + count ≤ unitSize) ⌝ }
+    ensures { λ r. ⌜ Stored (fieldsPart (replicate count (within low high)) (drop at (now (bytes .entry)))) (now (numbers .entry)) place r (now (numbers .exit)) ⌝ }
+{
+    let mut i = 0;
+    while i < count {
+        let number = fields::read_field(bytes, at + fields::FIELD_SIZE * i);
+        if number == fields::NO_NUMBER {
+            return Verdict::FieldForm;
+        }
+        if !rounding::in_range(low, high, number as i64) {
+            return Verdict::Unfit;
+        }
+        numbers[place + i] = number;
+        i += 1;
+    }
+    Verdict::Accepted
 }
 
 // 12 where the byte is not the one wanted.
@@ -96,20 +273,6 @@ fn check_mark(byte: u8, wanted: u8) -> Verdict
         return Verdict::LineMark;
     }
     Verdict::Accepted
-}
-
-// 8 to 10 for the numbers of a C line, from `place` on.
-fn check_together(line: Line, numbers: &[i32; 118], place: usize) -> Verdict
-    requires { ⌜ (length (now numbers) ≡ unitSize) × (place + fieldCount line ≤ unitSize) ⌝ }
-    ensures { λ r. ⌜ r ≡ together line (take (fieldCount line) (drop place (now (numbers .entry)))) ⌝ }
-{
-    match line {
-        Line::Volume => Verdict::Accepted,
-        Line::Band => check_band_at(numbers, place),
-        Line::Left => Verdict::Accepted,
-        Line::Section => Verdict::Accepted,
-        Line::Right => Verdict::Accepted,
-    }
 }
 
 // 8 to 10 for the three numbers from `place` on.
@@ -123,68 +286,4 @@ fn check_band_at(numbers: &[i32; 118], place: usize) -> Verdict
         gamma: numbers[place + 2],
     };
     bands::check_band(band)
-}
-
-// The first refusal of the line's fields, the first of them at `at`; their numbers are stored from `place` on.
-fn read_fields(
-    bytes: &[u8],
-    at: usize,
-    line: Line,
-    numbers: &mut [i32; 118],
-    place: usize,
-) -> Verdict
-    requires { ⌜ (at + fieldSize * fieldCount line ≤ length (now bytes)) × (length (now numbers) ≡ unitSize) × (place + fieldCount line ≤ unitSize) ⌝ }
-    ensures { λ r. ⌜ (r ≡ fieldsVerdict (rangesOf line) (drop at (now (bytes .entry)))) × (now (numbers .exit) ≡ sets (now (numbers .entry)) place (fieldNumbers (fieldCount line) (drop at (now (bytes .entry))))) ⌝ }
-{
-    let count = sheet::field_count(line);
-    let mut verdict = Verdict::Accepted;
-    let mut i = 0;
-    while i < count {
-        let field = fields::read_field(bytes, at + fields::FIELD_SIZE * i);
-        let found = check_field(line, i, field);
-        verdict = first(verdict, found);
-        let number = field.number;
-        numbers[place + i] = number;
-        i += 1;
-    }
-    verdict
-}
-
-// 13 for a badly written field, 14 for a number outside the range of the line's field i.
-fn check_field(line: Line, i: usize, field: Field) -> Verdict
-    requires { ⌜ i < fieldCount line ⌝ }
-    ensures { λ r. ⌜ r ≡ fieldVerdict (getD (rangesOf line) i anyNumber) field ⌝ }
-{
-    if !field.good {
-        return Verdict::FieldForm;
-    }
-    if !is_in_range(line, i, field.number) {
-        return Verdict::Unfit;
-    }
-    Verdict::Accepted
-}
-
-// Whether a number is in the range of the line's field i.
-fn is_in_range(line: Line, i: usize, number: i32) -> bool
-    requires { ⌜ i < fieldCount line ⌝ }
-    ensures { λ r. ⌜ r ≡ getD (rangesOf line) i anyNumber number ⌝ }
-{
-    match line {
-        Line::Volume => rounding::in_range(0, bands::WORD_HIGH, number as i64),
-        Line::Band => true,
-        Line::Left => is_in_channel_range(i, number),
-        Line::Section => bands::is_word(number),
-        Line::Right => is_in_channel_range(i, number),
-    }
-}
-
-// The same for an L or an R line: two inputs, then a flag.
-fn is_in_channel_range(i: usize, number: i32) -> bool
-    requires { ⌜ i < 3 ⌝ }
-    ensures { λ r. ⌜ r ≡ getD (rangesOf Line.Left) i anyNumber number ⌝ }
-{
-    if i == 2 {
-        return rounding::in_range(0, 1, number as i64);
-    }
-    fitness::input_fits(number as i64)
 }

@@ -14,9 +14,8 @@ use Rattle.refusals.specs.declared.Verdict.{Verdict}
 use Rattle.refusals.specs.declared.Verdict.the-variants.{Accepted, LineMark, FieldForm, Unfit}
 use Rattle.refusals.proofs.Laws.{unless-accepted, first-both}
 use Rattle.numbers.specs.Layout.{joined}
-use Rattle.fields.specs.Fields.{fieldSize, field, fieldOf}
-use Rattle.fields.specs.declared.Field.{Field}
-use Rattle.fields.proofs.Laws.{good-again}
+use Rattle.fields.specs.Fields.{fieldSize, field, numberIn, isField}
+use Rattle.fields.proofs.Laws.{good-field}
 use Rattle.sheet.specs.declared.Line.{Line}
 use Rattle.sheet.specs.Lines.{lineFeed, letterOf, rangesOf, together, fieldCount, lineSize, sizeOf}
 use Rattle.writing.specs.Written.{lineBytes, written}
@@ -26,11 +25,11 @@ use Rattle.roundtrip.proofs.Passes.{InRanges, LinePasses, LinesPass, ra
 -- ---- a field, and a letter or line end
 
 -- an accepted field is well written, and its number is in its range
-field-accepted : (range : ℤ → Bool) (f : Field) → isAccepted (fieldVerdict range f) ≡ true → (f .good ≡ true) × (range (f .number) ≡ true)
-field-accepted range f e = (outer .0, unless-accepted (range (f .number)) Unfit Accepted (λ t. refl) (outer .1) .0)
+field-accepted : (range : ℤ → Bool) (w : List ℕ) → isAccepted (fieldVerdict range w) ≡ true → (isField w ≡ true) × (range (numberIn w) ≡ true)
+field-accepted range w e = (outer .0, unless-accepted (range (numberIn w)) Unfit Accepted (λ t. refl) (outer .1) .0)
   where
-    outer : (f .good ≡ true) × (isAccepted (unless (range (f .number)) Unfit Accepted) ≡ true)
-    outer = unless-accepted (f .good) FieldForm (unless (range (f .number)) Unfit Accepted) (λ t. refl) e
+    outer : (isField w ≡ true) × (isAccepted (unless (range (numberIn w)) Unfit Accepted) ≡ true)
+    outer = unless-accepted (isField w) FieldForm (unless (range (numberIn w)) Unfit Accepted) (λ t. refl) e
 
 -- an accepted letter or line end is the one wanted
 mark-accepted : (byte wanted : ℕ) → isAccepted (markVerdict byte wanted) ≡ true → byte ≡ wanted
@@ -51,24 +50,24 @@ module _ (range : ℤ → Bool) (ranges : List (ℤ → Bool)) (bytes : List ℕ
   size = omega arith
 
   -- one field more in front
-  told-more : (fieldOf columns .good ≡ true) × (range (fieldOf columns .number) ≡ true) → FieldsTold ranges (drop fieldSize bytes) → FieldsTold (range ∷ ranges) bytes
+  told-more : (isField columns ≡ true) × (range (numberIn columns) ≡ true) → FieldsTold ranges (drop fieldSize bytes) → FieldsTold (range ∷ ranges) bytes
   told-more first more =
       record {
         pass = (first .1, more .pass);
         again =
-            ap₂ _++_ (good-again columns (first .0)) (more .again)
+            ap₂ _++_ (good-field columns (first .0)) (more .again)
             ∙ sym (take-add fieldSize (fieldSize * length ranges) bytes)
             ∙ ap (λ (n : ℕ). take n bytes) size;
       }
 
-  both-accepted : isAccepted (fieldsVerdict (range ∷ ranges) bytes) ≡ true → (isAccepted (fieldVerdict range (fieldOf columns)) ≡ true) × (isAccepted (fieldsVerdict ranges (drop fieldSize bytes)) ≡ true)
-  both-accepted e = first-both (fieldVerdict range (fieldOf columns)) (fieldsVerdict ranges (drop fieldSize bytes)) e
+  both-accepted : isAccepted (fieldsVerdict (range ∷ ranges) bytes) ≡ true → (isAccepted (fieldVerdict range columns) ≡ true) × (isAccepted (fieldsVerdict ranges (drop fieldSize bytes)) ≡ true)
+  both-accepted e = first-both (fieldVerdict range columns) (fieldsVerdict ranges (drop fieldSize bytes)) e
 
 -- accepted fields: their numbers pass, and written again they are the bytes
 fields-accepted : (ranges : List (ℤ → Bool)) (bytes : List ℕ) → isAccepted (fieldsVerdict ranges bytes) ≡ true → FieldsTold ranges bytes
 fields-accepted [] bytes e = record { pass = tt; again = refl }
 fields-accepted (range ∷ ranges) bytes e =
-    told-more range ranges bytes (field-accepted range (fieldOf (take fieldSize bytes)) (both-accepted range ranges bytes e .0))
+    told-more range ranges bytes (field-accepted range (take fieldSize bytes) (both-accepted range ranges bytes e .0))
     (fields-accepted ranges (drop fieldSize bytes) (both-accepted range ranges bytes e .1))
 
 -- ---- a line

@@ -9,14 +9,12 @@ use lib.ListN.{length, getD, take, drop, take-append-drop, length-append}
 use lib.Seq.{take-at, drop-at, getD-at}
 use borrow.Author.Tests.{eq-eqb}
 use Rattle.refusals.specs.Numbers.{unless, firstOf}
-use Rattle.refusals.specs.declared.Verdict.{Verdict}
-use Rattle.refusals.specs.declared.Verdict.the-variants.{Accepted, LineMark, Unfit}
+use Rattle.refusals.specs.declared.Verdict.the-variants.{Accepted, LineMark, FieldForm, Unfit}
 use Rattle.refusals.proofs.Laws.{accepted-only}
 use Rattle.unit.specs.Lists.{Each}
 use Rattle.numbers.specs.Layout.{joined}
-use Rattle.fields.specs.Fields.{fieldSize, field, fieldOf}
-use Rattle.fields.specs.declared.Field.{Field}
-use Rattle.fields.proofs.Laws.{Short, field-length, field-read}
+use Rattle.fields.specs.Fields.{fieldSize, field, numberIn}
+use Rattle.fields.proofs.Laws.{Short, field-length, number-field, field-good}
 use Rattle.sheet.specs.declared.Line.{Line}
 use Rattle.sheet.specs.Lines.{lineFeed, letterOf, rangesOf, together, fieldCount, lineSize}
 use Rattle.writing.specs.Written.{lineBytes, written}
@@ -42,17 +40,19 @@ module _ (range : ℤ → Bool) (ranges : List (ℤ → Bool)) (n : ℤ) (number
   back-more passes short more =
       record {
         verdict =
-            ap₂ (λ (f : Field) (rest : List ℕ). firstOf (fieldVerdict range f) (fieldsVerdict ranges rest)) first rest
-            ∙ ap₂ (λ (t : Bool) (v : Verdict). firstOf (unless t Unfit Accepted) v) passes (more .verdict);
+            ap₂ (λ (w rest : List ℕ). firstOf (fieldVerdict range w) (fieldsVerdict ranges rest)) first rest
+            ∙ ap₂ firstOf field-passes (more .verdict);
         numbers-are =
-            ap₂ (λ (f : Field) (rest : List ℕ). f .number ∷ fieldNumbers (length ranges) rest) first rest
-            ∙ ap (λ (l : List ℤ). n ∷ l) (more .numbers-are);
+            ap₂ (λ (w rest : List ℕ). numberIn w ∷ fieldNumbers (length ranges) rest) first rest
+            ∙ ap₂ _∷_ (number-field n short) (more .numbers-are);
       }
     where
-      first : fieldOf (take fieldSize bytes) ≡ record { good = true; number = n }
-      first =
-          ap fieldOf (ap (take fieldSize) apart ∙ take-at (field n) (joined field numbers ++ behind) fieldSize (field-length n))
-          ∙ field-read n short
+      first : take fieldSize bytes ≡ field n
+      first = ap (take fieldSize) apart ∙ take-at (field n) (joined field numbers ++ behind) fieldSize (field-length n)
+
+      field-passes : fieldVerdict range (field n) ≡ Accepted
+      field-passes =
+          ap₂ (λ (s t : Bool). unless s FieldForm (unless t Unfit Accepted)) (field-good n short) (ap range (number-field n short) ∙ passes)
 
       rest : drop fieldSize bytes ≡ joined field numbers ++ behind
       rest = ap (drop fieldSize) apart ∙ drop-at (field n) (joined field numbers ++ behind) fieldSize (field-length n)

@@ -11,7 +11,6 @@ use Rattle.refusals.specs.declared.Verdict.{Verdict}
 use Rattle.refusals.specs.declared.Verdict.the-variants.{Accepted, SheetLength}
 use Rattle.refusals.proofs.Laws.{unless-accepted, accepted-only}
 use Rattle.unit.specs.declared.Unit.{Unit}
-use Rattle.unit.specs.Fit.{Fit}
 use Rattle.unit.proofs.Fitness.{fit-of-test, test-of-fit}
 use Rattle.numbers.specs.Layout.{numbersOf, unitOf, Shaped}
 use Rattle.numbers.proofs.Laws.{numbers-of-unit}
@@ -22,7 +21,8 @@ use Rattle.reading.specs.declared.SheetRead.{SheetRead}
 use Rattle.reading.specs.Reading.{linesVerdict, numbersIn, sheetVerdict, unitIn, sheetRead}
 use Rattle.roundtrip.specs.Claim.{ReadsAs, HasSheet, RoundTrip}
 use Rattle.writing.proofs.Laws.{sheet-length}
-use Rattle.reading.proofs.Laws.{numbers-in-length, right-length, read-accepted}
+use Rattle.reading.proofs.Laws.{right-length, read-accepted}
+use Rattle.reading.proofs.Whole.{numbers-in-length}
 use Rattle.roundtrip.proofs.Passes.{LinesPass}
 use Rattle.roundtrip.proofs.Accepted.{LinesTold, lines-accepted}
 use Rattle.roundtrip.proofs.Back.{LinesBack, lines-back}
@@ -100,13 +100,6 @@ module _ (bytes : List ℕ) (u : Unit) (reads : ReadsAs bytes u) where
 
   part-again : (room : ℕ) → sheetSize ≤ room → filledPart u room ≡ bytes
   part-again room h = part-is-sheet u room accepted-fit h ∙ written-again
-
--- the unit that an accepted reading gives is fit
-pub read-fit : (bytes : List ℕ) (given : Unit) → isAccepted (sheetRead bytes given .verdict) ≡ true → Fit (sheetRead bytes given .unit)
-unfolding sheetRead
-read-fit bytes given e =
-    subst Fit (sym (ap (λ (r : SheetRead). r .unit) (accepted-reads bytes e given)))
-    (fit-of-test (unitIn bytes) (accepted-fit bytes (unitIn bytes) (accepted-reads bytes e)))
 
 -- ---- two units
 

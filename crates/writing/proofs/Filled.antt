@@ -10,7 +10,7 @@ use lib.ListN.{length, take, drop, length-append, length-drop}
 use lib.Seq.{sets, take-at}
 use borrow.Author.Tests.{leb-true, le-leb, lt-leb}
 use Rattle.integers.proofs.Order.{both-true}
-use Rattle.refusals.proofs.Laws.{failed}
+use Rattle.refusals.proofs.Laws.{passed, failed}
 use Rattle.unit.specs.declared.Unit.{Unit}
 use Rattle.unit.specs.Fit.{unitFits}
 use Rattle.numbers.specs.Layout.{unitSize, numbersOf}
@@ -33,36 +33,45 @@ module _ (p b : List ℕ) (n : ℕ) where
 -- ---- a unit's sheet
 
 module _ (u : Unit) (b : List ℕ) where
-  -- nothing is written into a shorter buffer
-  pub short-unwritten : length b < sheetSize → writes u (length b) ≡ false
-  unfolding writes
-  short-unwritten h = ap (λ (t : Bool). t && unitFits u) (lt-leb sheetSize (length b) h)
+  -- nothing is filled
+  abbrev Nothing : Type 0
+  Nothing = (0 ≡ filledCount u (length b)) × (b ≡ filled u b)
 
-  -- the unit's fitness decides where the buffer is long enough
-  pub fit-written : sheetSize ≤ length b → writes u (length b) ≡ unitFits u
-  unfolding writes
-  fit-written h = ap (λ (t : Bool). t && unitFits u) (le-leb sheetSize (length b) h)
+  -- so it is where no sheet is written
+  none-filled : writes u (length b) ≡ false → Nothing
+  unfolding filledCount filled
+  none-filled e = (failed (writes u (length b)) _ 0 e, failed (writes u (length b)) _ b e)
 
   -- a sheet is written into a buffer that is long enough
   room-written : writes u (length b) ≡ true → sheetSize ≤ length b
   unfolding writes
   room-written e = leb-true sheetSize (length b) (both-true (leb sheetSize (length b)) (unitFits u) e .0)
 
-  -- nothing is filled
-  pub none-filled : writes u (length b) ≡ false → (0 ≡ filledCount u (length b)) × (b ≡ filled u b)
-  unfolding filledCount filled
-  none-filled e = (failed (writes u (length b)) _ 0 e, failed (writes u (length b)) _ b e)
+  -- nothing is filled of a shorter buffer
+  pub short-filled : length b < sheetSize → Nothing
+  unfolding writes
+  short-filled h = none-filled (ap (λ (t : Bool). t && unitFits u) (lt-leb sheetSize (length b) h))
 
-  -- the front is filled with the lines of the unit's numbers
-  pub sheet-filled : (ns : List ℤ) {after : List ℕ} → ns ≡ numbersOf u → length ns ≡ unitSize → sheetSize ≤ length b → writes u (length b) ≡ true → after ≡ sets b 0 (written lines ns) → (sheetSize ≡ filledCount u (length b)) × (after ≡ filled u b)
-  unfolding filledCount filled sheetOf
-  sheet-filled ns e size room w a = (
-    ap (λ (t : Bool). cond t sheetSize 0) (sym w),
-    a
-        ∙ stored-front (written lines ns) b sheetSize (written-length lines ns (omega arith)) room
-        ∙ ap (λ (m : List ℤ). written lines m ++ drop sheetSize b) e
-        ∙ ap (λ (t : Bool). cond t (written lines (numbersOf u) ++ drop sheetSize b) b) (sym w),
-  )
+  module _ {t : Bool} (long : sheetSize ≤ length b) (test : t ≡ unitFits u) where
+    -- where the buffer is long enough, a test of the unit's fitness decides
+    fit-written : writes u (length b) ≡ t
+    unfolding writes
+    fit-written = ap (λ (r : Bool). r && unitFits u) (le-leb sheetSize (length b) long) ∙ sym test
+
+    -- nothing is filled for an unfit unit
+    pub unfit-filled : t ≡ false → Nothing
+    unfit-filled e = none-filled (fit-written ∙ e)
+
+    -- the front is filled with the lines of a fit unit's numbers
+    pub sheet-filled : {ns : List ℤ} {after : List ℕ} → t ≡ true → ns ≡ numbersOf u → length ns ≡ unitSize → after ≡ sets b 0 (written lines ns) → (sheetSize ≡ filledCount u (length b)) × (after ≡ filled u b)
+    unfolding filledCount filled sheetOf
+    sheet-filled {ns} w e size a = (
+      passed (writes u (length b)) sheetSize 0 (fit-written ∙ w),
+      a
+          ∙ stored-front (written lines ns) b sheetSize (written-length lines ns (omega arith)) long
+          ∙ ap (λ (m : List ℤ). written lines m ++ drop sheetSize b) e
+          ∙ passed (writes u (length b)) (written lines (numbersOf u) ++ drop sheetSize b) b (fit-written ∙ w),
+    )
 
   -- the part that is handed back is within the buffer, and holds the sheet or nothing
   pub part-filled : {count : ℕ} {after : List ℕ} → count ≡ filledCount u (length b) → after ≡ filled u b → length after ≡ length b → (count ≤ length after) × (take count after ≡ filledPart u (length b))

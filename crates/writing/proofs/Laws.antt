@@ -1,6 +1,6 @@
--- The laws of a written sheet: how many bytes it has, and one line more.
+-- The laws of a written sheet: how many bytes it has, and lines behind others.
 use mathlib.Core.Path.{_≡_, refl, sym, ap, ap₂, _∙_}
-use mathlib.Core.List.{List, [], _∷_, _++_, append-assoc, append-nil}
+use mathlib.Core.List.{List, [], _∷_, _++_, append-assoc}
 use Prim.Native.Nat.{ℕ, _+_, _*_, _≤_}
 use native.Mathlib.Omega.{arith}
 use lib.IntN.{ℤ}
@@ -12,8 +12,8 @@ use Rattle.numbers.proofs.Units.{numbers-length}
 use Rattle.fields.specs.Fields.{fieldSize, field}
 use Rattle.fields.proofs.Laws.{field-length}
 use Rattle.sheet.specs.declared.Line.{Line}
-use Rattle.sheet.specs.Lines.{sheetSize, lineFeed, lines, fieldCount, lineSize, fieldsOf, sizeOf}
-use Rattle.writing.specs.Written.{lineBytes, written, sheetOf}
+use Rattle.sheet.specs.Lines.{sheetSize, lineFeed, lines, letterOf, fieldCount, lineSize, fieldsOf, sizeOf}
+use Rattle.writing.specs.Written.{lineText, lineBytes, written, sheetOf}
 
 -- ---- how many bytes
 
@@ -22,9 +22,13 @@ pub fields-length : (ns : List ℤ) → length (joined field ns) ≡ fieldSize *
 fields-length [] = refl
 fields-length (n ∷ ns) = omega (arith, length-append (field n) (joined field ns), field-length n, fields-length ns)
 
--- a line's letter, its fields, a line feed
+-- a letter, the fields, a line feed
+pub text-length : (letter : ℕ) (ns : List ℤ) → length (lineText letter ns) ≡ fieldSize * length ns + 2
+text-length letter ns = omega (arith, length-append (joined field ns) (lineFeed ∷ []), fields-length ns)
+
+-- a line with its numbers
 pub line-length : (line : Line) (ns : List ℤ) → length ns ≡ fieldCount line → length (lineBytes line ns) ≡ lineSize line
-line-length line ns e = omega (arith, length-append (joined field ns) (lineFeed ∷ []), fields-length ns)
+line-length line ns e = omega (arith, text-length (letterOf line) ns)
 
 -- lines with numbers enough for them
 pub written-length : (ls : List Line) (ns : List ℤ) → fieldsOf ls ≤ length ns → length (written ls ns) ≡ sizeOf ls
@@ -39,16 +43,15 @@ pub sheet-length : (u : Unit) → Shaped u → length (sheetOf u) ≡ sheetSize
 unfolding sheetOf
 sheet-length u s = written-length lines (numbersOf u) (omega (arith, numbers-length u s))
 
--- ---- one more
+-- ---- one behind the other
 
--- one line more takes the numbers that come next
-pub written-snoc : (ls : List Line) (line : Line) (ns : List ℤ) → written (ls ++ (line ∷ [])) ns ≡ written ls ns ++ lineBytes line (take (fieldCount line) (drop (fieldsOf ls) ns))
-written-snoc [] line ns = append-nil (lineBytes line (take (fieldCount line) ns))
-written-snoc (first ∷ ls) line ns =
-    ap (λ (x : List ℕ). lineBytes first (take (fieldCount first) ns) ++ x)
-    (written-snoc ls line (drop (fieldCount first) ns)
-    ∙ ap (λ (m : List ℤ). written ls (drop (fieldCount first) ns) ++ lineBytes line (take (fieldCount line) m))
-    (drop-drop (fieldsOf ls) (fieldCount first) ns))
+-- lines behind others take the numbers that come next
+pub written-append : (ls ms : List Line) (ns : List ℤ) → written (ls ++ ms) ns ≡ written ls ns ++ written ms (drop (fieldsOf ls) ns)
+written-append [] ms ns = refl
+written-append (line ∷ ls) ms ns =
+    ap (λ (x : List ℕ). lineBytes line (take (fieldCount line) ns) ++ x)
+    (written-append ls ms (drop (fieldCount line) ns)
+    ∙ ap (λ (m : List ℤ). written ls (drop (fieldCount line) ns) ++ written ms m) (drop-drop (fieldsOf ls) (fieldCount line) ns))
     ∙ sym
-    (append-assoc (lineBytes first (take (fieldCount first) ns)) (written ls (drop (fieldCount first) ns))
-    (lineBytes line (take (fieldCount line) (drop (fieldCount first + fieldsOf ls) ns))))
+    (append-assoc (lineBytes line (take (fieldCount line) ns)) (written ls (drop (fieldCount line) ns))
+    (written ms (drop (fieldCount line + fieldsOf ls) ns)))

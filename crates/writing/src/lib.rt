@@ -1,15 +1,17 @@
 // Writing the strip sheet: 33 lines, 1,128 bytes.
-// `fill` promises every byte of the lent buffer. `write` hands back the part that it filled, and stands on `fill`.
+// `fill` and `fill_numbers` promise every byte of the lent buffer. `write` hands back the part that it filled, and stands on `fill`.
 ghost use mathlib.Core.Path.{_≡_};
 ghost use Prim.Native.Nat.{_+_, _*_, _≤_};
 ghost use denote.Ref.{ptr};
 ghost use lib.ListN.{length, take, drop};
 ghost use lib.Seq.{sets};
-ghost use Rattle.numbers.specs.Layout.{unitSize, joined};
+ghost use Rattle.unit.specs.Cleared.{bandCount};
+ghost use Rattle.engine.specs.Numbers.{channelSize};
+ghost use Rattle.numbers.specs.Layout.{unitSize, joined, unitOf};
 ghost use Rattle.fields.specs.Fields.{fieldSize, field};
-ghost use Rattle.sheet.specs.Lines.{sheetSize, lines, fieldCount, lineSize};
-ghost use Rattle.writing.specs.Written.{lineBytes, written, filledCount, filledPart, filled};
-use sheet::Line;
+ghost use Rattle.sheet.specs.declared.Line.the-variants.{Left, Section};
+ghost use Rattle.sheet.specs.Lines.{sheetSize, lines, lineSize};
+ghost use Rattle.writing.specs.Written.{lineText, written, groupText, channelText, filledCount, filledPart, filled};
 use unit::Unit;
 
 // Writes the unit's sheet to the front of the buffer, and hands back that part: 1,128 bytes, or an empty part from a shorter buffer or for
@@ -37,31 +39,75 @@ pub fn fill(unit: Unit, out: &mut [u8]) -> usize
     sheet::SHEET_SIZE
 }
 
+// Fills the front of the buffer with the sheet of the unit that the numbers stand for, and gives the count of its bytes. From a shorter
+// buffer, or for an unfit unit, the count is 0 and nothing is written.
+pub fn fill_numbers(numbers: &[i32; 118], buffer: &mut [u8]) -> usize
+    ensures { λ r. ⌜ (r ≡ filledCount (unitOf (now (numbers .entry))) (length (now (buffer .entry)))) × (now (buffer .exit) ≡ filled (unitOf (now (numbers .entry))) (now (buffer .entry))) ⌝ }
+{
+    if buffer.len() < sheet::SHEET_SIZE {
+        return 0;
+    }
+    if !fitness::is_fit(numbers::unit_of(numbers)) {
+        return 0;
+    }
+    // As a slice the numbers are known to be 118.
+    let all: &[i32] = numbers;
+    put_lines(buffer, numbers);
+    sheet::SHEET_SIZE
+}
+
 // Writes the lines of a unit's numbers to the front of the buffer.
 fn put_lines(out: &mut [u8], numbers: &[i32; 118])
     requires { ⌜ (sheetSize ≤ length (now out)) × (length (now numbers) ≡ unitSize) ⌝ }
     ensures { λ r. ⌜ now (out .exit) ≡ sets (now (out .entry)) 0 (written lines (now (numbers .entry))) ⌝ }
 {
-    let mut at = 0;
-    let mut place = 0;
+    put_line(out, 0, b'V', numbers, 0, 2);
+    put_group(out, sheet::BANDS_AT, b'C', numbers, 2, 3);
+    put_channel(out, sheet::LEFT_AT, b'L', numbers, numbers::LEFT);
+    put_channel(out, sheet::RIGHT_AT, b'R', numbers, numbers::RIGHT);
+}
+
+// Writes the lines of a channel from place at on, the numbers from `place` on: an L or an R line, and ten S lines.
+fn put_channel(out: &mut [u8], at: usize, letter: u8, numbers: &[i32; 118], place: usize)
+    requires { ⌜ (at + (lineSize Left + lineSize Section * bandCount) ≤ length (now out)) × (length (now numbers) ≡ unitSize) × (place + channelSize ≤ unitSize) ⌝ }
+    ensures { λ r. ⌜ now (out .exit) ≡ sets (now (out .entry)) at (channelText letter (drop place (now (numbers .entry)))) ⌝ }
+{
+    put_line(out, at, letter, numbers, place, 3);
+    put_group(out, at + sheet::BAND_LINE, b'S', numbers, place + 3, 4);
+}
+
+// Writes ten lines of one letter from place at on, with so many fields each: the numbers from `place` on.
+fn put_group(
+    out: &mut [u8],
+    at: usize,
+    letter: u8,
+    numbers: &[i32; 118],
+    place: usize,
+    count: usize,
+)
+    requires { ⌜ (at + (fieldSize * count + 2) * bandCount ≤ length (now out)) × (length (now numbers) ≡ unitSize) × (place + count * bandCount ≤ unitSize) ⌝ }
+    ensures { λ r. ⌜ now (out .exit) ≡ sets (now (out .entry)) at (groupText letter count bandCount (drop place (now (numbers .entry)))) ⌝ }
+{
     let mut i = 0;
-    while i < sheet::LINE_COUNT {
-        let line = sheet::line_at(i);
-        let count = sheet::field_count(line);
-        put_line(out, at, line, numbers, place);
-        at += fields::FIELD_SIZE * count + 2;
-        place += count;
+    while i < 10 {
+        put_line(
+            out,
+            at + (fields::FIELD_SIZE * count + 2) * i,
+            letter,
+            numbers,
+            place + count * i,
+            count,
+        );
         i += 1;
     }
 }
 
-// Writes a line from place at on: its letter, the numbers from `place` on, a line feed.
-fn put_line(out: &mut [u8], at: usize, line: Line, numbers: &[i32; 118], place: usize)
-    requires { ⌜ (at + lineSize line ≤ length (now out)) × (length (now numbers) ≡ unitSize) × (place + fieldCount line ≤ unitSize) ⌝ }
-    ensures { λ r. ⌜ now (out .exit) ≡ sets (now (out .entry)) at (lineBytes line (take (fieldCount line) (drop place (now (numbers .entry))))) ⌝ }
+// Writes a line from place at on: a letter, so many fields, the numbers from `place` on, and a line feed.
+fn put_line(out: &mut [u8], at: usize, letter: u8, numbers: &[i32; 118], place: usize, count: usize)
+    requires { ⌜ (at + (fieldSize * count + 2) ≤ length (now out)) × (length (now numbers) ≡ unitSize) × (place + count ≤ unitSize) ⌝ }
+    ensures { λ r. ⌜ now (out .exit) ≡ sets (now (out .entry)) at (lineText letter (take count (drop place (now (numbers .entry))))) ⌝ }
 {
-    let count = sheet::field_count(line);
-    out[at] = sheet::letter(line);
+    out[at] = letter;
     put_fields(out, at + 1, numbers, place, count);
     out[at + 1 + fields::FIELD_SIZE * count] = sheet::LINE_FEED;
 }

@@ -1,58 +1,95 @@
--- `exports::fonddrys_sheet_read` meets its contract: the lent numbers stand for the given unit, and an accepted sheet carries a fit one.
-use mathlib.Core.Path.{_≡_, sym, ap, _∙_, subst}
-use mathlib.Core.Bool.{true}
+-- `exports::fonddrys_sheet_read` meets its contract: the numbers of an accepted sheet are those of the unit that it carries.
+use mathlib.Core.Path.{_≡_, sym, ap, _∙_}
+use mathlib.Core.Bool.{Bool, true, cond}
 use mathlib.Core.List.{List}
-use lib.IntN.{ℤ}
+use Prim.Native.Nat.{ℕ}
+use lib.IntN.{ℤ, pos}
+use lib.ListN.{length-replicate}
 use denote.Ref.{now}
-use Rattle.refusals.specs.Numbers.{numberOf, isAccepted}
-use Rattle.unit.specs.Fit.{Fit}
-use Rattle.reading.specs.declared.SheetRead.{SheetRead}
-use Rattle.reading.specs.Reading.{sheetRead}
-use Rattle.roundtrip.proofs.Holds.{read-fit}
-use Rattle.numbers.specs.Layout.{unitOf}
-use Rattle.exports.specs.Layout.{numbersAfter}
 use borrow.Author.Needs.{needs}
+use borrow.Author.Tests.{not-true, not-false}
+use Rattle.refusals.specs.Numbers.{numberOf, isAccepted}
+use Rattle.numbers.specs.Layout.{unitSize, unitOf, numbersOf as unitNumbers}
+use Rattle.numbers.proofs.Laws.{numbers-of-unit}
+use Rattle.sheet.specs.Lines.{lines}
+use Rattle.reading.specs.Reading.{numbersIn, sheetVerdict, unitIn, sheetRead}
+use Rattle.reading.proofs.Laws.{sheet-verdict, sheet-numbers}
+use Rattle.reading.proofs.Whole.{numbers-in-length}
 use Rattle.exports.proofs.fonddrys_sheet_read.Statement.{statement}
 use Rattle.exports.proofs.fonddrys_sheet_read.Tie as tie
 use Rattle.exports.proofs.fonddrys_sheet_read.Reads as reads
 use Rattle.exports.proofs.fonddrys_sheet_read.Lts as lts
-use Rattle.exports.proofs.store.Reads as store-reads
-use Rattle.numbers.proofs.unit_of.Reads as unit-of-reads
-use Rattle.reading.proofs.read.Reads as read-reads
+use Rattle.reading.proofs.read_numbers.Reads as read-numbers-reads
+use Rattle.refusals.proofs.accepted.Reads as accepted-reads
+use Rattle.refusals.proofs.number.Reads as number-reads
 
--- the answer is that of the unit as lent
-module _ (c : lts.After-read (unit-of-reads.Asked, unit-of-reads.Learnt, read-reads.Asked, read-reads.Learnt, store-reads.Asked, store-reads.Learnt) reads.Pre reads.Post) where
+read-numbers-requires : tie.Need-read-numbers-requires
+read-numbers-requires c κs = search needs
+
+accepted-requires : tie.Need-accepted-requires
+accepted-requires c κs = search needs
+
+-- ---- the sheet read
+
+module _ (c : lts.After-accepted (read-numbers-reads.Asked, read-numbers-reads.Learnt, accepted-reads.Asked, accepted-reads.Learnt, number-reads.Asked, number-reads.Learnt) reads.Pre reads.Post) where
+  abbrev start : lts.Start (read-numbers-reads.Asked, read-numbers-reads.Learnt, accepted-reads.Asked, accepted-reads.Learnt, number-reads.Asked, number-reads.Learnt) reads.Pre reads.Post
+  start = c .before .before .before .before
+
   abbrev l : List ℤ
-  l = now (c .before .before .before .before .args .numbers)
+  l = now (start .args .numbers)
 
-  abbrev answer : SheetRead
-  answer = sheetRead (now (c .before .before .before .before .args .bytes)) (unitOf l)
+  abbrev bytes : List ℕ
+  bytes = now (start .args .bytes)
 
-  answer-is : c .read .result ≡ answer
-  answer-is = c .read .ensures ∙ ap (sheetRead (now (c .before .before .before .before .args .bytes))) (c .before .unit-of .ensures)
+  verdict-is : c .before .read-numbers .result ≡ sheetVerdict bytes
+  verdict-is = c .before .read-numbers .ensures .verdict-is ∙ sheet-verdict bytes
 
-unit-of-requires : tie.Need-unit-of-requires
-unit-of-requires c κs = search needs
+  sheet-test : c .accepted .result ≡ isAccepted (sheetVerdict bytes)
+  sheet-test = c .accepted .ensures ∙ ap isAccepted verdict-is
 
-read-requires : tie.Need-read-requires
-read-requires c κs = search needs
+  -- the numbers after the call, by the test
+  abbrev after : Bool → List ℤ
+  after t = cond t (unitNumbers (cond t (unitIn bytes) (unitOf l))) l
 
-store-requires : tie.Need-store-requires
-store-requires c κs =
-    subst (λ (r : SheetRead). isAccepted (r .verdict) ≡ true → Fit (r .unit)) (sym (answer-is o)) (read-fit (now (o .before .before .before .before .args .bytes)) (unitOf (l o)))
-  where
-    o : lts.After-read (unit-of-reads.Asked, unit-of-reads.Learnt, read-reads.Asked, read-reads.Learnt, store-reads.Asked, store-reads.Learnt) reads.Pre reads.Post
-    o = c .before .before
+  -- accepted, those read are the unit's
+  carried : c .accepted .result ≡ true → c .before .read-numbers .last .1 .0 ≡ unitNumbers (unitIn bytes)
+  unfolding unitIn
+  carried e =
+      sheet-numbers bytes (c .before .read-numbers .ensures) (length-replicate unitSize (pos 0)) (sym (c .accepted .ensures) ∙ e)
+      ∙ sym (numbers-of-unit (numbersIn lines bytes) (numbers-in-length lines bytes))
+
+number-requires : tie.Need-number-requires
+number-requires c κs = search needs
 
 returns : tie.Need-returns
+unfolding sheetRead
 returns c =
+    let s = c .before .before in
     record {
-      number-is = c .store .ensures .0 ∙ ap (λ (r : SheetRead). numberOf (r .verdict)) (answer-is o);
-      numbers-are = c .store .ensures .1 ∙ ap (λ (r : SheetRead). numbersAfter (l o) (r .verdict) (r .unit)) (answer-is o);
+      number-is = c .number .ensures ∙ ap numberOf (verdict-is s);
+      numbers-are = sym (ap (after s) (sym (sheet-test s) ∙ not-true _ (c .before .if1 .taken)));
     }
-  where
-    o : lts.After-read (unit-of-reads.Asked, unit-of-reads.Learnt, read-reads.Asked, read-reads.Learnt, store-reads.Asked, store-reads.Learnt) reads.Pre reads.Post
-    o = c .before .before .before
+
+number-requires-2 : tie.Need-number-requires-2
+number-requires-2 c κs = search needs
+
+returns-2 : tie.Need-returns-2
+unfolding sheetRead
+returns-2 c =
+    let s = c .before .before in
+    let e = not-false _ (c .before .if1 .left) in
+    record {
+      number-is = c .number2 .ensures ∙ ap numberOf (verdict-is s);
+      numbers-are = carried s e ∙ sym (ap (after s) (sym (sheet-test s) ∙ e));
+    }
 
 pub fonddrys-sheet-read-spec : {M : Type 1} → statement M
-fonddrys-sheet-read-spec = tie.close (tie.spec unit-of-requires read-requires store-requires returns)
+fonddrys-sheet-read-spec =
+    tie.close
+    (tie.spec
+    read-numbers-requires
+    accepted-requires
+    number-requires
+    returns
+    number-requires-2
+    returns-2)

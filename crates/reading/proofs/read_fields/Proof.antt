@@ -1,46 +1,63 @@
--- `reading::read_fields` meets its contract. The loop's invariant: i fields are read.
-use mathlib.Core.Path.{_≡_, sym, ap, subst₂, _∙_}
+-- `reading::read_fields` meets its contract. The loop's invariant: the fields from the ith on are left.
+use mathlib.Core.Path.{_≡_, sym, ap, ap₂, refl, _∙_}
+use mathlib.Core.Bool.{Bool, false}
 use mathlib.Core.List.{List}
-use Prim.Native.Nat.{ℕ, _+_, _*_, _-_, _≤_}
+use Prim.Native.Nat.{ℕ, _+_, _*_, _-_, _≤_, _<_}
 use native.Mathlib.Omega.{arith}
 use lib.IntN.{ℤ}
-use lib.ListN.{getD, take, drop, set}
-use lib.Seq.{sets, drop-drop}
+use lib.ListN.{length, set, length-set, drop, replicate}
 use denote.Ref.{now}
-use mir.Syntax.{w32}
+use mir.Syntax.{w32, w64}
 use mir.Val.{toZ, ofZ}
+use mir.Facts.{toZ-ofZ}
 use borrow.Author.Needs.{needs}
-use Rattle.integers.proofs.Machine.{reads-back}
-use Rattle.refusals.specs.Numbers.{firstOf}
+use borrow.Author.Tests.{not-true, not-false}
+use Rattle.integers.proofs.Machine.{reads-back, widened, widen-need}
+use Rattle.rounding.specs.Rounding.{within}
+use Rattle.refusals.specs.Numbers.{isAccepted}
 use Rattle.refusals.specs.declared.Verdict.{Verdict}
-use Rattle.fields.specs.Fields.{fieldSize, fieldOf}
-use Rattle.fields.specs.declared.Field.{Field}
-use Rattle.sheet.specs.Lines.{anyNumber, rangesOf, fieldCount}
-use Rattle.reading.specs.Reading.{fieldVerdict, fieldNumbers}
-use Rattle.reading.proofs.Fields.{FieldsTo, fieldIn, fields-none, fields-more, fields-all}
+use Rattle.refusals.specs.declared.Verdict.the-variants.{Accepted}
+use Rattle.fields.specs.Fields.{fieldSize, fieldAt}
+use Rattle.reading.specs.Parts.{fieldsPart, Stored}
+use Rattle.reading.proofs.Parts.{restored}
+use Rattle.reading.proofs.Repeat.{fieldIn, repeated, fields-repeated, LeftFrom, left-all, left-none, left-off, left-on}
+use Rattle.reading.proofs.Field.{field-badly, field-outside, field-inside}
+use Rattle.reading.proofs.Whole.{field-number}
 use Rattle.reading.proofs.read_fields.Statement.{statement}
 use Rattle.reading.proofs.read_fields.Tie as tie
 use Rattle.reading.proofs.read_fields.Reads as reads
 use Rattle.reading.proofs.read_fields.Lts as lts
-use Rattle.reading.proofs.check_field.Reads as check-field-reads
 use Rattle.fields.proofs.read_field.Reads as read-field-reads
-use Rattle.reading.proofs.first.Reads as first-reads
-use Rattle.sheet.proofs.field_count.Reads as field-count-reads
+use Rattle.rounding.proofs.in_range.Reads as in-range-reads
+
+-- the fields from the ith on are left; the range's ends are given by their bits
+abbrev Left : List ℕ → ℕ → ℕ → ℕ → ℕ → List ℤ → ℕ → List ℤ → ℕ → Type 0
+Left bytes at count low high before place numbers i =
+    LeftFrom (fieldIn (within (toZ w64 low) (toZ w64 high))) fieldSize 1 count bytes at before place i numbers
 
 abbrev Inv-loop : tie.InvT-loop
-Inv-loop bytes at line numbers₀ place count verdict₀ i₀ numbers verdict i =
-    (i ≤ fieldCount line) × FieldsTo (rangesOf line) (drop at bytes) numbers₀ place i verdict numbers
+Inv-loop bytes at count low high numbers₀ place i₀ numbers i =
+    (i ≤ count) × (length numbers ≡ length numbers₀) × Left bytes at count low high numbers₀ place numbers i
 
 abbrev μ-loop : tie.MeasureT-loop
-μ-loop bytes at line numbers₀ place count verdict₀ i₀ numbers verdict i = fieldCount line - i
+μ-loop bytes at count low high numbers₀ place i₀ numbers i = count - i
 
-field-count-requires : tie.Need-field-count-requires Inv-loop μ-loop
-field-count-requires c κs = search needs
+module _ (c : lts.Start (read-field-reads.Asked, read-field-reads.Learnt, in-range-reads.Asked, in-range-reads.Learnt) reads.Pre reads.Post Inv-loop μ-loop) where
+  abbrev range : ℤ → Bool
+  range = within (toZ w64 (ofZ w64 (c .args .low))) (toZ w64 (ofZ w64 (c .args .high)))
+
+  -- what is stored of the fields, in the words of the contract
+  in-words : {v : Verdict} {m : List ℤ} → Stored (repeated (fieldIn range) fieldSize (c .args .count) (drop (c .args .at) (now (c .args .bytes)))) (now (c .args .numbers)) (c .args .place) v m
+      → Stored (fieldsPart (replicate (c .args .count) (within (c .args .low) (c .args .high))) (drop (c .args .at) (now (c .args .bytes)))) (now (c .args .numbers)) (c .args .place) v m
+  in-words s =
+      restored (sym (fields-repeated range (c .args .count) (drop (c .args .at) (now (c .args .bytes))))
+      ∙ ap₂ (λ (a b : ℤ). fieldsPart (replicate (c .args .count) (within a b)) (drop (c .args .at) (now (c .args .bytes)))) (toZ-ofZ (c .fits .low)) (toZ-ofZ (c .fits .high))) refl s
 
 loop-holds : tie.Need-loop-holds Inv-loop μ-loop
 loop-holds c = (
   search needs,
-  fields-none (rangesOf (c .before .before .args .line)) (drop (c .before .before .args .at) (now (c .before .before .args .bytes))) (now (c .before .before .args .numbers)) (c .before .before .args .place),
+  refl,
+  left-all (fieldIn (range (c .before))) fieldSize 1 (c .before .args .count) (now (c .before .args .bytes)) (c .before .args .at) (now (c .before .args .numbers)) (c .before .args .place),
 )
 
 mul-read-field : tie.Need-mul-read-field Inv-loop μ-loop
@@ -52,11 +69,70 @@ add-read-field c = search needs
 read-field-requires : tie.Need-read-field-requires Inv-loop μ-loop
 read-field-requires c κs = search needs
 
-check-field-requires : tie.Need-check-field-requires Inv-loop μ-loop
-check-field-requires c κs = search needs
+-- ---- the ith field read
 
-first-requires : tie.Need-first-requires Inv-loop μ-loop
-first-requires c κs = search needs
+module _ (c : lts.After-read-field (read-field-reads.Asked, read-field-reads.Learnt, in-range-reads.Asked, in-range-reads.Learnt) reads.Pre reads.Post Inv-loop μ-loop) where
+  abbrev start : lts.Start (read-field-reads.Asked, read-field-reads.Learnt, in-range-reads.Asked, in-range-reads.Learnt) reads.Pre reads.Post Inv-loop μ-loop
+  start = c .before .before .before .before
+
+  abbrev i : ℕ
+  i = c .before .before .loop .i
+
+  abbrev numbers : List ℤ
+  numbers = c .before .before .loop .numbers
+
+  abbrev bytes : List ℕ
+  bytes = now (start .args .bytes)
+
+  abbrev here : ℕ
+  here = start .args .at + fieldSize * i
+
+  abbrev spot : ℕ
+  spot = start .args .place + i
+
+  abbrev number : ℤ
+  number = c .read-field .result
+
+  below : i < start .args .count
+  below = omega arith
+
+  long : here + fieldSize ≤ length bytes
+  long = omega (arith, start .pre .0)
+
+  -- it is refused
+  refused : {v : Verdict} → Stored (fieldIn (range start) (drop here bytes)) numbers spot v numbers → isAccepted v ≡ false
+      → Stored (fieldsPart (replicate (start .args .count) (within (start .args .low) (start .args .high))) (drop (start .args .at) bytes)) (now (start .args .numbers)) (start .args .place) v numbers
+  refused s e =
+      in-words start
+      (left-off (fieldIn (range start)) fieldSize 1 (start .args .count) bytes (start .args .at) (now (start .args .numbers)) (start .args .place) i (c .before .before .loop .inv .2) below here spot refl (omega arith) s e)
+
+returns : tie.Need-returns Inv-loop μ-loop
+returns c =
+    let o = c .before in
+    refused o (field-badly (range (start o)) (bytes o) (here o) (long o) (number o) (o .read-field .ok) (o .read-field .ensures) (c .if1 .taken)) refl
+
+cast-in-range : tie.Need-cast-in-range Inv-loop μ-loop
+cast-in-range c = widen-need tt (c .before .read-field .result) (record { sfits = c .before .read-field .ok })
+
+in-range-requires : tie.Need-in-range-requires Inv-loop μ-loop
+in-range-requires c κs = search needs
+
+-- ---- its number tested
+
+module _ (c : lts.After-in-range (read-field-reads.Asked, read-field-reads.Learnt, in-range-reads.Asked, in-range-reads.Learnt) reads.Pre reads.Post Inv-loop μ-loop) where
+  abbrev o : lts.After-read-field (read-field-reads.Asked, read-field-reads.Learnt, in-range-reads.Asked, in-range-reads.Learnt) reads.Pre reads.Post Inv-loop μ-loop
+  o = c .before .before
+
+  test-is : c .in-range .result ≡ range (start o) (number o)
+  test-is = c .in-range .ensures ∙ ap (range (start o)) (widened tt (number o) (record { sfits = o .read-field .ok }) .reads)
+
+returns-2 : tie.Need-returns-2 Inv-loop μ-loop
+returns-2 c =
+    let t = c .before in
+    refused (o t)
+    (field-outside (range (start (o t))) (bytes (o t)) (here (o t)) (long (o t)) (number (o t)) (o t .read-field .ok) (o t .read-field .ensures) (t .before .if1 .left)
+    (sym (test-is t) ∙ not-true _ (c .if2 .taken)))
+    refl
 
 add-number : tie.Need-add-number Inv-loop μ-loop
 add-number c = search needs
@@ -67,36 +143,6 @@ mul-number c = search needs
 element-set-from-number : tie.Need-element-set-from-number Inv-loop μ-loop
 element-set-from-number c = search needs
 
--- ---- after a turn
-
-module _ (c : lts.After-struct-told (field-count-reads.Asked, field-count-reads.Learnt, read-field-reads.Asked, read-field-reads.Learnt, check-field-reads.Asked, check-field-reads.Learnt, first-reads.Asked, first-reads.Learnt) reads.Pre reads.Post Inv-loop μ-loop) where
-  abbrev start : lts.Start (field-count-reads.Asked, field-count-reads.Learnt, read-field-reads.Asked, read-field-reads.Learnt, check-field-reads.Asked, check-field-reads.Learnt, first-reads.Asked, first-reads.Learnt) reads.Pre reads.Post Inv-loop μ-loop
-  start = c .before .before .before .before .before .before .before .before
-
-  abbrev i : ℕ
-  i = c .before .before .before .before .before .loop .i
-
-  abbrev bytes : List ℕ
-  bytes = drop (start .args .at) (now (start .args .bytes))
-
-  abbrev field : Field
-  field = c .before .before .before .read-field .result
-
-  field-is : field ≡ fieldIn bytes i
-  field-is =
-      c .before .before .before .read-field .ensures
-      ∙ ap (λ (b : List ℕ). fieldOf (take fieldSize b)) (sym (drop-drop (fieldSize * i) (start .args .at) (now (start .args .bytes))))
-
-  verdict-is : c .before .first .result ≡ firstOf (c .before .before .before .before .before .loop .verdict) (fieldVerdict (getD (rangesOf (start .args .line)) i anyNumber) (fieldIn bytes i))
-  verdict-is =
-      c .before .first .ensures
-      ∙ ap (firstOf (c .before .before .before .before .before .loop .verdict))
-      (c .before .before .check-field .ensures
-      ∙ ap (fieldVerdict (getD (rangesOf (start .args .line)) i anyNumber)) field-is)
-
-  number-is : toZ w32 (ofZ w32 (field .number)) ≡ fieldIn bytes i .number
-  number-is = reads-back w32 (field .number) (omega arith) ∙ ap (λ (f : Field). f .number) field-is
-
 add-i : tie.Need-add-i Inv-loop μ-loop
 add-i c = search needs
 
@@ -106,27 +152,27 @@ loop-less c = search needs
 loop-again : tie.Need-loop-again Inv-loop μ-loop
 loop-again c = (
   search needs,
-  subst₂
-      (λ (v : Verdict) (n : ℤ). FieldsTo (rangesOf (start c .args .line)) (bytes c) (now (start c .args .numbers)) (start c .args .place) (i c + 1) v (set (c .before .before .before .before .before .loop .numbers) (start c .args .place + i c) n))
-      (sym (verdict-is c))
-      (sym (number-is c))
-      (fields-more (rangesOf (start c .args .line)) (bytes c) (now (start c .args .numbers)) (start c .args .place) (i c) (c .before .before .before .before .before .loop .inv .1) (omega arith)),
-)
-
-returns : tie.Need-returns Inv-loop μ-loop
-returns c = (
-  fields-all (rangesOf (s .args .line)) bytes′ (now (s .args .numbers)) (s .args .place) (c .before .loop .i) (c .before .loop .inv .1) (omega (arith, all)),
-  c .before .loop .inv .1 .numbers-are ∙ ap (λ (n : ℕ). sets (now (s .args .numbers)) (s .args .place) (fieldNumbers n bytes′)) all,
+  length-set (numbers (o t)) _ _ ∙ c .before .before .before .before .before .loop .inv .1,
+  left-on (fieldIn (range s)) fieldSize 1 (s .args .count) (bytes (o t)) (s .args .at) (now (s .args .numbers)) (s .args .place) (i (o t)) (c .before .before .before .before .before .loop .inv .2)
+      (below (o t)) (here (o t)) (spot (o t)) refl (omega arith) stored refl (ap length (field-number (range s) (fieldAt (bytes (o t)) (here (o t))) (ap isAccepted (sym (stored .verdict-is))))),
 )
   where
-    s : lts.Start (field-count-reads.Asked, field-count-reads.Learnt, read-field-reads.Asked, read-field-reads.Learnt, check-field-reads.Asked, check-field-reads.Learnt, first-reads.Asked, first-reads.Learnt) reads.Pre reads.Post Inv-loop μ-loop
-    s = c .before .before .before .before
+    t : lts.After-in-range (read-field-reads.Asked, read-field-reads.Learnt, in-range-reads.Asked, in-range-reads.Learnt) reads.Pre reads.Post Inv-loop μ-loop
+    t = c .before
 
-    bytes′ : List ℕ
-    bytes′ = drop (s .args .at) (now (s .args .bytes))
+    s : lts.Start (read-field-reads.Asked, read-field-reads.Learnt, in-range-reads.Asked, in-range-reads.Learnt) reads.Pre reads.Post Inv-loop μ-loop
+    s = start (o t)
 
-    all : c .before .loop .i ≡ fieldCount (s .args .line)
-    all = omega arith
+    stored : Stored (fieldIn (range s) (drop (here (o t)) (bytes (o t)))) (numbers (o t)) (spot (o t)) Accepted (set (numbers (o t)) (spot (o t)) (toZ w32 (ofZ w32 (number (o t)))))
+    stored =
+        field-inside (range s) (bytes (o t)) (here (o t)) (long (o t)) (number (o t)) (o t .read-field .ok) (o t .read-field .ensures) (t .before .if1 .left)
+        (sym (test-is t) ∙ not-false _ (c .if2 .left)) (reads-back w32 (number (o t)) (o t .read-field .ok))
+
+returns-3 : tie.Need-returns-3 Inv-loop μ-loop
+returns-3 c =
+    let s = c .before .before .before in
+    in-words s
+    (left-none (fieldIn (range s)) fieldSize 1 (s .args .count) (now (s .args .bytes)) (s .args .at) (now (s .args .numbers)) (s .args .place) (c .before .loop .i) (c .before .loop .inv .2) (omega arith))
 
 pub read-fields-spec : {M : Type 1} → statement M
 read-fields-spec =
@@ -134,17 +180,18 @@ read-fields-spec =
     (tie.spec
     Inv-loop
     μ-loop
-    field-count-requires
     loop-holds
     mul-read-field
     add-read-field
     read-field-requires
-    check-field-requires
-    first-requires
+    returns
+    cast-in-range
+    in-range-requires
+    returns-2
     add-number
     mul-number
     element-set-from-number
     add-i
     loop-less
     loop-again
-    returns)
+    returns-3)

@@ -1,158 +1,168 @@
--- `reading::read_lines` meets its contract. The loop's invariant: i lines are read.
-use mathlib.Core.Path.{_≡_, sym, ap, subst, subst₂, _∙_}
+-- `reading::read_lines` meets its contract: the groups of lines, one after the other.
+use mathlib.Core.Path.{_≡_, refl, sym, ap, _∙_}
+use mathlib.Core.Bool.{true}
 use mathlib.Core.List.{List}
-use Prim.Native.Nat.{ℕ, _+_, _*_, _-_, _≤_, _<_}
+use Prim.Native.Nat.{ℕ}
 use native.Mathlib.Omega.{arith}
 use lib.IntN.{ℤ}
-use lib.ListN.{length, take, drop}
-use lib.Seq.{sets, length-sets}
+use lib.ListN.{drop, replicate}
 use denote.Ref.{now}
 use borrow.Author.Needs.{needs}
-use Rattle.refusals.specs.Numbers.{firstOf}
-use Rattle.refusals.specs.declared.Verdict.{Verdict}
-use Rattle.numbers.specs.Layout.{unitSize}
-use Rattle.sheet.specs.declared.Line.{Line}
-use Rattle.sheet.specs.declared.Line.the-variants.{Volume}
-use Rattle.sheet.specs.Lines.{sheetSize, lines, fieldCount, lineSize}
-use Rattle.reading.specs.Reading.{lineNumbers, lineVerdict, numbersIn}
-use Rattle.sheet.proofs.Places.{sum-within}
-use Rattle.reading.proofs.Lines.{LinesTo, lines-none, lines-more, lines-verdict, lines-numbers}
+use borrow.Author.Tests.{not-true, not-false}
+use Rattle.refusals.specs.Numbers.{isAccepted}
+use Rattle.unit.specs.Cleared.{bandCount}
+use Rattle.unit.specs.Fit.{isVolume}
+use Rattle.sheet.specs.declared.Line.the-variants.{Volume, Band}
+use Rattle.sheet.specs.Lines.{lines}
+use Rattle.reading.specs.Parts.{Part, andThen, linePart, linesPart, channelPart, Stored}
+use Rattle.reading.proofs.Parts.{restored, stored-length, Leads, on, off}
+use Rattle.reading.proofs.Whole.{line-long}
+use Rattle.reading.proofs.Sheet.{sheet-parts, channel-long, bands-long}
 use Rattle.reading.proofs.read_lines.Statement.{statement}
 use Rattle.reading.proofs.read_lines.Tie as tie
 use Rattle.reading.proofs.read_lines.Reads as reads
 use Rattle.reading.proofs.read_lines.Lts as lts
+use Rattle.reading.proofs.read_bands.Reads as read-bands-reads
+use Rattle.reading.proofs.read_channel.Reads as read-channel-reads
 use Rattle.reading.proofs.read_line.Reads as read-line-reads
-use Rattle.reading.proofs.first.Reads as first-reads
-use Rattle.sheet.proofs.field_count.Reads as field-count-reads
-use Rattle.sheet.proofs.line_at.Reads as line-at-reads
+use Rattle.refusals.proofs.accepted.Reads as accepted-reads
 
-abbrev Inv-loop : tie.InvT-loop
-Inv-loop bytes numbers₀ verdict₀ at₀ place₀ i₀ numbers verdict at place i =
-    (i ≤ length lines) × LinesTo lines bytes numbers₀ i verdict numbers at place
-
-abbrev μ-loop : tie.MeasureT-loop
-μ-loop bytes numbers₀ verdict₀ at₀ place₀ i₀ numbers verdict at place i = length lines - i
-
-loop-holds : tie.Need-loop-holds Inv-loop μ-loop
-loop-holds c = (search needs, lines-none lines (now (c .before .args .bytes)) (now (c .before .args .numbers)))
-
-line-at-requires : tie.Need-line-at-requires Inv-loop μ-loop
-line-at-requires c κs = search needs
-
-field-count-requires : tie.Need-field-count-requires Inv-loop μ-loop
-field-count-requires c κs = search needs
-
--- ---- a line, and where it is
-
-module _ (c : lts.After-field-count (line-at-reads.Asked, line-at-reads.Learnt, field-count-reads.Asked, field-count-reads.Learnt, read-line-reads.Asked, read-line-reads.Learnt, first-reads.Asked, first-reads.Learnt) reads.Pre reads.Post Inv-loop μ-loop) where
-  abbrev start : lts.Start (line-at-reads.Asked, line-at-reads.Learnt, field-count-reads.Asked, field-count-reads.Learnt, read-line-reads.Asked, read-line-reads.Learnt, first-reads.Asked, first-reads.Learnt) reads.Pre reads.Post Inv-loop μ-loop
-  start = c .before .before .before .before .before
-
-  abbrev turn : lts.At-loop·own (line-at-reads.Asked, line-at-reads.Learnt, field-count-reads.Asked, field-count-reads.Learnt, read-line-reads.Asked, read-line-reads.Learnt, first-reads.Asked, first-reads.Learnt) reads.Pre reads.Post Inv-loop μ-loop (c .before .before .before .before)
-  turn = c .before .before .before .loop
-
+module _ (c : lts.Start (read-line-reads.Asked, read-line-reads.Learnt, accepted-reads.Asked, accepted-reads.Learnt, read-bands-reads.Asked, read-bands-reads.Learnt, read-channel-reads.Asked, read-channel-reads.Learnt) reads.Pre reads.Post) where
   abbrev bytes : List ℕ
-  bytes = now (start .args .bytes)
+  bytes = now (c .args .bytes)
 
-  abbrev to : LinesTo lines bytes (now (start .args .numbers)) (turn .i) (turn .verdict) (turn .numbers) (turn .at) (turn .place)
-  to = turn .inv .1
+  abbrev numbers : List ℤ
+  numbers = now (c .args .numbers)
 
-  below : turn .i < length lines
-  below = omega arith
+  -- the groups of lines behind the V line
+  abbrev bands : Part
+  bands = linesPart (replicate bandCount Band) (drop 20 bytes)
 
-  abbrev line : Line
-  line = c .before .line-at .result
+  abbrev left : Part
+  left = channelPart 76 (drop 310 bytes)
 
-  abbrev count : ℕ
-  count = c .field-count .result
+  abbrev right : Part
+  right = channelPart 82 (drop 719 bytes)
 
-  line-ends : turn .at + lineSize line ≤ sheetSize
-  line-ends = omega (arith, to .at-is, sum-within lineSize Volume lines (turn .i) line below (c .before .line-at .ensures))
+  abbrev whole : Part
+  whole = linesPart lines bytes
 
-  fields-end : turn .place + fieldCount line ≤ unitSize
-  fields-end = omega (arith, to .place-is, sum-within fieldCount Volume lines (turn .i) line below (c .before .line-at .ensures))
+  leads-all : Leads (andThen (linePart Volume bytes) (andThen bands (andThen left right))) numbers 0 whole numbers 0
+  leads-all v m s = restored (sym (sheet-parts bytes)) refl s
 
-  numbers-length : length (turn .numbers) ≡ unitSize
-  numbers-length =
-      ap length (to .numbers-are)
-      ∙ length-sets (now (start .args .numbers)) 0 (numbersIn (take (turn .i) lines) bytes)
-      ∙ start .pre .1
+-- ---- the V line read
 
-read-line-requires : tie.Need-read-line-requires Inv-loop μ-loop
-read-line-requires c κs = (omega (arith, line-ends (c .before), start (c .before) .pre .0), numbers-length (c .before), fields-end (c .before))
+module _ (c : lts.After-read-line (read-line-reads.Asked, read-line-reads.Learnt, accepted-reads.Asked, accepted-reads.Learnt, read-bands-reads.Asked, read-bands-reads.Learnt, read-channel-reads.Asked, read-channel-reads.Learnt) reads.Pre reads.Post) where
+  abbrev start : lts.Start (read-line-reads.Asked, read-line-reads.Learnt, accepted-reads.Asked, accepted-reads.Learnt, read-bands-reads.Asked, read-bands-reads.Learnt, read-channel-reads.Asked, read-channel-reads.Learnt) reads.Pre reads.Post
+  start = c .before .before .before
 
-first-requires : tie.Need-first-requires Inv-loop μ-loop
-first-requires c κs = search needs
+  volume : Stored (linePart Volume (bytes start)) (numbers start) 0 (c .read-line .result) (c .read-line .last .1 .1 .1 .1 .1 .1 .0)
+  unfolding isVolume
+  volume = c .read-line .ensures
 
-mul-at : tie.Need-mul-at Inv-loop μ-loop
-mul-at c = omega (arith, line-ends (c .before .before .before), c .before .before .before .field-count .ensures)
+  module _ (e : isAccepted (c .read-line .result) ≡ true) where
+    leads-bands : Leads (andThen (bands start) (andThen (left start) (right start))) (c .read-line .last .1 .1 .1 .1 .1 .1 .0) 2 (whole start) (numbers start) 0
+    leads-bands =
+        on (linePart Volume (bytes start)) (andThen (bands start) (andThen (left start) (right start))) (leads-all start) volume e 2
+        (line-long Volume (bytes start) (ap isAccepted (sym (volume .verdict-is)) ∙ e))
 
-add-at : tie.Need-add-at Inv-loop μ-loop
-add-at c = omega (arith, line-ends (c .before .before .before), c .before .before .before .field-count .ensures)
+read-line-requires : tie.Need-read-line-requires
+read-line-requires c κs = search needs
 
-add-at-2 : tie.Need-add-at-2 Inv-loop μ-loop
-add-at-2 c = omega (arith, line-ends (c .before .before .before), c .before .before .before .field-count .ensures)
+accepted-requires : tie.Need-accepted-requires
+accepted-requires c κs = search needs
 
-add-place : tie.Need-add-place Inv-loop μ-loop
-add-place c = omega (arith, fields-end (c .before .before .before), c .before .before .before .field-count .ensures)
+returns : tie.Need-returns
+returns c =
+    let o = c .before .before in
+    let s = start o in
+    off (linePart Volume (bytes s)) (andThen (bands s) (andThen (left s) (right s))) (leads-all s) (volume o) (sym (c .before .accepted .ensures) ∙ not-true _ (c .if1 .taken))
 
-add-i : tie.Need-add-i Inv-loop μ-loop
-add-i c = search needs
+-- ---- past the V line
 
-loop-less : tie.Need-loop-less Inv-loop μ-loop
-loop-less c = search needs
+module _ (c : lts.Else1 (read-line-reads.Asked, read-line-reads.Learnt, accepted-reads.Asked, accepted-reads.Learnt, read-bands-reads.Asked, read-bands-reads.Learnt, read-channel-reads.Asked, read-channel-reads.Learnt) reads.Pre reads.Post) where
+  abbrev first : lts.After-read-line (read-line-reads.Asked, read-line-reads.Learnt, accepted-reads.Asked, accepted-reads.Learnt, read-bands-reads.Asked, read-bands-reads.Learnt, read-channel-reads.Asked, read-channel-reads.Learnt) reads.Pre reads.Post
+  first = c .before .before
 
-loop-again : tie.Need-loop-again Inv-loop μ-loop
-loop-again c = (
-  search needs,
-  subst₂ (λ (v : Verdict) (l : List ℤ). To v l (turn s .at + (9 * count s + 2)) (turn s .place + count s)) (sym verdict-is) (sym numbers-are)
-      (subst (λ (n : ℕ). To verdict′ numbers′ (turn s .at + (9 * n + 2)) (turn s .place + n)) (sym (s .field-count .ensures))
-      (lines-more lines (bytes s) (now (start s .args .numbers)) (turn s .i) (to s) (line s) (below s) (s .before .line-at .ensures))),
-)
-  where
-    s : lts.After-field-count (line-at-reads.Asked, line-at-reads.Learnt, field-count-reads.Asked, field-count-reads.Learnt, read-line-reads.Asked, read-line-reads.Learnt, first-reads.Asked, first-reads.Learnt) reads.Pre reads.Post Inv-loop μ-loop
-    s = c .before .before .before
+  passed : isAccepted (first .read-line .result) ≡ true
+  passed = sym (c .before .accepted .ensures) ∙ not-false _ (c .if1 .left)
 
-    To : Verdict → List ℤ → ℕ → ℕ → Type 0
-    To = LinesTo lines (bytes s) (now (start s .args .numbers)) (turn s .i + 1)
+read-bands-requires : tie.Need-read-bands-requires
+read-bands-requires c κs =
+    let o = first (c .before) in
+    (start o .pre .0, stored-length (volume o) ∙ start o .pre .1)
 
-    verdict′ : Verdict
-    verdict′ = firstOf (turn s .verdict) (lineVerdict (line s) (drop (turn s .at) (bytes s)))
+accepted-requires-2 : tie.Need-accepted-requires-2
+accepted-requires-2 c κs = search needs
 
-    numbers′ : List ℤ
-    numbers′ = sets (turn s .numbers) (turn s .place) (lineNumbers (line s) (drop (turn s .at) (bytes s)))
+returns-2 : tie.Need-returns-2
+returns-2 c =
+    let f = c .before .before .before .before in
+    let s = start (first f) in
+    off (bands s) (andThen (left s) (right s)) (leads-bands (first f) (passed f)) (c .before .before .read-bands .ensures) (sym (c .before .accepted2 .ensures) ∙ not-true _ (c .if2 .taken))
 
-    verdict-is : c .first .result ≡ verdict′
-    verdict-is = c .first .ensures ∙ ap (firstOf (turn s .verdict)) (c .before .read-line .ensures .0)
+-- ---- past the C lines
 
-    numbers-are : c .before .read-line .last .1 .1 .1 .0 ≡ numbers′
-    numbers-are = c .before .read-line .ensures .1
+module _ (c : lts.Else2 (read-line-reads.Asked, read-line-reads.Learnt, accepted-reads.Asked, accepted-reads.Learnt, read-bands-reads.Asked, read-bands-reads.Learnt, read-channel-reads.Asked, read-channel-reads.Learnt) reads.Pre reads.Post) where
+  abbrev front : lts.Else1 (read-line-reads.Asked, read-line-reads.Learnt, accepted-reads.Asked, accepted-reads.Learnt, read-bands-reads.Asked, read-bands-reads.Learnt, read-channel-reads.Asked, read-channel-reads.Learnt) reads.Pre reads.Post
+  front = c .before .before .before .before
 
-returns : tie.Need-returns Inv-loop μ-loop
-returns c = (
-  lines-verdict lines (now (s .args .bytes)) (now (s .args .numbers)) (c .before .loop .i) (c .before .loop .inv .1) (omega arith),
-  lines-numbers lines (now (s .args .bytes)) (now (s .args .numbers)) (c .before .loop .i) (c .before .loop .inv .1) (omega arith),
-)
-  where
-    s : lts.Start (line-at-reads.Asked, line-at-reads.Learnt, field-count-reads.Asked, field-count-reads.Learnt, read-line-reads.Asked, read-line-reads.Learnt, first-reads.Asked, first-reads.Learnt) reads.Pre reads.Post Inv-loop μ-loop
-    s = c .before .before .before
+  abbrev begun : lts.Start (read-line-reads.Asked, read-line-reads.Learnt, accepted-reads.Asked, accepted-reads.Learnt, read-bands-reads.Asked, read-bands-reads.Learnt, read-channel-reads.Asked, read-channel-reads.Learnt) reads.Pre reads.Post
+  begun = start (first front)
+
+  passed-bands : isAccepted (c .before .before .read-bands .result) ≡ true
+  passed-bands = sym (c .before .accepted2 .ensures) ∙ not-false _ (c .if2 .left)
+
+  leads-left : Leads (andThen (left begun) (right begun)) (c .before .before .read-bands .last .1 .0) 32 (whole begun) (numbers begun) 0
+  leads-left =
+      on (bands begun) (andThen (left begun) (right begun)) (leads-bands (first front) (passed front)) (c .before .before .read-bands .ensures) passed-bands 30
+      (bands-long (drop 20 (bytes begun)) (ap isAccepted (sym (c .before .before .read-bands .ensures .verdict-is)) ∙ passed-bands))
+
+read-channel-requires : tie.Need-read-channel-requires
+read-channel-requires c κs =
+    let b = begun (c .before) in (
+      omega (arith, b .pre .0),
+      stored-length (c .before .before .before .read-bands .ensures) ∙ stored-length (volume (first (front (c .before)))) ∙ b .pre .1,
+      omega arith,
+    )
+
+accepted-requires-3 : tie.Need-accepted-requires-3
+accepted-requires-3 c κs = search needs
+
+returns-3 : tie.Need-returns-3
+returns-3 c =
+    let t = c .before .before .before .before in
+    off (left (begun t)) (right (begun t)) (leads-left t) (c .before .before .read-channel .ensures) (sym (c .before .accepted3 .ensures) ∙ not-true _ (c .if3 .taken))
+
+read-channel-requires-2 : tie.Need-read-channel-requires-2
+read-channel-requires-2 c κs =
+    let t = c .before .before .before .before .before in (
+      omega (arith, begun t .pre .0),
+      stored-length (c .before .before .before .read-channel .ensures) ∙ stored-length (t .before .before .read-bands .ensures) ∙ stored-length (volume (first (front t))) ∙ begun t .pre .1,
+      omega arith,
+    )
+
+returns-4 : tie.Need-returns-4
+returns-4 c =
+    let u = c .before .before in
+    let o = u .before .before in
+    let t = o .before .before in
+    let e = sym (u .before .accepted3 .ensures) ∙ not-false _ (u .if3 .left) in
+    on (left (begun t)) (right (begun t)) (leads-left t) (o .read-channel .ensures) e 43
+    (channel-long 76 (drop 310 (bytes (begun t))) (ap isAccepted (sym (o .read-channel .ensures .verdict-is)) ∙ e)) _ _ (c .read-channel2 .ensures)
 
 pub read-lines-spec : {M : Type 1} → statement M
 read-lines-spec =
     tie.close
     (tie.spec
-    Inv-loop
-    μ-loop
-    loop-holds
-    line-at-requires
-    field-count-requires
     read-line-requires
-    first-requires
-    mul-at
-    add-at
-    add-at-2
-    add-place
-    add-i
-    loop-less
-    loop-again
-    returns)
+    accepted-requires
+    returns
+    read-bands-requires
+    accepted-requires-2
+    returns-2
+    read-channel-requires
+    accepted-requires-3
+    returns-3
+    read-channel-requires-2
+    returns-4)

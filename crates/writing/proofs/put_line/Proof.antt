@@ -1,6 +1,6 @@
 -- `writing::put_line` meets its contract: the letter, the fields and the line feed stand one behind the other.
-use mathlib.Core.Path.{_≡_, ap, ap₂, _∙_}
-use mathlib.Core.List.{List, [], _∷_, _++_}
+use mathlib.Core.Path.{_≡_, ap, _∙_}
+use mathlib.Core.List.{List}
 use Prim.Native.Nat.{ℕ, _+_, _*_}
 use native.Mathlib.Omega.{arith}
 use lib.IntN.{ℤ}
@@ -17,15 +17,7 @@ use Rattle.writing.proofs.put_line.Statement.{statement}
 use Rattle.writing.proofs.put_line.Tie as tie
 use Rattle.writing.proofs.put_line.Reads as reads
 use Rattle.writing.proofs.put_line.Lts as lts
-use Rattle.sheet.proofs.field_count.Reads as field-count-reads
-use Rattle.sheet.proofs.letter.Reads as letter-reads
 use Rattle.writing.proofs.put_fields.Reads as put-fields-reads
-
-field-count-requires : tie.Need-field-count-requires
-field-count-requires c κs = search needs
-
-letter-requires : tie.Need-letter-requires
-letter-requires c κs = search needs
 
 slice-write-out : tie.Need-slice-write-out
 slice-write-out c = search needs
@@ -34,7 +26,7 @@ add-put-fields : tie.Need-add-put-fields
 add-put-fields c = search needs
 
 put-fields-requires : tie.Need-put-fields-requires
-put-fields-requires c κs = (simp length-set (omega arith), c .before .before .before .before .pre .1, omega arith)
+put-fields-requires c κs = (simp length-set (omega arith), c .before .before .pre .1, omega arith)
 
 add-out : tie.Need-add-out
 add-out c = search needs
@@ -52,21 +44,21 @@ same-length : tie.Need-same-length
 same-length c = simp length-set (c .before .before .put-fields .kept .0 ∙ simp length-set)
 
 -- the letter, the fields and the line feed are stored one behind the other
-module _ (c : lts.After-slice-known2 (field-count-reads.Asked, field-count-reads.Learnt, letter-reads.Asked, letter-reads.Learnt, put-fields-reads.Asked, put-fields-reads.Learnt) reads.Pre reads.Post) where
+module _ (c : lts.After-slice-known2 (put-fields-reads.Asked, put-fields-reads.Learnt) reads.Pre reads.Post) where
   abbrev out : List ℕ
-  out = now (c .before .before .before .before .before .before .before .args .out)
+  out = now (c .before .before .before .before .before .args .out)
 
   abbrev at : ℕ
-  at = c .before .before .before .before .before .before .before .args .at
+  at = c .before .before .before .before .before .args .at
 
   abbrev count : ℕ
-  count = c .before .before .before .before .before .field-count .result
+  count = c .before .before .before .before .before .args .count
 
   abbrev letter : ℕ
-  letter = c .before .before .before .before .letter .result
+  letter = c .before .before .before .before .before .args .letter
 
   abbrev numbers : List ℤ
-  numbers = drop (c .before .before .before .before .before .before .before .args .place) (now (c .before .before .before .before .before .before .before .args .numbers))
+  numbers = drop (c .before .before .before .before .before .args .place) (now (c .before .before .before .before .before .args .numbers))
 
   stored : c .before .before .put-fields .last .0 ≡ sets (set out at letter) (at + 1) (joined field (take count numbers))
   stored = c .before .before .put-fields .ensures
@@ -76,21 +68,18 @@ module _ (c : lts.After-slice-known2 (field-count-reads.Asked, field-count-reads
       omega (
         arith,
         fields-length (take count numbers),
-        length-take-le count numbers (omega (arith, length-drop (c .before .before .before .before .before .before .before .args .place) (now (c .before .before .before .before .before .before .before .args .numbers)))),
+        length-take-le count numbers (omega (arith, length-drop (c .before .before .before .before .before .args .place) (now (c .before .before .before .before .before .args .numbers)))),
       )
 
 returns : tie.Need-returns
 returns c =
     ap (λ (l : List ℕ). set l (at c + 1 + 9 * count c) lineFeed) (stored c)
     ∙ parts-put (out c) (at c) (letter c) (joined field (take (count c) (numbers c))) lineFeed (at c + 1 + 9 * count c) (fields-end c)
-    ∙ ap₂ (λ (a n : ℕ). sets (out c) (at c) (a ∷ (joined field (take n (numbers c)) ++ (lineFeed ∷ [])))) (c .before .before .before .before .letter .ensures) (c .before .before .before .before .before .field-count .ensures)
 
 pub put-line-spec : {M : Type 1} → statement M
 put-line-spec =
     tie.close
     (tie.spec
-    field-count-requires
-    letter-requires
     slice-write-out
     add-put-fields
     put-fields-requires

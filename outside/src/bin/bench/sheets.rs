@@ -15,9 +15,9 @@ use outside::unit::{cleared, Numbers};
 use super::{fold, race, ROUNDS};
 
 const SEED: u64 = 0xF0DD_00C0;
-/// So many units are taken in turn, since a sheet is read once.
+/// So many units are taken in turn: none of them is learnt.
 const UNITS: usize = 1_024;
-/// With so few both are faster. Printed beside the others, with no limit.
+/// So few may be.
 const FEW: usize = 64;
 const CALLS: usize = 65_536;
 
@@ -95,24 +95,29 @@ fn race_reads(name: &str, units: &[Numbers]) -> f64 {
     race(name, library, rust_read, |read| run_reads(read, &sheets))
 }
 
-/// Random units, writing and reading each measured again up to twice where the
-/// ratio is over the most that is allowed; then, with no limit, a few of them
-/// and the cleared house unit. True where both were met.
+/// Many random units, a few of them, and the cleared house unit, written and
+/// read: each is measured again up to twice where its ratio is over the most that
+/// is allowed. True where every one was met.
 pub fn within(most: f64) -> bool {
     println!(
-        "sheets: seed {SEED:#x}, {UNITS} units in turn, {CALLS} calls a run, \
-         best of {ROUNDS} runs each, in turns"
+        "sheets: seed {SEED:#x}, {CALLS} calls a run, best of {ROUNDS} runs each, \
+         in turns"
     );
     let mut random = Random::new(SEED);
     let sets = Sets::all();
     let mut unit = |turn| random_fit(&sets.draw(turn, &mut random), &mut random);
     let units: Vec<Numbers> = (0..UNITS as u64).map(&mut unit).collect();
-    let written = (0..3).any(|_| race_writes("sheet written", &units) <= most);
-    let read = (0..3).any(|_| race_reads("sheet read", &units) <= most);
-    race_writes("sheet of a few written", &units[..FEW]);
-    race_reads("sheet of a few read", &units[..FEW]);
     let house = [cleared(&house_set())];
-    race_writes("sheet of the cleared house unit written", &house);
-    race_reads("sheet of the cleared house unit read", &house);
-    written && read
+    let mut met = true;
+    for (name, units) in [
+        ("of 1,024 units", &units[..]),
+        ("of 64 units", &units[..FEW]),
+        ("of the cleared house unit", &house[..]),
+    ] {
+        let written = format!("sheet {name} written");
+        met &= (0..3).any(|_| race_writes(&written, units) <= most);
+        let read = format!("sheet {name} read");
+        met &= (0..3).any(|_| race_reads(&read, units) <= most);
+    }
+    met
 }

@@ -1,0 +1,80 @@
+-- `reading::read_input` meets its contract.
+use mathlib.Core.Path.{_≡_, sym, ap, _∙_}
+use denote.Ref.{now}
+use mir.Syntax.{w32}
+use borrow.Author.Needs.{needs}
+use borrow.Author.Tests.{not-true, not-false}
+use Rattle.integers.proofs.Machine.{reads-back, widened, widen-need}
+use Rattle.unit.specs.Fit.{isInput}
+use Rattle.reading.proofs.Field.{field-badly, field-outside, field-inside}
+use Rattle.reading.proofs.read_input.Statement.{statement}
+use Rattle.reading.proofs.read_input.Tie as tie
+use Rattle.reading.proofs.read_input.Reads as reads
+use Rattle.reading.proofs.read_input.Lts as lts
+use Rattle.fields.proofs.read_field.Reads as read-field-reads
+use Rattle.fitness.proofs.input_fits.Reads as input-fits-reads
+
+-- src/lib.rt:170:9
+read-field-requires : tie.Need-read-field-requires
+read-field-requires c κs = search needs
+
+-- src/lib.rt:172:9
+returns : tie.Need-returns
+returns c =
+    let s = c .before .before .before in
+    field-badly isInput (now (s .args .bytes)) (s .args .at) (s .pre .0) (c .before .read-field .result) (c .before .read-field .ok) (c .before .read-field .ensures) (c .if1 .taken)
+
+-- src/lib.rt:174:29
+cast-input-fits : tie.Need-cast-input-fits
+cast-input-fits c = widen-need tt (c .before .read-field .result) (record { sfits = c .before .read-field .ok })
+
+-- src/lib.rt:174:9
+input-fits-requires : tie.Need-input-fits-requires
+input-fits-requires c κs = search needs
+
+-- ---- the number tested
+
+module _ (c : lts.After-input-fits (read-field-reads.Asked, read-field-reads.Learnt, input-fits-reads.Asked, input-fits-reads.Learnt) reads.Pre reads.Post) where
+  test-is : c .input-fits .result ≡ isInput (c .before .before .read-field .result)
+  test-is =
+      c .input-fits .ensures
+      ∙ ap isInput (widened tt (c .before .before .read-field .result) (record { sfits = c .before .before .read-field .ok }) .reads)
+
+-- src/lib.rt:175:9
+returns-2 : tie.Need-returns-2
+returns-2 c =
+    let o = c .before in
+    let f = c .before .before .before in
+    let s = c .before .before .before .before .before in
+    field-outside isInput (now (s .args .bytes)) (s .args .at) (s .pre .0) (f .read-field .result) (f .read-field .ok) (f .read-field .ensures) (o .before .if1 .left)
+    (sym (test-is o) ∙ not-true _ (c .if2 .taken))
+
+-- src/lib.rt:177:5
+mul-input : tie.Need-mul-input
+mul-input c = search needs
+
+-- src/lib.rt:177:5
+element-set-from-input : tie.Need-element-set-from-input
+element-set-from-input c = search needs
+
+-- src/lib.rt:166:1
+returns-3 : tie.Need-returns-3
+returns-3 c =
+    let o = c .before in
+    let f = c .before .before .before in
+    let s = c .before .before .before .before .before in
+    field-inside isInput (now (s .args .bytes)) (s .args .at) (s .pre .0) (f .read-field .result) (f .read-field .ok) (f .read-field .ensures) (o .before .if1 .left)
+    (sym (test-is o) ∙ not-false _ (c .if2 .left)) (reads-back w32 (f .read-field .result) (f .read-field .ok))
+
+pub read-input-spec : {M : Type 1} → statement M
+read-input-spec =
+    tie.close
+    (tie.spec
+    read-field-requires
+    returns
+    cast-input-fits
+    input-fits-requires
+    returns-2
+    mul-input
+    element-set-from-input
+    returns-3)

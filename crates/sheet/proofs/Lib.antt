@@ -1,3 +1,0 @@
--- The laws of the lines.
-pub mod Groups
-pub mod Places
