@@ -15,9 +15,9 @@ use outside::unit::{cleared, Numbers};
 use super::{fold, race, ROUNDS};
 
 const SEED: u64 = 0xF0DD_00C0;
-/// So many units are taken in turn: none of them is learnt.
+/// So many random units are taken in turn.
 const UNITS: usize = 1_024;
-/// So few may be.
+/// And so few of them, with which both forms are faster.
 const FEW: usize = 64;
 const CALLS: usize = 65_536;
 
