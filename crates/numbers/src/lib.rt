@@ -16,7 +16,9 @@ use unit::BandSection;
 use unit::Channel;
 use unit::Unit;
 
-// Where the numbers of the left channel and of the right channel begin.
+// Where the numbers of the bands, of the left channel and of the right channel begin.
+pub const BANDS: usize = 2;
+
 pub const LEFT: usize = 32;
 
 pub const RIGHT: usize = 75;
@@ -62,7 +64,7 @@ fn band_at(numbers: &[i32; 118], b: usize) -> Band
     requires { ⌜ b < 10 ⌝ }
     ensures { λ r. ⌜ r ≡ bandAt (drop bandsPlace (now (numbers .entry))) b ⌝ }
 {
-    let at = 3 * b + 2;
+    let at = 3 * b + BANDS;
     Band {
         alpha: numbers[at],
         beta: numbers[at + 1],
@@ -167,7 +169,7 @@ fn put_bands(out: &mut [i32; 118], bands: [Band; 10])
     let mut b = 0;
     while b < 10 {
         let band = bands[b];
-        put_band(out, 3 * b + 2, band);
+        put_band(out, 3 * b + BANDS, band);
         b += 1;
     }
 }

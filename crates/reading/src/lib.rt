@@ -7,9 +7,10 @@ ghost use Rattle.rounding.specs.Rounding.{within};
 ghost use Rattle.bands.specs.Bands.{bandVerdict, bandAt};
 ghost use Rattle.unit.specs.Cleared.{bandCount};
 ghost use Rattle.unit.specs.Fit.{isInput};
+ghost use Rattle.engine.specs.Numbers.{channelSize};
 ghost use Rattle.numbers.specs.Layout.{unitSize, bandsPlace};
 ghost use Rattle.fields.specs.Fields.{fieldSize};
-ghost use Rattle.sheet.specs.Lines.{sheetSize, lines, channelRanges};
+ghost use Rattle.sheet.specs.Lines.{sheetSize, lines, channelRanges, fieldCount, lineSize};
 ghost use Rattle.reading.specs.Reading.{markVerdict, sheetRead};
 ghost use Rattle.reading.specs.Parts.{fieldPart, fieldsPart, plainPart, linePart, linesPart, channelPart, sheetPart, Stored};
 use bands::Band;
@@ -21,6 +22,12 @@ use unit::Unit;
 const LEAST: i64 = -999_999_999;
 
 const MOST: i64 = 999_999_999;
+
+// The least volume.
+const VOLUME_LEAST: i64 = 0;
+
+// Where the flag of an L or an R line stands behind its first field.
+const FLAG_AT: usize = 18;
 
 // What reading a sheet gives.
 pub struct SheetRead {
@@ -60,7 +67,16 @@ fn read_lines(bytes: &[u8], numbers: &mut [i32; 118]) -> Verdict
     requires { ⌜ (length (now bytes) ≡ sheetSize) × (length (now numbers) ≡ unitSize) ⌝ }
     ensures { λ r. ⌜ Stored (linesPart lines (now (bytes .entry))) (now (numbers .entry)) 0 r (now (numbers .exit)) ⌝ }
 {
-    let volume = read_line(bytes, 0, b'V', 2, 0, bands::WORD_HIGH, numbers, 0);
+    let volume = read_line(
+        bytes,
+        0,
+        sheet::VOLUME_LETTER,
+        sheet::VOLUME_FIELDS,
+        VOLUME_LEAST,
+        bands::WORD_HIGH,
+        numbers,
+        0,
+    );
     if !refusals::accepted(volume) {
         return volume;
     }
@@ -68,22 +84,34 @@ fn read_lines(bytes: &[u8], numbers: &mut [i32; 118]) -> Verdict
     if !refusals::accepted(bands) {
         return bands;
     }
-    let left = read_channel(bytes, sheet::LEFT_AT, b'L', numbers, numbers::LEFT);
+    let left = read_channel(
+        bytes,
+        sheet::LEFT_AT,
+        sheet::LEFT_LETTER,
+        numbers,
+        numbers::LEFT,
+    );
     if !refusals::accepted(left) {
         return left;
     }
-    read_channel(bytes, sheet::RIGHT_AT, b'R', numbers, numbers::RIGHT)
+    read_channel(
+        bytes,
+        sheet::RIGHT_AT,
+        sheet::RIGHT_LETTER,
+        numbers,
+        numbers::RIGHT,
+    )
 }
 
 // Reads the ten C lines.
 fn read_bands(bytes: &[u8], numbers: &mut [i32; 118]) -> Verdict
     requires { ⌜ (length (now bytes) ≡ sheetSize) × (length (now numbers) ≡ unitSize) ⌝ }
-    ensures { λ r. ⌜ Stored (linesPart (replicate bandCount Line.Band) (drop 20 (now (bytes .entry)))) (now (numbers .entry)) bandsPlace r (now (numbers .exit)) ⌝ }
+    ensures { λ r. ⌜ Stored (linesPart (replicate bandCount Line.Band) (drop (lineSize Line.Volume) (now (bytes .entry)))) (now (numbers .entry)) bandsPlace r (now (numbers .exit)) ⌝ }
 {
     let mut i = 0;
     while i < 10 {
         let at = sheet::BAND_LINE * i + sheet::BANDS_AT;
-        let found = read_band(bytes, at, numbers, 3 * i + 2);
+        let found = read_band(bytes, at, numbers, sheet::BAND_FIELDS * i + numbers::BANDS);
         if !refusals::accepted(found) {
             return found;
         }
@@ -94,14 +122,22 @@ fn read_bands(bytes: &[u8], numbers: &mut [i32; 118]) -> Verdict
 
 // Reads a C line from place at on: 8 to 10 stand behind its fields and ahead of its line end.
 fn read_band(bytes: &[u8], at: usize, numbers: &mut [i32; 118], place: usize) -> Verdict
-    requires { ⌜ (at + 29 ≤ length (now bytes)) × (length (now numbers) ≡ unitSize) × (place + 3 ≤ unitSize) ⌝ }
+    requires { ⌜ (at + lineSize Line.Band ≤ length (now bytes)) × (length (now numbers) ≡ unitSize) × (place + fieldCount Line.Band ≤ unitSize) ⌝ }
     ensures { λ r. ⌜ Stored (linePart Line.Band (drop at (now (bytes .entry)))) (now (numbers .entry)) place r (now (numbers .exit)) ⌝ }
 {
-    let front = check_mark(bytes[at], b'C');
+    let front = check_mark(bytes[at], sheet::BAND_LETTER);
     if !refusals::accepted(front) {
         return front;
     }
-    let middle = read_fields(bytes, at + 1, 3, LEAST, MOST, numbers, place);
+    let middle = read_fields(
+        bytes,
+        at + 1,
+        sheet::BAND_FIELDS,
+        LEAST,
+        MOST,
+        numbers,
+        place,
+    );
     if !refusals::accepted(middle) {
         return middle;
     }
@@ -109,7 +145,7 @@ fn read_band(bytes: &[u8], at: usize, numbers: &mut [i32; 118], place: usize) ->
     if !refusals::accepted(joint) {
         return joint;
     }
-    check_mark(bytes[at + 28], sheet::LINE_FEED)
+    check_mark(bytes[at + sheet::BAND_END], sheet::LINE_FEED)
 }
 
 // Reads the lines of a channel from place at on: an L or an R line, and ten S lines.
@@ -120,19 +156,24 @@ fn read_channel(
     numbers: &mut [i32; 118],
     place: usize,
 ) -> Verdict
-    requires { ⌜ (at + 409 ≤ length (now bytes)) × (length (now numbers) ≡ unitSize) × (place + 43 ≤ unitSize) ⌝ }
+    requires { ⌜ (at + (lineSize Line.Left + lineSize Line.Section * bandCount) ≤ length (now bytes)) × (length (now numbers) ≡ unitSize) × (place + channelSize ≤ unitSize) ⌝ }
     ensures { λ r. ⌜ Stored (channelPart letter (drop at (now (bytes .entry)))) (now (numbers .entry)) place r (now (numbers .exit)) ⌝ }
 {
     let head = read_head(bytes, at, letter, numbers, place);
     if !refusals::accepted(head) {
         return head;
     }
-    read_sections(bytes, at + 29, numbers, place + 3)
+    read_sections(
+        bytes,
+        at + sheet::BAND_LINE,
+        numbers,
+        place + sheet::CHANNEL_FIELDS,
+    )
 }
 
 // Reads an L or an R line from place at on.
 fn read_head(bytes: &[u8], at: usize, letter: u8, numbers: &mut [i32; 118], place: usize) -> Verdict
-    requires { ⌜ (at + 29 ≤ length (now bytes)) × (length (now numbers) ≡ unitSize) × (place + 3 ≤ unitSize) ⌝ }
+    requires { ⌜ (at + lineSize Line.Left ≤ length (now bytes)) × (length (now numbers) ≡ unitSize) × (place + fieldCount Line.Left ≤ unitSize) ⌝ }
     ensures { λ r. ⌜ Stored (plainPart letter channelRanges (drop at (now (bytes .entry)))) (now (numbers .entry)) place r (now (numbers .exit)) ⌝ }
 {
     let front = check_mark(bytes[at], letter);
@@ -143,23 +184,23 @@ fn read_head(bytes: &[u8], at: usize, letter: u8, numbers: &mut [i32; 118], plac
     if !refusals::accepted(middle) {
         return middle;
     }
-    check_mark(bytes[at + 28], sheet::LINE_FEED)
+    check_mark(bytes[at + sheet::BAND_END], sheet::LINE_FEED)
 }
 
 // Reads the fields of an L or an R line from place at on: two inputs and a flag.
 fn read_state(bytes: &[u8], at: usize, numbers: &mut [i32; 118], place: usize) -> Verdict
-    requires { ⌜ (at + 27 ≤ length (now bytes)) × (length (now numbers) ≡ unitSize) × (place + 3 ≤ unitSize) ⌝ }
+    requires { ⌜ (at + fieldSize * fieldCount Line.Left ≤ length (now bytes)) × (length (now numbers) ≡ unitSize) × (place + fieldCount Line.Left ≤ unitSize) ⌝ }
     ensures { λ r. ⌜ Stored (fieldsPart channelRanges (drop at (now (bytes .entry)))) (now (numbers .entry)) place r (now (numbers .exit)) ⌝ }
 {
     let first = read_input(bytes, at, numbers, place);
     if !refusals::accepted(first) {
         return first;
     }
-    let second = read_input(bytes, at + 9, numbers, place + 1);
+    let second = read_input(bytes, at + fields::FIELD_SIZE, numbers, place + 1);
     if !refusals::accepted(second) {
         return second;
     }
-    read_fields(bytes, at + 18, 1, 0, 1, numbers, place + 2)
+    read_fields(bytes, at + FLAG_AT, 1, 0, 1, numbers, place + 2)
 }
 
 // Reads the field of an input from place at on.
@@ -180,13 +221,13 @@ fn read_input(bytes: &[u8], at: usize, numbers: &mut [i32; 118], place: usize) -
 
 // Reads the ten S lines from place at on.
 fn read_sections(bytes: &[u8], at: usize, numbers: &mut [i32; 118], place: usize) -> Verdict
-    requires { ⌜ (at + 380 ≤ length (now bytes)) × (length (now numbers) ≡ unitSize) × (place + 40 ≤ unitSize) ⌝ }
+    requires { ⌜ (at + lineSize Line.Section * bandCount ≤ length (now bytes)) × (length (now numbers) ≡ unitSize) × (place + fieldCount Line.Section * bandCount ≤ unitSize) ⌝ }
     ensures { λ r. ⌜ Stored (linesPart (replicate bandCount Line.Section) (drop at (now (bytes .entry)))) (now (numbers .entry)) place r (now (numbers .exit)) ⌝ }
 {
     let mut i = 0;
     while i < 10 {
         let start = sheet::SECTION_LINE * i + at;
-        let found = read_words(bytes, start, numbers, 4 * i + place);
+        let found = read_words(bytes, start, numbers, sheet::SECTION_FIELDS * i + place);
         if !refusals::accepted(found) {
             return found;
         }
@@ -197,14 +238,14 @@ fn read_sections(bytes: &[u8], at: usize, numbers: &mut [i32; 118], place: usize
 
 // Reads an S line from place at on.
 fn read_words(bytes: &[u8], at: usize, numbers: &mut [i32; 118], place: usize) -> Verdict
-    requires { ⌜ (at + 38 ≤ length (now bytes)) × (length (now numbers) ≡ unitSize) × (place + 4 ≤ unitSize) ⌝ }
+    requires { ⌜ (at + lineSize Line.Section ≤ length (now bytes)) × (length (now numbers) ≡ unitSize) × (place + fieldCount Line.Section ≤ unitSize) ⌝ }
     ensures { λ r. ⌜ Stored (linePart Line.Section (drop at (now (bytes .entry)))) (now (numbers .entry)) place r (now (numbers .exit)) ⌝ }
 {
     read_line(
         bytes,
         at,
-        b'S',
-        4,
+        sheet::SECTION_LETTER,
+        sheet::SECTION_FIELDS,
         bands::WORD_LOW,
         bands::WORD_HIGH,
         numbers,

@@ -61,10 +61,36 @@ fn put_lines(out: &mut [u8], numbers: &[i32; 118])
     requires { ⌜ (sheetSize ≤ length (now out)) × (length (now numbers) ≡ unitSize) ⌝ }
     ensures { λ r. ⌜ now (out .exit) ≡ sets (now (out .entry)) 0 (written lines (now (numbers .entry))) ⌝ }
 {
-    put_line(out, 0, b'V', numbers, 0, 2);
-    put_group(out, sheet::BANDS_AT, b'C', numbers, 2, 3);
-    put_channel(out, sheet::LEFT_AT, b'L', numbers, numbers::LEFT);
-    put_channel(out, sheet::RIGHT_AT, b'R', numbers, numbers::RIGHT);
+    put_line(
+        out,
+        0,
+        sheet::VOLUME_LETTER,
+        numbers,
+        0,
+        sheet::VOLUME_FIELDS,
+    );
+    put_group(
+        out,
+        sheet::BANDS_AT,
+        sheet::BAND_LETTER,
+        numbers,
+        numbers::BANDS,
+        sheet::BAND_FIELDS,
+    );
+    put_channel(
+        out,
+        sheet::LEFT_AT,
+        sheet::LEFT_LETTER,
+        numbers,
+        numbers::LEFT,
+    );
+    put_channel(
+        out,
+        sheet::RIGHT_AT,
+        sheet::RIGHT_LETTER,
+        numbers,
+        numbers::RIGHT,
+    );
 }
 
 // Writes the lines of a channel from place at on, the numbers from `place` on: an L or an R line, and ten S lines.
@@ -72,8 +98,15 @@ fn put_channel(out: &mut [u8], at: usize, letter: u8, numbers: &[i32; 118], plac
     requires { ⌜ (at + (lineSize Left + lineSize Section * bandCount) ≤ length (now out)) × (length (now numbers) ≡ unitSize) × (place + channelSize ≤ unitSize) ⌝ }
     ensures { λ r. ⌜ now (out .exit) ≡ sets (now (out .entry)) at (channelText letter (drop place (now (numbers .entry)))) ⌝ }
 {
-    put_line(out, at, letter, numbers, place, 3);
-    put_group(out, at + sheet::BAND_LINE, b'S', numbers, place + 3, 4);
+    put_line(out, at, letter, numbers, place, sheet::CHANNEL_FIELDS);
+    put_group(
+        out,
+        at + sheet::BAND_LINE,
+        sheet::SECTION_LETTER,
+        numbers,
+        place + sheet::CHANNEL_FIELDS,
+        sheet::SECTION_FIELDS,
+    );
 }
 
 // Writes ten lines of one letter from place at on, with so many fields each: the numbers from `place` on.
