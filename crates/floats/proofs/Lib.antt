@@ -3,6 +3,7 @@
 --     Compare   comparisons are those of the values
 --     Sum       the sum by any fractions that the summands equal
 --     Powers    a wider format and a power of two as a factor: exact
+--     WholeNumbers   sums, differences and products of whole numbers are whole; whole numbers over a power of two
 --     Closest   the library's rounding of a fraction is the rounding to the nearest whole number
 --     Gapless   where a format holds whole numbers only
 --     Shift     the nearest whole number by a sum and a difference
@@ -14,6 +15,7 @@ pub mod Units
 mod Compare
 pub mod Sum
 pub mod Powers
+pub mod WholeNumbers
 mod Closest
 mod Gapless
 pub mod Shift

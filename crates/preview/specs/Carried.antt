@@ -1,0 +1,50 @@
+-- "The preview keeps coefficients and delayed words as f64": how it carries a section. Definitions only.
+use mathlib.Core.Path.{_≡_}
+use mathlib.Core.Bool.{true}
+use Prim.Native.Nat.{_^_, _<_}
+use lib.IntN.{ℤ, natAbs}
+use lib.Ieee.{Float, binary64, prec, ofInt}
+use Rattle.refusals.specs.Numbers.{isAccepted}
+use Rattle.bands.specs.Bands.{bandOf}
+use Rattle.section.specs.declared.Section.{Section}
+use Rattle.section.specs.Step.{stepVerdict}
+use Rattle.floats.specs.Whole.{wholeOf}
+use Rattle.preview.specs.declared.Preview.{Preview}
+
+-- a whole number as an f64. "Zero is plus zero inside it": no whole number gives minus zero
+abbrev pub float : ℤ → Float
+float z = ofInt binary64 z
+
+-- the preview that carries a section: each of its numbers as an f64
+abbrev pub carried : Section → Preview
+carried s =
+    record {
+      alpha = float (s .band .alpha);
+      beta = float (s .band .beta);
+      gamma = float (s .band .gamma);
+      x1 = float (s .x1);
+      x2 = float (s .x2);
+      y1 = float (s .y1);
+      y2 = float (s .y2);
+    }
+
+-- the section that a preview carries
+abbrev pub sectionIn : Preview → Section
+sectionIn p =
+    record {
+      band = bandOf (wholeOf (p .alpha)) (wholeOf (p .beta)) (wholeOf (p .gamma));
+      x1 = wholeOf (p .x1);
+      x2 = wholeOf (p .x2);
+      y1 = wholeOf (p .y1);
+      y2 = wholeOf (p .y2);
+    }
+
+-- what a step asks: the preview carries a section, and that section accepts a step on x
+pub record Carrying (p : Preview) (x : ℤ) : Type 0 where
+  pub carries : p ≡ carried (sectionIn p)
+  pub accepted : isAccepted (stepVerdict (sectionIn p) x) ≡ true
+
+-- what the result asks of S: a whole number below 2^53 in size
+pub record WholeSum (sum : Float) : Type 0 where
+  pub whole : sum ≡ float (wholeOf sum)
+  pub small : natAbs (wholeOf sum) < 2 ^ prec binary64

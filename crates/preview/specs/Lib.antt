@@ -1,0 +1,3 @@
+-- The floating preview of a section.
+pub mod Preview
+pub mod Carried
