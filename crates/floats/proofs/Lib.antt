@@ -7,6 +7,7 @@
 --     Closest   the library's rounding of a fraction is the rounding to the nearest whole number
 --     Gapless   where a format holds whole numbers only
 --     Shift     the nearest whole number by a sum and a difference
+--     Quotient       a whole number over a power of two, rounded
 --     Casts     where casts lose nothing
 --     Range     the tests of a factor's range
 --     Laws      what a factor and its target are to those who use them
@@ -19,6 +20,7 @@ pub mod WholeNumbers
 mod Closest
 mod Gapless
 pub mod Shift
+pub mod Quotient
 pub mod Casts
 mod Range
 pub mod Laws

@@ -115,7 +115,7 @@ fn step(preview: Preview, x: i32) -> Preview
         gamma,
         x1: input,
         x2: preview.x1,
-        y1: result(sum),
+        y1: result_of(sum),
         y2: y1,
     }
 }
@@ -129,7 +129,7 @@ const WORD_LOW: f64 = -8388608.0;
 const WORD_HIGH: f64 = 8388607.0;
 
 // y of S: S / 2^22, which is exact, rounded, then saturated to a word.
-fn result(sum: f64) -> f64
+fn result_of(sum: f64) -> f64
     requires { ⌜ WholeSum sum ⌝ }
     ensures { λ r. ⌜ r ≡ ofInt binary64 (worked (wholeOf sum) .y) ⌝ }
 {

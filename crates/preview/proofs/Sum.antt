@@ -1,0 +1,87 @@
+-- S of a step in floats. Each coefficient and each word is at most 2^23 in size, so products and sums are whole and below 2^53: nothing is
+-- rounded. The sums are floats of whole numbers, so that none of them is minus zero; of the products only that they are whole is known.
+use mathlib.Core.Path.{_≡_, ap, _∙_}
+use Prim.Native.Nat.{ℕ, _+_, _*_, _^_, _≤_, _<_}
+use native.Mathlib.Nat.{le-trans, lt-of-le-of-lt}
+use lib.Dec.{T, leb, lit≤, lit<, leb→le}
+use lib.IntN.{ℤ, pos, natAbs, _+ℤ_, _-ℤ_, _*ℤ_, +ℤ-idl}
+use lib.Ieee.{Float, binary64, prec, add, sub, mul}
+use Rattle.integers.proofs.Machine.{sum-sized, difference-sized, product-sized}
+use Rattle.floats.proofs.WholeNumbers.{Whole, of-whole, add-whole, sub-whole, mul-whole}
+use Rattle.bands.specs.Words.{wordSize}
+use Rattle.bands.specs.declared.Band.{Band}
+use Rattle.section.specs.Equation.{exactSum}
+use Rattle.section.specs.Small.{Small}
+use Rattle.preview.specs.Carried.{float}
+
+-- the code's S
+abbrev pub floatSum : Float → Float → Float → Float → Float → Float → Float → Float → Float
+floatSum zero alpha beta gamma x x2 y1 y2 =
+    sub binary64 (add binary64 (add binary64 zero (mul binary64 alpha (sub binary64 x x2))) (mul binary64 gamma y1)) (mul binary64 beta y2)
+
+module _ (band : Band) (x x2 y1 y2 : ℤ) (small : Small band x x2 y1 y2) where
+  -- A × (x - x2), G × y1 and B × y2
+  abbrev forward : ℤ
+  forward = band .alpha *ℤ (x -ℤ x2)
+
+  abbrev back1 : ℤ
+  back1 = band .gamma *ℤ y1
+
+  abbrev back2 : ℤ
+  back2 = band .beta *ℤ y2
+
+  change-size : natAbs (x -ℤ x2) ≤ wordSize + wordSize
+  change-size = difference-sized x x2 (small .x-size) (small .x2-size)
+
+  forward-size : natAbs forward ≤ wordSize * (wordSize + wordSize)
+  forward-size = product-sized (band .alpha) (x -ℤ x2) (small .alpha-size) change-size
+
+  back1-size : natAbs back1 ≤ wordSize * wordSize
+  back1-size = product-sized (band .gamma) y1 (small .gamma-size) (small .y1-size)
+
+  back2-size : natAbs back2 ≤ wordSize * wordSize
+  back2-size = product-sized (band .beta) y2 (small .beta-size) (small .y2-size)
+
+  both-size : natAbs (forward +ℤ back1) ≤ wordSize * (wordSize + wordSize) + wordSize * wordSize
+  both-size = sum-sized forward back1 forward-size back1-size
+
+  -- a size that is below 2^53
+  below : {n : ℕ} (m : ℕ) → T (leb m (2 ^ prec binary64)) → n ≤ m → n ≤ 2 ^ prec binary64
+  below m t h = le-trans h (leb→le m (2 ^ prec binary64) t)
+
+  -- S is below 2^53
+  pub sum-size : natAbs (exactSum band x x2 y1 y2) < 2 ^ prec binary64
+  unfolding exactSum
+  sum-size = lt-of-le-of-lt (difference-sized (forward +ℤ back1) back2 both-size back2-size) (lit< tt)
+
+  -- a word, and a product of two whole numbers
+  word : (z : ℤ) → natAbs z ≤ wordSize → Whole (float z) z
+  word z h = of-whole binary64 z (below wordSize tt h)
+
+  change-is : sub binary64 (float x) (float x2) ≡ float (x -ℤ x2)
+  change-is = sub-whole binary64 x (below wordSize tt (small .x-size)) (word x2 (small .x2-size))
+
+  forward-whole : Whole (mul binary64 (float (band .alpha)) (float (x -ℤ x2))) forward
+  forward-whole =
+      mul-whole binary64 (word (band .alpha) (small .alpha-size)) (of-whole binary64 (x -ℤ x2) (below (wordSize + wordSize) tt change-size))
+      (below (wordSize * (wordSize + wordSize)) tt forward-size)
+
+  back1-whole : Whole (mul binary64 (float (band .gamma)) (float y1)) back1
+  back1-whole =
+      mul-whole binary64 (word (band .gamma) (small .gamma-size)) (word y1 (small .y1-size)) (below (wordSize * wordSize) tt back1-size)
+
+  back2-whole : Whole (mul binary64 (float (band .beta)) (float y2)) back2
+  back2-whole =
+      mul-whole binary64 (word (band .beta) (small .beta-size)) (word y2 (small .y2-size)) (below (wordSize * wordSize) tt back2-size)
+
+  -- from plus zero on, one product after another
+  pub sum-exact : floatSum (float (pos 0)) (float (band .alpha)) (float (band .beta)) (float (band .gamma)) (float x) (float x2) (float y1) (float y2) ≡ float (exactSum band x x2 y1 y2)
+  unfolding exactSum
+  sum-exact =
+      ap (λ (d : Float). sub binary64 (add binary64 (add binary64 (float (pos 0)) (mul binary64 (float (band .alpha)) d)) (mul binary64 (float (band .gamma)) (float y1))) (mul binary64 (float (band .beta)) (float y2)))
+      change-is
+      ∙ ap (λ (d : Float). sub binary64 (add binary64 d (mul binary64 (float (band .gamma)) (float y1))) (mul binary64 (float (band .beta)) (float y2)))
+      (add-whole binary64 (pos 0) (lit≤ tt) forward-whole ∙ ap float (+ℤ-idl forward))
+      ∙ ap (λ (d : Float). sub binary64 d (mul binary64 (float (band .beta)) (float y2)))
+      (add-whole binary64 forward (below (wordSize * (wordSize + wordSize)) tt forward-size) back1-whole)
+      ∙ sub-whole binary64 (forward +ℤ back1) (below (wordSize * (wordSize + wordSize) + wordSize * wordSize) tt both-size) back2-whole
