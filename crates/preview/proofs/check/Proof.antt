@@ -1,0 +1,60 @@
+-- `preview::check` meets its contract: the band's verdict first, then the room, then the words.
+use mathlib.Core.Path.{_≡_, sym, ap, _∙_}
+use borrow.Author.Needs.{needs}
+use borrow.Author.Tests.{not-true, not-false, le-leb, lt-leb}
+use Rattle.refusals.specs.Numbers.{isAccepted}
+use Rattle.bands.specs.Bands.{bandVerdict}
+use Rattle.preview.specs.Preview.{previewVerdict}
+use Rattle.preview.proofs.check.Statement.{statement}
+use Rattle.preview.proofs.check.Tie as tie
+use Rattle.preview.proofs.check.Reads as reads
+use Rattle.preview.proofs.check.Lts as lts
+use Rattle.bands.proofs.check_band.Reads as check-band-reads
+use Rattle.preview.proofs.are_words.Reads as are-words-reads
+use Rattle.refusals.proofs.accepted.Reads as accepted-reads
+
+-- the test of the band
+band-test : (c : lts.After-accepted (check-band-reads.Asked, check-band-reads.Learnt, accepted-reads.Asked, accepted-reads.Learnt, are-words-reads.Asked, are-words-reads.Learnt) reads.Pre reads.Post) → isAccepted (bandVerdict (c .before .before .args .band)) ≡ c .accepted .result
+band-test c = sym (c .accepted .ensures ∙ ap isAccepted (c .before .check-band .ensures))
+
+check-band-requires : tie.Need-check-band-requires
+check-band-requires c κs = search needs
+
+accepted-requires : tie.Need-accepted-requires
+accepted-requires c κs = search needs
+
+returns : tie.Need-returns
+unfolding previewVerdict
+returns c = c .before .before .check-band .ensures ∙ sym (simp (band-test (c .before) ∙ not-true _ (c .if1 .taken)))
+
+returns-2 : tie.Need-returns-2
+unfolding previewVerdict
+returns-2 c = sym (simp (band-test (c .before .before) ∙ not-false _ (c .before .if1 .left), lt-leb _ _ (c .if2 .taken)))
+
+are-words-requires : tie.Need-are-words-requires
+are-words-requires c κs = search needs
+
+returns-3 : tie.Need-returns-3
+unfolding previewVerdict
+returns-3 c =
+    sym
+    (simp (
+      band-test (c .before .before .before .before) ∙ not-false _ (c .before .before .before .if1 .left),
+      le-leb _ _ (c .before .before .if2 .left),
+      sym (c .before .are-words .ensures) ∙ not-true _ (c .if3 .taken),
+    ))
+
+returns-4 : tie.Need-returns-4
+unfolding previewVerdict
+returns-4 c =
+    sym
+    (simp (
+      band-test (c .before .before .before .before) ∙ not-false _ (c .before .before .before .if1 .left),
+      le-leb _ _ (c .before .before .if2 .left),
+      sym (c .before .are-words .ensures) ∙ not-false _ (c .if3 .left),
+    ))
+
+pub check-spec : {M : Type 1} → statement M
+check-spec =
+    tie.close
+    (tie.spec check-band-requires accepted-requires returns returns-2 are-words-requires returns-3 returns-4)
