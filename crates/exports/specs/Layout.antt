@@ -8,9 +8,11 @@ use lib.ListN.{length, getD}
 use Rattle.refusals.specs.Numbers.{numberOf, isAccepted}
 use Rattle.refusals.specs.declared.Verdict.{Verdict}
 use Rattle.bands.specs.Bands.{bandOf}
+use Rattle.bands.specs.declared.Band.{Band}
 use Rattle.section.specs.Equation.{flag}
 use Rattle.section.specs.declared.Section.{Section}
 use Rattle.section.specs.declared.Stepped.{Stepped}
+use Rattle.preview.specs.Preview.{previewVerdict, previewed}
 use Rattle.unit.specs.declared.Unit.{Unit}
 use Rattle.orders.specs.declared.Setting.{Setting}
 use Rattle.orders.specs.Orders.{ordered}
@@ -36,6 +38,11 @@ numbersOf s = s .band .alpha ∷ s .band .beta ∷ s .band .gamma ∷ s .x1 ∷ 
 -- an answer in one number: y in the low 32 bits, above it 1 where the section has limited, and twice the refusal's number
 abbrev pub packed : Stepped → ℤ
 packed r = pos ((2 * numberOf (r .verdict) + flag (r .limited)) * 2 ^ 32) +ℤ r .y
+
+-- a preview: the refusal's number, and the buffer
+pub record PreviewDone (band : Band) (words room : List ℤ) (number : ℕ) (filled : List ℤ) : Type 0 where
+  pub number-is : number ≡ numberOf (previewVerdict band words (length room))
+  pub buffer-is : filled ≡ previewed band words room
 
 -- ---- calls on a unit's numbers
 

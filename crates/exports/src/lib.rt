@@ -12,7 +12,7 @@ ghost use Rattle.section.specs.Step.{stepped};
 ghost use Rattle.unit.specs.Fit.{Fit, unitFits};
 ghost use Rattle.loading.specs.Loading.{loaded};
 ghost use Rattle.numbers.specs.Layout.{unitOf, numbersOf as unitNumbers};
-ghost use Rattle.exports.specs.Layout.{sectionOf, numbersOf, packed, numbersAfter, BlockDone, OrderDone, SheetWritten, SheetDone};
+ghost use Rattle.exports.specs.Layout.{sectionOf, numbersOf, packed, PreviewDone, numbersAfter, BlockDone, OrderDone, SheetWritten, SheetDone};
 use bands::Band;
 use levels::Level;
 use orders::Setting;
@@ -88,6 +88,22 @@ pub extern "C" fn fonddrys_section_step(numbers: &mut [i32; 7], x: i32) -> i64
         after.y2,
     ];
     pack(answer)
+}
+
+// The floating preview of the section with the band A, B, G, over a list of words from a cleared start. The results fill the front of the
+// buffer, and entries past them keep their contents. 0 for an accepted call, else the number of its refusal: the buffer is then as it was.
+#[no_mangle]
+pub extern "C" fn fonddrys_preview(
+    alpha: i32,
+    beta: i32,
+    gamma: i32,
+    words: &[i32],
+    results: &mut [i32],
+) -> u32
+    ensures { λ r. ⌜ PreviewDone (bandOf alpha beta gamma) (now (words .entry)) (now (results .entry)) r (now (results .exit)) ⌝ }
+{
+    let verdict = preview::fill(Band { alpha, beta, gamma }, words, results);
+    refusals::number(verdict)
 }
 
 // The present number of a level, moved towards its target by slope, or by the whole distance where that is less.

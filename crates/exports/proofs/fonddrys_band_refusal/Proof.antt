@@ -1,10 +1,9 @@
 -- `exports::fonddrys_band_refusal` meets its contract, by those of the two functions that it calls.
 use mathlib.Core.Path.{ap, _∙_}
 use borrow.Author.Needs.{needs}
-use mir.Facts.{toZ-ofZ}
 use Rattle.refusals.specs.Numbers.{numberOf}
 use Rattle.bands.specs.Bands.{bandVerdict}
-use Rattle.bands.specs.Bands.{bandOf}
+use Rattle.exports.proofs.Laws.{band-reads}
 use Rattle.exports.proofs.fonddrys_band_refusal.Statement.{statement}
 use Rattle.exports.proofs.fonddrys_band_refusal.Tie as tie
 
@@ -19,11 +18,7 @@ returns c =
     c .number .ensures
     ∙ ap numberOf
     (c .before .check-band .ensures
-    ∙ (λ i. bandVerdict
-    (bandOf
-    (toZ-ofZ (c .before .before .fits .alpha) i)
-    (toZ-ofZ (c .before .before .fits .beta) i)
-    (toZ-ofZ (c .before .before .fits .gamma) i))))
+    ∙ ap bandVerdict (band-reads (c .before .before .fits .alpha) (c .before .before .fits .beta) (c .before .before .fits .gamma)))
 
 pub fonddrys-band-refusal-spec : {M : Type 1} → statement M
 fonddrys-band-refusal-spec = tie.close (tie.spec check-band-requires number-requires returns)
