@@ -1,11 +1,13 @@
 -- S of a step in floats. Each coefficient and each word is at most 2^23 in size, so products and sums are whole and below 2^53: nothing is
 -- rounded. The sums are floats of whole numbers, so that none of them is minus zero; of the products only that they are whole is known.
-use mathlib.Core.Path.{_≡_, ap, _∙_}
+use mathlib.Core.Path.{_≡_, ap, _∙_, subst}
 use Prim.Native.Nat.{ℕ, _+_, _*_, _^_, _≤_, _<_}
 use native.Mathlib.Nat.{le-trans, lt-of-le-of-lt}
+use native.Mathlib.Omega.{arith}
 use lib.Dec.{T, leb, lit≤, lit<, leb→le}
 use lib.IntN.{ℤ, pos, natAbs, _+ℤ_, _-ℤ_, _*ℤ_, +ℤ-idl}
 use lib.Ieee.{Float, binary64, prec, add, sub, mul}
+use Rattle.integers.proofs.Parts.{var, _⊕_, _⊖_, terms-eq}
 use Rattle.integers.proofs.Machine.{sum-sized, difference-sized, product-sized}
 use Rattle.floats.proofs.WholeNumbers.{Whole, of-whole, add-whole, sub-whole, mul-whole}
 use Rattle.bands.specs.Words.{wordSize}
@@ -17,7 +19,7 @@ use Rattle.preview.specs.Carried.{float}
 -- the code's S
 abbrev pub floatSum : Float → Float → Float → Float → Float → Float → Float → Float → Float
 floatSum zero alpha beta gamma x x2 y1 y2 =
-    sub binary64 (add binary64 (add binary64 zero (mul binary64 alpha (sub binary64 x x2))) (mul binary64 gamma y1)) (mul binary64 beta y2)
+    add binary64 (sub binary64 (add binary64 zero (mul binary64 alpha (sub binary64 x x2))) (mul binary64 beta y2)) (mul binary64 gamma y1)
 
 module _ (band : Band) (x x2 y1 y2 : ℤ) (small : Small band x x2 y1 y2) where
   -- A × (x - x2), G × y1 and B × y2
@@ -42,8 +44,13 @@ module _ (band : Band) (x x2 y1 y2 : ℤ) (small : Small band x x2 y1 y2) where
   back2-size : natAbs back2 ≤ wordSize * wordSize
   back2-size = product-sized (band .beta) y2 (small .beta-size) (small .y2-size)
 
-  both-size : natAbs (forward +ℤ back1) ≤ wordSize * (wordSize + wordSize) + wordSize * wordSize
-  both-size = sum-sized forward back1 forward-size back1-size
+  part-size : natAbs (forward -ℤ back2) ≤ wordSize * (wordSize + wordSize) + wordSize * wordSize
+  part-size = difference-sized forward back2 forward-size back2-size
+
+  -- the order of the summands does not matter
+  reordered : forward -ℤ back2 +ℤ back1 ≡ exactSum band x x2 y1 y2
+  unfolding exactSum
+  reordered = terms-eq (var forward ⊖ var back2 ⊕ var back1) (var forward ⊕ var back1 ⊖ var back2) (omega arith)
 
   -- a size that is below 2^53
   below : {n : ℕ} (m : ℕ) → T (leb m (2 ^ prec binary64)) → n ≤ m → n ≤ 2 ^ prec binary64
@@ -51,8 +58,7 @@ module _ (band : Band) (x x2 y1 y2 : ℤ) (small : Small band x x2 y1 y2) where
 
   -- S is below 2^53
   pub sum-size : natAbs (exactSum band x x2 y1 y2) < 2 ^ prec binary64
-  unfolding exactSum
-  sum-size = lt-of-le-of-lt (difference-sized (forward +ℤ back1) back2 both-size back2-size) (lit< tt)
+  sum-size = subst (λ (z : ℤ). natAbs z < 2 ^ prec binary64) reordered (lt-of-le-of-lt (sum-sized (forward -ℤ back2) back1 part-size back1-size) (lit< tt))
 
   -- a word, and a product of two whole numbers
   word : (z : ℤ) → natAbs z ≤ wordSize → Whole (float z) z
@@ -76,12 +82,12 @@ module _ (band : Band) (x x2 y1 y2 : ℤ) (small : Small band x x2 y1 y2) where
 
   -- from plus zero on, one product after another
   pub sum-exact : floatSum (float (pos 0)) (float (band .alpha)) (float (band .beta)) (float (band .gamma)) (float x) (float x2) (float y1) (float y2) ≡ float (exactSum band x x2 y1 y2)
-  unfolding exactSum
   sum-exact =
-      ap (λ (d : Float). sub binary64 (add binary64 (add binary64 (float (pos 0)) (mul binary64 (float (band .alpha)) d)) (mul binary64 (float (band .gamma)) (float y1))) (mul binary64 (float (band .beta)) (float y2)))
+      ap (λ (d : Float). add binary64 (sub binary64 (add binary64 (float (pos 0)) (mul binary64 (float (band .alpha)) d)) (mul binary64 (float (band .beta)) (float y2))) (mul binary64 (float (band .gamma)) (float y1)))
       change-is
-      ∙ ap (λ (d : Float). sub binary64 (add binary64 d (mul binary64 (float (band .gamma)) (float y1))) (mul binary64 (float (band .beta)) (float y2)))
+      ∙ ap (λ (d : Float). add binary64 (sub binary64 d (mul binary64 (float (band .beta)) (float y2))) (mul binary64 (float (band .gamma)) (float y1)))
       (add-whole binary64 (pos 0) (lit≤ tt) forward-whole ∙ ap float (+ℤ-idl forward))
-      ∙ ap (λ (d : Float). sub binary64 d (mul binary64 (float (band .beta)) (float y2)))
-      (add-whole binary64 forward (below (wordSize * (wordSize + wordSize)) tt forward-size) back1-whole)
-      ∙ sub-whole binary64 (forward +ℤ back1) (below (wordSize * (wordSize + wordSize) + wordSize * wordSize) tt both-size) back2-whole
+      ∙ ap (λ (d : Float). add binary64 d (mul binary64 (float (band .gamma)) (float y1)))
+      (sub-whole binary64 forward (below (wordSize * (wordSize + wordSize)) tt forward-size) back2-whole)
+      ∙ add-whole binary64 (forward -ℤ back2) (below (wordSize * (wordSize + wordSize) + wordSize * wordSize) tt part-size) back1-whole
+      ∙ ap float reordered

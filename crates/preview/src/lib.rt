@@ -98,7 +98,8 @@ fn cleared(band: Band) -> Preview
     }
 }
 
-// One step on the input x: the preview of the section after it, whose y1 is the result. A leading zero leaves no minus zero in S.
+// One step on the input x: the preview of the section after it, whose y1 is the result. The leading zero leaves no minus zero in S. G × y1
+// comes last, since y1 comes last from the step before.
 fn step(preview: Preview, x: i32) -> Preview
     requires { ⌜ Carrying preview x ⌝ }
     ensures { λ r. ⌜ r ≡ carried (stepped (sectionIn preview) x .section) ⌝ }
@@ -108,7 +109,7 @@ fn step(preview: Preview, x: i32) -> Preview
     let beta = preview.beta;
     let gamma = preview.gamma;
     let y1 = preview.y1;
-    let sum = 0.0 + alpha * (input - preview.x2) + gamma * y1 - beta * preview.y2;
+    let sum = 0.0 + alpha * (input - preview.x2) - beta * preview.y2 + gamma * y1;
     Preview {
         alpha,
         beta,
