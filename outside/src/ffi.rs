@@ -45,6 +45,15 @@ pub mod raw {
             bytes: *const u8,
             bytes_len: usize,
         ) -> u32;
+        pub fn fonddrys_preview(
+            alpha: i32,
+            beta: i32,
+            gamma: i32,
+            words: *const i32,
+            words_len: usize,
+            results: *mut i32,
+            results_len: usize,
+        ) -> u32;
     }
 }
 
@@ -121,4 +130,11 @@ pub fn sheet_read(unit: &mut Numbers, bytes: &[u8]) -> u32 {
     // SAFETY: the unit is 118 numbers that nobody else holds; the bytes are read
     // for their own length.
     unsafe { raw::fonddrys_sheet_read(unit, bytes.as_ptr(), bytes.len()) }
+}
+
+pub fn preview([a, b, g]: [i32; 3], words: &[i32], results: &mut [i32]) -> u32 {
+    let (from, to) = (words.as_ptr(), results.as_mut_ptr());
+    // SAFETY: the words are only read, the results are lent to the library
+    // alone, and each pointer comes with its own length.
+    unsafe { raw::fonddrys_preview(a, b, g, from, words.len(), to, results.len()) }
 }

@@ -2,7 +2,7 @@
 //! here lends the middle of a larger buffer.
 
 use crate::ffi::raw;
-use crate::reference::house_set;
+use crate::reference::{house_set, WORD_MAX, WORD_MIN};
 use crate::unit::cleared;
 use crate::unit::sheet::{fast, SHEET};
 
@@ -20,6 +20,7 @@ pub fn keeps_to_its_numbers() -> bool {
         && blocks_keep()
         && orders_keep()
         && sheets_keep()
+        && previews_keep()
 }
 
 /// Lends the middle of a buffer of marks, filled with these numbers, and gives
@@ -198,4 +199,38 @@ fn read_keeps(unit: &[i32; 118], bytes: &[u8], odd: usize) -> bool {
         });
     });
     unit_after.is_some() && bytes_after.as_deref() == Some(bytes)
+}
+
+/// Lists of several lengths, with room behind the results, without and with too
+/// little; accepted bands and words and refused ones.
+fn previews_keep() -> bool {
+    let bands = [
+        [6_606, 4_181_093, 8_375_315],
+        [8_388_607, -4_194_303, 0],
+        [-1; 3],
+    ];
+    bands.iter().all(|band| {
+        [0, 1, 2, 3, 4, 5, 8, 17, 64, 1_001].iter().all(|&length| {
+            let right: Vec<i32> = [WORD_MAX, WORD_MIN, 0].repeat(length)[..length].to_vec();
+            let mut wrong = right.clone();
+            wrong.iter_mut().rev().take(1).for_each(|word| *word = MARK);
+            let rooms = [0, length / 2, length.saturating_sub(1), length, length + 9];
+            rooms
+                .iter()
+                .all(|&room| preview_keeps(band, &right, room) && preview_keeps(band, &wrong, room))
+        })
+    })
+}
+
+fn preview_keeps(&[a, b, g]: &[i32; 3], words: &[i32], room: usize) -> bool {
+    let mut results_after = None;
+    let words_after = lend(words, |from| {
+        results_after = lend(&vec![0; room], |to| {
+            // SAFETY: the words and the results are lent with their own lengths.
+            unsafe {
+                raw::fonddrys_preview(a, b, g, from, words.len(), to, room);
+            }
+        });
+    });
+    words_after.as_deref() == Some(words) && results_after.is_some()
 }

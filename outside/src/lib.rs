@@ -1,6 +1,6 @@
-//! Outside tests of the equaliser: an implementation of the section and of the
-//! unit written from document 01 alone, and the comparison of the library with
-//! it.
+//! Outside tests of the equaliser: an implementation of the section, of its
+//! preview and of the unit written from document 01 alone, and the comparison of
+//! the library with it.
 
 pub mod calls;
 pub mod checks;
@@ -8,6 +8,7 @@ pub mod exact_sound;
 pub mod faults;
 pub mod ffi;
 pub mod lent;
+pub mod preview;
 pub mod random;
 pub mod reference;
 pub mod subject;

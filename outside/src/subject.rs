@@ -1,11 +1,12 @@
 //! What the comparison can be run against.
 
 use crate::ffi;
+use crate::preview;
 use crate::reference::{self, fast, Section};
 use crate::unit::orders::{self, Order};
 use crate::unit::{self, sheet, Numbers};
 
-/// The fourteen functions of the C ABI, whoever implements them. The three of
+/// The fifteen functions of the C ABI, whoever implements them. The three of
 /// the orders are one here.
 pub trait Subject {
     fn nearest(&self, v: i64, k: u32) -> i64;
@@ -20,6 +21,7 @@ pub trait Subject {
     fn order(&self, numbers: &mut Numbers, order: &Order) -> u32;
     fn sheet_write(&self, numbers: &Numbers, buffer: &mut [u8]) -> usize;
     fn sheet_read(&self, numbers: &mut Numbers, bytes: &[u8]) -> u32;
+    fn preview(&self, band: [i32; 3], words: &[i32], results: &mut [i32]) -> u32;
 }
 
 /// The library, over the C ABI.
@@ -61,6 +63,9 @@ impl Subject for Library {
     }
     fn sheet_read(&self, numbers: &mut Numbers, bytes: &[u8]) -> u32 {
         ffi::sheet_read(numbers, bytes)
+    }
+    fn preview(&self, band: [i32; 3], words: &[i32], results: &mut [i32]) -> u32 {
+        ffi::preview(band, words, results)
     }
 }
 
@@ -110,6 +115,9 @@ impl Subject for Fast {
     fn sheet_read(&self, numbers: &mut Numbers, bytes: &[u8]) -> u32 {
         sheet::fast::read(numbers, bytes)
     }
+    fn preview(&self, band: [i32; 3], words: &[i32], results: &mut [i32]) -> u32 {
+        preview::fast::preview(band, words, results)
+    }
 }
 
 /// The fast form, but for what an implementation alters.
@@ -150,6 +158,9 @@ pub trait Altered {
     fn sheet_read(&self, numbers: &mut Numbers, bytes: &[u8]) -> u32 {
         Fast.sheet_read(numbers, bytes)
     }
+    fn preview(&self, band: [i32; 3], words: &[i32], results: &mut [i32]) -> u32 {
+        Fast.preview(band, words, results)
+    }
 }
 
 impl<T: Altered> Subject for T {
@@ -188,5 +199,8 @@ impl<T: Altered> Subject for T {
     }
     fn sheet_read(&self, numbers: &mut Numbers, bytes: &[u8]) -> u32 {
         Altered::sheet_read(self, numbers, bytes)
+    }
+    fn preview(&self, band: [i32; 3], words: &[i32], results: &mut [i32]) -> u32 {
+        Altered::preview(self, band, words, results)
     }
 }

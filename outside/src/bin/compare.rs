@@ -5,19 +5,20 @@ use std::process::ExitCode;
 use std::time::Instant;
 
 use outside::checks::groups::{
-    Group, DISTANCE, LISTS_OF_CALLS, MANY_SHEETS, ORDER_GROUPS, SECTION_GROUPS, SHEET_GROUPS,
-    SOUND_GROUPS, UNIT_GROUPS,
+    Group, DISTANCE, LISTS_OF_CALLS, MANY_SHEETS, ORDER_GROUPS, PREVIEW_GROUPS, SECTION_GROUPS,
+    SHEET_GROUPS, SOUND_GROUPS, UNIT_GROUPS,
 };
 use outside::checks::{
     arithmetic, bands, big_numbers, block_refusals, blocks, call_lists, cuts, distance_lists,
     factors, fitness, levels, loads, one_step, orders, refusals, steps,
 };
+use outside::checks::{preview_lengths, preview_refusals, preview_section, previews};
 use outside::checks::{
     sheet_damage, sheet_fields, sheet_lengths, sheet_lines, sheet_lists, sheets,
 };
 use outside::checks::{Difference, Tally};
 use outside::exact_sound::judge::Distances;
-use outside::faults::{desk, section, sheet, unit, Impostor};
+use outside::faults::{desk, preview, section, sheet, unit, Impostor};
 use outside::lent;
 use outside::subject::{Fast, Library, Subject};
 
@@ -66,6 +67,10 @@ fn print_seeds() {
         ("damaged sheets", sheet_damage::DAMAGE_SEED),
         ("sheet lengths", sheet_lengths::LENGTHS_SEED),
         ("lists through sheets", sheet_lists::SHEET_LISTS_SEED),
+        ("previews", previews::PREVIEWS_SEED),
+        ("preview lengths", preview_lengths::PREVIEW_LENGTHS_SEED),
+        ("refused previews", preview_refusals::PREVIEW_REFUSALS_SEED),
+        ("preview and section", preview_section::PREVIEW_SECTION_SEED),
         ("big numbers", big_numbers::BIG_SEED),
         ("one step", one_step::ONE_STEP_SEED),
     ];
@@ -96,16 +101,16 @@ fn every_group(subject: &dyn Subject, more: &[Group]) -> Result<(), Difference> 
     let mut total = Tally::default();
     let groups = SECTION_GROUPS.iter().chain(&UNIT_GROUPS);
     let groups = groups.chain(&ORDER_GROUPS).chain(&SOUND_GROUPS);
-    for group in groups.chain(&SHEET_GROUPS).chain(more) {
+    let groups = groups.chain(&SHEET_GROUPS).chain(&PREVIEW_GROUPS);
+    for group in groups.chain(more) {
         let tally =
             (group.run)(subject).map_err(|difference| format!("{}: {difference}", group.name))?;
-        let frames = match tally.frames {
-            0 => String::new(),
-            frames => format!(", {frames} frames"),
-        };
         println!(
-            "  {} ({}): {} answers agree{frames}",
-            group.name, group.what, tally.answers
+            "  {} ({}): {} answers agree{}",
+            group.name,
+            group.what,
+            tally.answers,
+            sound_of(&tally)
         );
         total.add(&tally);
     }
@@ -117,6 +122,16 @@ fn every_group(subject: &dyn Subject, more: &[Group]) -> Result<(), Difference> 
         }
     }
     near_the_bound(&total.distances)
+}
+
+/// The frames played and the words previewed, where there are any.
+fn sound_of(tally: &Tally) -> String {
+    let counts = [(tally.frames, "frames"), (tally.previews.words, "words")];
+    counts
+        .iter()
+        .filter(|(count, _)| *count > 0)
+        .map(|(count, what)| format!(", {count} {what}"))
+        .collect()
 }
 
 /// Lists that stay far within the bound would pass a wrong sound too.
@@ -145,9 +160,10 @@ fn every_fault() -> Result<(), Difference> {
     nothing_wrong(&desk::Fault::Nothing, &ORDER_GROUPS)?;
     nothing_wrong(&desk::Fault::Nothing, &SOUND_GROUPS)?;
     nothing_wrong(&sheet::Fault::Nothing, &SHEET_GROUPS)?;
+    nothing_wrong(&preview::Fault::Nothing, &PREVIEW_GROUPS)?;
     let impostors = section::IMPOSTORS.iter().chain(&unit::IMPOSTORS);
-    let impostors = impostors.chain(&desk::IMPOSTORS);
-    for impostor in impostors.chain(&sheet::IMPOSTORS) {
+    let impostors = impostors.chain(&desk::IMPOSTORS).chain(&sheet::IMPOSTORS);
+    for impostor in impostors.chain(&preview::IMPOSTORS) {
         unmask(impostor)?;
     }
     let found = one_step::found_everywhere()?.answers;

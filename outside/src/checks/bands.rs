@@ -89,17 +89,24 @@ fn every_g_beside(b: i32) -> Vec<i32> {
     every
 }
 
+/// Each of those with every A.
+fn every_band_beside(b: i32) -> impl Iterator<Item = Band> {
+    let every_g = every_g_beside(b).into_iter();
+    every_g.flat_map(move |g| EVERY_A.map(|a| [a, b, g]))
+}
+
+/// Bands at the corners of the accepted ranges, and outside them.
+pub fn corner_bands() -> impl Iterator<Item = Band> {
+    EVERY_B.into_iter().flat_map(every_band_beside)
+}
+
 pub fn refusals(subject: &dyn Subject) -> Outcome {
     let mut tally = Tally::default();
     let mut random = Random::new(BANDS_SEED);
     let mut every_b = EVERY_B.to_vec();
     every_b.extend((0..2_000).map(|_| random.between(-4_194_303, 4_194_303)));
-    for b in every_b {
-        for g in every_g_beside(b) {
-            for a in EVERY_A {
-                same_refusal(subject, [a, b, g], &mut tally)?;
-            }
-        }
+    for band in every_b.into_iter().flat_map(every_band_beside) {
+        same_refusal(subject, band, &mut tally)?;
     }
     for _ in 0..300_000 {
         let anything = [(); 3].map(|()| random.any_i32());

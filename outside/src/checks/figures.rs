@@ -6,7 +6,7 @@ use crate::subject::Subject;
 
 /// "S = 2,097,152 gives 0; 2,097,153 gives 1; 6,291,456 gives 2; -2,097,152
 /// gives 0; -6,291,456 gives -2."
-const ROUNDED: [(i64, i64); 5] = [
+pub const ROUNDED: [(i64, i64); 5] = [
     (2_097_152, 0),
     (2_097_153, 1),
     (6_291_456, 2),
@@ -54,7 +54,7 @@ const AT_THE_ENDS: [(Section, i32, bool, i32); 8] = [
 const FIRST_TWO: [i32; 6] = [6_606, 4_181_093, 8_375_315, 13_191, 4_167_923, 8_361_900];
 
 /// "31 Hz, cleared, x = 256,000, 256,000, 0: y = 403, 1,208, 1,607."
-const RUN: [(i32, i32); 3] = [(256_000, 403), (256_000, 1_208), (0, 1_607)];
+pub const RUN: [(i32, i32); 3] = [(256_000, 403), (256_000, 1_208), (0, 1_607)];
 
 /// One step with the answer the document gives for it.
 fn figure(

@@ -3,6 +3,7 @@
 use super::{arithmetic, bands, figures, refusals, steps, Outcome};
 use super::{block_refusals, blocks, cuts, fitness, levels, loads, unit_figures};
 use super::{call_lists, distance, factors, order_figures, orders};
+use super::{preview_figures, preview_lengths, preview_refusals, preview_section, previews};
 use super::{sheet_damage, sheet_fields, sheet_figures, sheet_lengths, sheet_lines};
 use super::{sheet_lists, sheets};
 use crate::subject::Subject;
@@ -163,6 +164,32 @@ pub const SHEET_LISTS: Group = Group {
     run: sheet_lists::carried_on,
 };
 
+pub const PREVIEWS: Group = Group {
+    name: "previews",
+    what: "lists of house, random, slow and extreme bands, up to a million words a list",
+    run: previews::lists,
+};
+pub const PREVIEW_LENGTHS: Group = Group {
+    name: "preview lengths",
+    what: "lists of every small length and of larger ones, buffers shorter and longer",
+    run: preview_lengths::lengths,
+};
+pub const REFUSED_PREVIEWS: Group = Group {
+    name: "refused previews",
+    what: "band, buffer and words wrong alone and together, a wrong word at each place",
+    run: preview_refusals::calls,
+};
+pub const PREVIEW_FIGURES: Group = Group {
+    name: "preview figures",
+    what: "those that document 01 gives for a section, from a cleared start",
+    run: preview_figures::starred,
+};
+pub const PREVIEW_AND_SECTION: Group = Group {
+    name: "preview and section",
+    what: "lists held against the same implementation's own section",
+    run: preview_section::alike,
+};
+
 pub const SECTION_GROUPS: [Group; 8] = [
     NEAREST, LIMIT, BANDS, HOUSE, LISTS, CORNERS, REFUSED, FIGURES,
 ];
@@ -186,4 +213,11 @@ pub const SHEET_GROUPS: [Group; 7] = [
     DAMAGED_SHEETS,
     SHEET_LENGTHS,
     SHEET_LISTS,
+];
+pub const PREVIEW_GROUPS: [Group; 5] = [
+    PREVIEWS,
+    PREVIEW_LENGTHS,
+    REFUSED_PREVIEWS,
+    PREVIEW_FIGURES,
+    PREVIEW_AND_SECTION,
 ];

@@ -20,9 +20,15 @@ pub mod makers;
 pub mod one_step;
 pub mod order_figures;
 pub mod orders;
+pub mod preview_figures;
+pub mod preview_lengths;
+pub mod preview_refusals;
+pub mod preview_section;
+pub mod previews;
 pub mod refusals;
 pub mod same_block;
 pub mod same_order;
+pub mod same_preview;
 pub mod same_sheet;
 pub mod sheet_damage;
 pub mod sheet_fields;
@@ -39,6 +45,7 @@ pub mod steps;
 pub mod tally;
 pub mod unit_figures;
 pub mod units;
+pub mod words;
 
 pub use self::tally::Tally;
 use crate::reference::{exact, unpack, Section};
@@ -88,7 +95,7 @@ pub fn same_step(
     if status > 1 {
         tally.refused += 1;
     } else {
-        tally.count_accepted(&before, x, status == 1, y);
+        tally.steps.count(&before, x, status == 1, y);
     }
     Ok(())
 }

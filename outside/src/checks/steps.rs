@@ -2,63 +2,13 @@
 //! place.
 
 use super::bands::{extreme_accepted, half_accepted, house_bands, random_accepted, Band};
+use super::words::{Sound, SOUNDS};
 use super::{same_step, Difference, Outcome, Tally};
 use crate::random::Random;
 use crate::reference::{Section, WORD_MAX, WORD_MIN};
 use crate::subject::Subject;
 
 pub const LISTS_SEED: u64 = 0xF0DD_0005;
-
-/// What a list of words holds.
-#[derive(Clone, Copy)]
-enum Sound {
-    /// Any words.
-    Words,
-    /// Samples as they enter, "x = 256 × s".
-    Samples,
-    /// The two ends of a word in turn, each held for so many steps.
-    Square(u32),
-    /// The two ends of a word at random.
-    Ends,
-    /// Words from -2 to 2.
-    Faint,
-    /// Any words for a third of the list, then zeros.
-    ThenSilence,
-    /// One word, then zeros.
-    Impulse(i32),
-}
-
-const SOUNDS: [Sound; 12] = [
-    Sound::Words,
-    Sound::Samples,
-    Sound::Square(1),
-    Sound::Square(2),
-    Sound::Square(7),
-    Sound::Square(50),
-    Sound::Square(711),
-    Sound::Ends,
-    Sound::Faint,
-    Sound::ThenSilence,
-    Sound::Impulse(WORD_MAX),
-    Sound::Impulse(WORD_MIN),
-];
-
-impl Sound {
-    /// The word at a place of a list of this length.
-    fn word(self, place: u32, length: u32, random: &mut Random) -> i32 {
-        match self {
-            Sound::Words => random.word(),
-            Sound::Samples => 256 * random.between(-32_768, 32_767),
-            Sound::Square(hold) if (place / hold) & 1 == 0 => WORD_MAX,
-            Sound::Square(_) => WORD_MIN,
-            Sound::Ends => random.pick(&[WORD_MIN, WORD_MAX]),
-            Sound::Faint => random.between(-2, 2),
-            Sound::ThenSilence if place < length / 3 => random.word(),
-            Sound::Impulse(word) if place == 0 => word,
-            Sound::ThenSilence | Sound::Impulse(_) => 0,
-        }
-    }
-}
 
 /// The comparison under way.
 struct Run<'a> {

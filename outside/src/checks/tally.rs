@@ -1,10 +1,46 @@
 //! What a group went through.
 
 use super::same_order::Orders;
+use super::same_preview::Previews;
 use super::same_sheet::Sheets;
 use crate::exact_sound::judge::Distances;
 use crate::reference::{exact, Section};
 use crate::unit::exact::{Halves, Met};
+
+/// What accepted steps of a section met.
+#[derive(Clone, Copy, Default)]
+pub struct Steps {
+    /// Steps that limited at the upper end of a word, and at the lower end.
+    pub high: u64,
+    pub low: u64,
+    /// Steps where S / 2^22 lay at a half.
+    pub halves: Halves,
+}
+
+impl Steps {
+    pub fn add(&mut self, other: &Steps) {
+        self.high += other.high;
+        self.low += other.low;
+        add_halves(&mut self.halves, other.halves);
+    }
+
+    /// Counts an accepted step by what the exact reference says of it.
+    pub fn count(&mut self, before: &Section, x: i32, limited: bool, y: i32) {
+        if limited && y > 0 {
+            self.high += 1;
+        } else if limited {
+            self.low += 1;
+        }
+        let sum = exact::sum(before, x);
+        if sum & 0x3F_FFFF == 0x20_0000 {
+            if (sum >> 22) & 1 == 1 {
+                self.halves.up += 1;
+            } else {
+                self.halves.down += 1;
+            }
+        }
+    }
+}
 
 /// Counts of one group, or of all.
 #[derive(Clone, Copy, Default)]
@@ -13,12 +49,8 @@ pub struct Tally {
     pub answers: u64,
     /// Steps that were refused.
     pub refused: u64,
-    /// Steps that limited at the upper end of a word.
-    pub limited_high: u64,
-    /// Steps that limited at the lower end of a word.
-    pub limited_low: u64,
-    /// Steps where S / 2^22 lay at a half.
-    pub halves: Halves,
+    /// What the accepted steps met.
+    pub steps: Steps,
     /// Frames of accepted blocks.
     pub frames: u64,
     /// Blocks refused with 5, with 6 and with 14.
@@ -31,6 +63,8 @@ pub struct Tally {
     pub orders: Orders,
     /// What the sheets met.
     pub sheets: Sheets,
+    /// What the previews met.
+    pub previews: Previews,
     /// How far the lists lay from the exact sound.
     pub distances: Distances,
 }
@@ -55,9 +89,7 @@ impl Tally {
     pub fn add(&mut self, other: &Tally) {
         self.answers += other.answers;
         self.refused += other.refused;
-        self.limited_high += other.limited_high;
-        self.limited_low += other.limited_low;
-        add_halves(&mut self.halves, other.halves);
+        self.steps.add(&other.steps);
         self.frames += other.frames;
         self.blocks_5 += other.blocks_5;
         self.blocks_6 += other.blocks_6;
@@ -65,6 +97,7 @@ impl Tally {
         add_met(&mut self.met, &other.met);
         self.orders.add(&other.orders);
         self.sheets.add(&other.sheets);
+        self.previews.add(&other.previews);
         self.distances.add(&other.distances);
     }
 
@@ -74,18 +107,19 @@ impl Tally {
         let mut reached = self.steps_and_blocks().to_vec();
         reached.extend(self.orders.reached());
         reached.extend(self.sheets.reached());
+        reached.extend(self.previews.reached());
         reached.extend(self.distances.reached());
         reached
     }
 
     fn steps_and_blocks(&self) -> [(&'static str, u64); 20] {
-        let met = &self.met;
+        let (steps, met) = (&self.steps, &self.met);
         [
             ("refused steps", self.refused),
-            ("steps limited at the upper end", self.limited_high),
-            ("steps limited at the lower end", self.limited_low),
-            ("halves of steps rounded up", self.halves.up),
-            ("halves of steps rounded down", self.halves.down),
+            ("steps limited at the upper end", steps.high),
+            ("steps limited at the lower end", steps.low),
+            ("halves of steps rounded up", steps.halves.up),
+            ("halves of steps rounded down", steps.halves.down),
             ("frames", self.frames),
             ("blocks refused with 5", self.blocks_5),
             ("blocks refused with 6", self.blocks_6),
@@ -102,22 +136,5 @@ impl Tally {
             ("halves of outputs rounded up", met.output_halves.up),
             ("halves of outputs rounded down", met.output_halves.down),
         ]
-    }
-
-    /// Counts an accepted step by what the exact reference says of it.
-    pub fn count_accepted(&mut self, before: &Section, x: i32, limited: bool, y: i32) {
-        if limited && y > 0 {
-            self.limited_high += 1;
-        } else if limited {
-            self.limited_low += 1;
-        }
-        let sum = exact::sum(before, x);
-        if sum & 0x3F_FFFF == 0x20_0000 {
-            if (sum >> 22) & 1 == 1 {
-                self.halves.up += 1;
-            } else {
-                self.halves.down += 1;
-            }
-        }
     }
 }

@@ -3,6 +3,7 @@
 //! wrong.
 
 pub mod desk;
+pub mod preview;
 pub mod section;
 pub mod sheet;
 pub mod unit;

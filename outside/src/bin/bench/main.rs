@@ -1,10 +1,12 @@
-//! Times the library's section step, rounding, level orders, blocks and strip
-//! sheets over the C ABI against plain Rust of the same shape: same input, same
-//! loop, taken in turns. The results must be equal. Exit status 0 only if a block
-//! of the library takes at most a tenth longer than one of the Rust form, and a
-//! sheet written or read at most half longer; no other time is asserted.
+//! Times the library's section step, rounding, level orders, previews, blocks and
+//! strip sheets over the C ABI against plain Rust of the same shape, and its
+//! previews against its section too: same input, same loop, taken in turns. The
+//! results must be equal. Exit status 0 only if a block of the library takes at
+//! most a tenth longer than one of the Rust form, and a sheet written or read at
+//! most half longer; no other time is asserted.
 
 mod blocks;
+mod previews;
 mod sheets;
 
 use std::hint::black_box;
@@ -88,18 +90,25 @@ fn run_orders(order: OrderFn, orders: &[Order]) -> (f64, u64) {
     (nanoseconds / orders.len() as f64, black_box(checksum))
 }
 
-/// Both in turns: prints the best of each and gives their ratio.
+/// The library and Rust in turns: prints the best of each and gives their ratio.
 fn race<F: Copy>(name: &str, library: F, rust: F, run: impl Fn(F) -> (f64, u64)) -> f64 {
-    let (mut best_library, mut best_rust) = (f64::MAX, f64::MAX);
+    race_named(name, [("library", library), ("Rust", rust)], run)
+}
+
+/// The same for any two, by their names.
+fn race_named<F: Copy>(name: &str, runners: [(&str, F); 2], run: impl Fn(F) -> (f64, u64)) -> f64 {
+    let mut best = [f64::MAX; 2];
     for _ in 0..ROUNDS {
-        let (library_time, library_sum) = run(black_box(library));
-        let (rust_time, rust_sum) = run(black_box(rust));
-        assert_eq!(library_sum, rust_sum, "{name}: the results differ");
-        best_library = best_library.min(library_time);
-        best_rust = best_rust.min(rust_time);
+        let [first, second] = runners.map(|(_, runner)| run(black_box(runner)));
+        assert_eq!(first.1, second.1, "{name}: the results differ");
+        best = [best[0].min(first.0), best[1].min(second.0)];
     }
-    let ratio = best_library / best_rust;
-    println!("{name}: library {best_library:.2} ns, Rust {best_rust:.2} ns, ratio {ratio:.2}");
+    let [(first, _), (second, _)] = runners;
+    let ratio = best[0] / best[1];
+    println!(
+        "{name}: {first} {:.2} ns, {second} {:.2} ns, ratio {ratio:.2}",
+        best[0], best[1]
+    );
     ratio
 }
 
@@ -109,6 +118,7 @@ fn main() -> ExitCode {
     time_steps(&mut random);
     time_nearest(&mut random);
     time_orders(&mut random);
+    previews::time();
     let blocks = blocks::within(MOST);
     if !blocks {
         println!("FAILED: blocks of 4,096 frames, ratio over {MOST:.2}");
@@ -124,18 +134,20 @@ fn main() -> ExitCode {
     }
 }
 
+/// The bands that steps and previews are timed with.
+fn bands() -> [(&'static str, [i32; 3]); 2] {
+    let house = house_set();
+    [
+        ("house band 1000 Hz", [house[15], house[16], house[17]]),
+        ("extreme band", [8_388_607, 4_194_303, 8_388_606]),
+    ]
+}
+
 fn time_steps(random: &mut Random) {
     let words: Vec<i32> = (0..COUNT).map(|_| random.word()).collect();
-    let house = house_set();
-    for (name, band) in [
-        (
-            "step, house band 1000 Hz",
-            [house[15], house[16], house[17]],
-        ),
-        ("step, extreme band", [8_388_607, 4_194_303, 8_388_606]),
-    ] {
+    for (name, band) in bands() {
         race(
-            name,
+            &format!("step, {name}"),
             raw::fonddrys_section_step as StepFn,
             rust_step,
             |step| run_steps(step, band, &words),
