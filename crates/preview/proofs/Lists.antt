@@ -1,6 +1,6 @@
 -- Laws of the definitions over lists: one word more, and what an accepted call tells.
 use mathlib.Core.Path.{_≡_, refl, ap}
-use mathlib.Core.Bool.{true, _&&_}
+use mathlib.Core.Bool.{Bool, true, false, _&&_, false≢true}
 use mathlib.Core.List.{List, _∷_}
 use Prim.Native.Nat.{ℕ, suc, _≤_, _<_}
 use lib.Dec.{leb}
@@ -8,9 +8,7 @@ use lib.IntN.{ℤ, pos}
 use lib.ListN.{length, drop, getD}
 use lib.Seq.{drop-cons}
 use borrow.Author.Tests.{leb-true}
-use Rattle.refusals.specs.Numbers.{isAccepted, unless}
-use Rattle.refusals.specs.declared.Verdict.the-variants.{Accepted, OutputShort, NotWord}
-use Rattle.refusals.proofs.Laws.{unless-accepted, first-both}
+use Rattle.refusals.specs.Numbers.{isAccepted}
 use Rattle.bands.specs.Words.{isWord}
 use Rattle.bands.specs.Bands.{bandVerdict}
 use Rattle.bands.specs.declared.Band.{Band}
@@ -37,14 +35,11 @@ pub record Accepts (band : Band) (words : List ℤ) (room : ℕ) : Type 0 where
 
 pub preview-accepted : (band : Band) (words : List ℤ) (room : ℕ) → isAccepted (previewVerdict band words room) ≡ true → Accepts band words room
 unfolding previewVerdict
-preview-accepted band words room e =
-    record { band-accepted = first .0; room-has = leb-true (length words) room (second .0); all-words = third .0 }
+preview-accepted band words room e = go (isAccepted (bandVerdict band)) (leb (length words) room) (areWords words) refl refl refl
   where
-    first : (isAccepted (bandVerdict band) ≡ true) × (isAccepted (unless (leb (length words) room) OutputShort (unless (areWords words) NotWord Accepted)) ≡ true)
-    first = first-both (bandVerdict band) _ e
-
-    second : (leb (length words) room ≡ true) × (isAccepted (unless (areWords words) NotWord Accepted) ≡ true)
-    second = unless-accepted (leb (length words) room) OutputShort _ (λ t. refl) (first .1)
-
-    third : (areWords words ≡ true) × (isAccepted Accepted ≡ true)
-    third = unless-accepted (areWords words) NotWord Accepted (λ t. refl) (second .1)
+    go : (b l w : Bool) → isAccepted (bandVerdict band) ≡ b → leb (length words) room ≡ l → areWords words ≡ w → Accepts band words room
+    go true true true h k m = record { band-accepted = h; room-has = leb-true (length words) room k; all-words = m }
+    go true true false h k m = absurd (false≢true (simp (h, k, m) at e))
+    go true false true h k m = absurd (false≢true (simp (h, k, m) at e))
+    go true false false h k m = absurd (false≢true (simp (h, k, m) at e))
+    go false l w h k m = absurd (false≢true (simp h at e))
