@@ -1,15 +1,14 @@
 -- "Figures to check (starred ones are proved)": what the definitions give, and what document 01 prints. Definitions only.
 use mathlib.Core.Bool.{true, false}
 use mathlib.Core.List.{List, [], _∷_}
-use Prim.Native.Nat.{_^_}
+use Prim.Native.Nat.{ℕ, _^_}
 use lib.IntN.{ℤ, pos, negsuc, negℤ, _*ℤ_}
 use lib.Ieee.{fin}
 use lib.ListN.{getD}
 use Rattle.bands.specs.Bands.{bandAt}
 use Rattle.bands.specs.House.{houseSet}
 use Rattle.section.specs.Equation.{sumShift, flag, worked}
-use Rattle.section.specs.Step.{clearedSection, stepped}
-use Rattle.section.specs.declared.Section.{Section}
+use Rattle.section.specs.Step.{clearedSection, resultsOver}
 use Rattle.unit.specs.declared.Unit.{Unit}
 use Rattle.unit.specs.Cleared.{clearedChannel, bandsOf}
 use Rattle.unit.specs.Frame.{unitFrame, heard}
@@ -32,14 +31,9 @@ y-of S = worked S .y
 abbrev limits : ℤ → ℤ
 limits r = pos (flag (worked (pos (2 ^ sumShift) *ℤ r) .limited))
 
--- the house set's 31 Hz band, after steps on x from a cleared section
-abbrev after : List ℤ → Section
-after [] = clearedSection (bandAt houseSet 0)
-after (x ∷ earlier) = stepped (after earlier) x .section
-
--- y of the last of these steps, the latest x first
-abbrev last : List ℤ → ℤ
-last earlier = after earlier .y1
+-- results of the house set's 31 Hz band, cleared: from x = 256,000, 256,000, 0
+abbrev result : ℕ → ℤ
+result n = getD (resultsOver (clearedSection (bandAt houseSet 0)) (pos 256000 ∷ pos 256000 ∷ pos 0 ∷ [])) n (pos 0)
 
 -- a cleared unit of one channel with the house set, its volume at v
 abbrev unitAt : ℤ → Unit
@@ -64,9 +58,9 @@ starred =
     ∷ (limits (pos 8388608) is pos 1)
     ∷ (limits (negℤ (pos 8388609)) is pos 1)
     -- "31 Hz, cleared, x = 256,000, 256,000, 0: y = 403, 1,208, 1,607"
-    ∷ (last (pos 256000 ∷ []) is pos 403)
-    ∷ (last (pos 256000 ∷ pos 256000 ∷ []) is pos 1208)
-    ∷ (last (pos 0 ∷ pos 256000 ∷ pos 256000 ∷ []) is pos 1607)
+    ∷ (result 0 is pos 403)
+    ∷ (result 1 is pos 1208)
+    ∷ (result 2 is pos 1607)
     -- "Factor 1 - 2^-24: target 8,388,607. Factor -1: -8,388,608". The first is 16,777,215 × 2^-24
     ∷ (targetOf 0 (Factor (fin false 16777215 (negsuc 23))) is pos 8388607)
     ∷ (targetOf 0 (Factor (fin true 1 (pos 0))) is negℤ (pos 8388608))

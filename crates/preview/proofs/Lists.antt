@@ -13,8 +13,8 @@ use Rattle.bands.specs.Words.{isWord}
 use Rattle.bands.specs.Bands.{bandVerdict}
 use Rattle.bands.specs.declared.Band.{Band}
 use Rattle.section.specs.declared.Section.{Section}
-use Rattle.section.specs.Step.{stepped}
-use Rattle.preview.specs.Preview.{areWords, previewVerdict, resultsOver}
+use Rattle.section.specs.Step.{stepped, resultsOver}
+use Rattle.preview.specs.Preview.{areWords, previewVerdict}
 
 module _ (l : List ℤ) (i : ℕ) (h : i < length l) where
   -- the numbers from place i on are words where that number and those behind it are

@@ -11,8 +11,7 @@ use Rattle.refusals.specs.declared.Verdict.the-variants.{Accepted, OutputShort,
 use Rattle.bands.specs.Words.{isWord}
 use Rattle.bands.specs.Bands.{bandVerdict}
 use Rattle.bands.specs.declared.Band.{Band}
-use Rattle.section.specs.declared.Section.{Section}
-use Rattle.section.specs.Step.{clearedSection, stepped}
+use Rattle.section.specs.Step.{clearedSection, resultsOver}
 
 -- every number of the list is a word
 unfoldable pub areWords : List ℤ → Bool
@@ -23,11 +22,6 @@ areWords (x ∷ xs) = isWord x && areWords xs
 unfoldable pub previewVerdict : Band → List ℤ → ℕ → Verdict
 previewVerdict band words room =
     firstOf (bandVerdict band) (unless (leb (length words) room) OutputShort (unless (areWords words) NotWord Accepted))
-
--- the results of a section over a list of inputs: it is stepped on each in turn
-unfoldable pub resultsOver : Section → List ℤ → List ℤ
-resultsOver s [] = []
-resultsOver s (x ∷ xs) = stepped s x .y ∷ resultsOver (stepped s x .section) xs
 
 -- "from a cleared start its results equal the section's", and "its entries past the results keep their contents"
 abbrev pub sectionResults : Band → List ℤ → List ℤ → List ℤ

@@ -21,10 +21,10 @@ use Rattle.integers.proofs.Order.{both-true}
 use Rattle.integers.proofs.Machine.{reads-back}
 use Rattle.bands.specs.Words.{isWord}
 use Rattle.section.specs.declared.Section.{Section}
-use Rattle.section.specs.Step.{clearedSection, stepped}
+use Rattle.section.specs.Step.{clearedSection, stepped, resultsOver}
 use Rattle.section.proofs.Ready.{Ready, cleared-ready, ready-stays}
 use Rattle.preview.specs.declared.Preview.{Preview}
-use Rattle.preview.specs.Preview.{areWords, resultsOver}
+use Rattle.preview.specs.Preview.{areWords}
 use Rattle.preview.specs.Carried.{float, carried, sectionIn, Carrying}
 use Rattle.preview.proofs.Carry.{carried-back, may-step, result-back}
 use Rattle.preview.proofs.Lists.{words-from, results-from, Accepts, preview-accepted}
