@@ -1,11 +1,11 @@
 -- Whole numbers as floats. Up to 2^prec every whole number is a float, and there products, sums and differences are whole; a sum or
 -- difference that is zero is plus zero. They compare as the numbers do, and over a power of two they are exact.
 use mathlib.Core.Path.{_≡_, refl, sym, ap, ap₂, _∙_, subst}
-use mathlib.Core.Bool.{Bool, true, false, not, _&&_, cond}
+use mathlib.Core.Bool.{Bool, true, false, not, _&&_, cond, false≢true}
 use Prim.Native.Nat.{ℕ, zero, suc, _+_, _-_, _*_, _^_, _≤_, _<_}
-use native.Mathlib.Nat.{mul-one, mul-assoc, mul-pos, lt-of-lt-of-le}
+use native.Mathlib.Nat.{zero-mul, mul-one, mul-assoc, mul-pos, lt-of-lt-of-le}
 use native.Mathlib.Omega.{arith}
-use lib.Dec.{T, ltb}
+use lib.Dec.{T, ltb, eqb·suc-zero}
 use lib.Pow.{pow-add, pow-pos, pow-mono, shl-lt}
 use borrow.Author.Tests.{ltb-true, ltb-false}
 use lib.IntN.{ℤ, pos, negsuc, natAbs, negℤ, _+ℤ_, _-ℤ_, _*ℤ_, +ℤ-comm}
@@ -18,6 +18,7 @@ use lib.Ieee.Scale.{round-same, overflow}
 use Rattle.integers.proofs.Parts.{linear, var, _⊕_, _⊖_, ⊝_}
 use Rattle.integers.proofs.Ring.{*ℤ-neg-left, *ℤ-neg-right}
 use Rattle.floats.specs.Value.{isFinite, signed, inUnits}
+use Rattle.floats.specs.Whole.{isMinusZero}
 use Rattle.floats.proofs.Units.{abs-signed, value-units}
 use Rattle.floats.proofs.Compare.{lt-values}
 use Rattle.floats.proofs.Sum.{add-values}
@@ -52,6 +53,22 @@ signed-abs (negsuc n) = refl
 -- up to 2^prec the float of a whole number is that number
 pub of-whole : (f : Format) (z : ℤ) → natAbs z ≤ 2 ^ prec f → Whole (ofInt f z) z
 of-whole f z h = record { sign = negative z; size = natAbs z; number = signed-abs z; value = of-value f z h }
+
+-- where a negative number is not zero, its float is not minus zero
+not-minus : (x : Float) (s : Bool) (a : ℕ) → (s ≡ true → 0 < a) → HasValue x s a 1 → isMinusZero x ≡ false
+not-minus nan s a h v = absurd v
+not-minus (inf t) s a h v = absurd v
+not-minus (fin false m e) s a h v = refl
+not-minus (fin true zero e) s a h v = absurd (omega (arith, mul-pos (h (sym (v .0))) (down-pos e), v .1, zero-mul (up e)))
+not-minus (fin true (suc m) e) s a h v = eqb·suc-zero m
+
+-- "zero is plus zero": no whole number's float is minus zero
+pub of-plus-zero : (f : Format) (z : ℤ) → natAbs z ≤ 2 ^ prec f → isMinusZero (ofInt f z) ≡ false
+of-plus-zero f z h = not-minus (ofInt f z) (negative z) (natAbs z) (some z) (of-value f z h)
+  where
+    some : (n : ℤ) → negative n ≡ true → 0 < natAbs n
+    some (pos n) e = absurd (false≢true e)
+    some (negsuc n) e = omega arith
 
 signed-not : (s : Bool) (n : ℕ) → negℤ (signed s n) ≡ signed (not s) n
 signed-not false n = refl

@@ -1,42 +1,79 @@
--- A preview carries its section whole: the section can be read back from the floats, and the result from the preview after a step.
-use mathlib.Core.Path.{_≡_, refl, sym, ap, _∙_, subst}
+-- A preview carries its section whole: the section is read back from the floats, none of which is minus zero, and the result from the
+-- preview after a step.
+use mathlib.Core.Path.{_≡_, sym, ap, _∙_}
 use mathlib.Core.Bool.{true}
-use Prim.Native.Nat.{ℕ, _^_, _≤_}
+use Prim.Native.Nat.{_^_, _≤_}
 use native.Mathlib.Nat.{le-trans, lt-of-le-of-lt}
-use lib.Dec.{T, leb, leb→le, lit≤, lit<}
+use lib.Dec.{T, lit≤, lit<}
 use lib.IntN.{ℤ, natAbs}
 use lib.Ieee.{binary64, prec, toSigned, inSigned}
 use Rattle.refusals.specs.Numbers.{isAccepted}
-use Rattle.floats.specs.Whole.{wholeOf}
 use Rattle.floats.proofs.Casts.{int-back}
 use Rattle.floats.proofs.Quotient.{whole-back}
+use Rattle.floats.proofs.WholeNumbers.{of-plus-zero}
 use Rattle.bands.specs.Bands.{bandOf}
-use Rattle.bands.specs.Words.{isWord}
+use Rattle.bands.specs.Words.{wordSize, isWord}
 use Rattle.bands.proofs.Laws.{Accepts, band-sizes, word-size}
 use Rattle.section.specs.declared.Section.{Section}
 use Rattle.section.specs.declared.Stepped.{Stepped}
 use Rattle.section.specs.Step.{stepVerdict, advanced, stepped}
 use Rattle.section.proofs.Ready.{Ready, accepted-advances, ready-accepts, ready-stays}
 use Rattle.preview.specs.declared.Preview.{Preview}
-use Rattle.preview.specs.Carried.{float, carried, sectionIn, Carrying}
+use Rattle.preview.specs.Carried.{float, carried, sectionIn, PlusZero, Carrying}
+use Rattle.preview.proofs.Sum.{below}
 
--- a whole number of known size, read back from its float
-back : (m : ℕ) (z : ℤ) → T (leb m (2 ^ prec binary64)) → natAbs z ≤ m → wholeOf (float z) ≡ z
-back m z t h = whole-back z (le-trans h (leb→le m (2 ^ prec binary64) t))
+-- each number of the section is at most 2^53 in size
+record Sizes (s : Section) : Type 0 where
+  alpha-size : natAbs (s .band .alpha) ≤ 2 ^ prec binary64
+  beta-size : natAbs (s .band .beta) ≤ 2 ^ prec binary64
+  gamma-size : natAbs (s .band .gamma) ≤ 2 ^ prec binary64
+  x1-size : natAbs (s .x1) ≤ 2 ^ prec binary64
+  x2-size : natAbs (s .x2) ≤ 2 ^ prec binary64
+  y1-size : natAbs (s .y1) ≤ 2 ^ prec binary64
+  y2-size : natAbs (s .y2) ≤ 2 ^ prec binary64
+
+word-below : (z : ℤ) → isWord z ≡ true → natAbs z ≤ 2 ^ prec binary64
+word-below z w = below wordSize tt (word-size z w)
 
 module _ (s : Section) (r : Ready s) where
-  coefficients : Accepts (s .band)
-  coefficients = band-sizes (s .band) (r .band-accepted)
+  sizes : Sizes s
+  sizes =
+      record {
+        alpha-size = below 8388607 tt (coefficients .alpha-size);
+        beta-size = below 4194303 tt (coefficients .beta-size);
+        gamma-size = below 8388606 tt (coefficients .gamma-size);
+        x1-size = word-below (s .x1) (r .x1-word);
+        x2-size = word-below (s .x2) (r .x2-word);
+        y1-size = word-below (s .y1) (r .y1-word);
+        y2-size = word-below (s .y2) (r .y2-word);
+      }
+    where
+      coefficients : Accepts (s .band)
+      coefficients = band-sizes (s .band) (r .band-accepted)
 
+  -- the section is read back from the floats
   pub carried-back : sectionIn (carried s) ≡ s
   carried-back =
       λ i.
       record {
-        band = bandOf (back 8388607 (s .band .alpha) tt (coefficients .alpha-size) i) (back 4194303 (s .band .beta) tt (coefficients .beta-size) i) (back 8388606 (s .band .gamma) tt (coefficients .gamma-size) i);
-        x1 = back 8388608 (s .x1) tt (word-size (s .x1) (r .x1-word)) i;
-        x2 = back 8388608 (s .x2) tt (word-size (s .x2) (r .x2-word)) i;
-        y1 = back 8388608 (s .y1) tt (word-size (s .y1) (r .y1-word)) i;
-        y2 = back 8388608 (s .y2) tt (word-size (s .y2) (r .y2-word)) i;
+        band = bandOf (whole-back (s .band .alpha) (sizes .alpha-size) i) (whole-back (s .band .beta) (sizes .beta-size) i) (whole-back (s .band .gamma) (sizes .gamma-size) i);
+        x1 = whole-back (s .x1) (sizes .x1-size) i;
+        x2 = whole-back (s .x2) (sizes .x2-size) i;
+        y1 = whole-back (s .y1) (sizes .y1-size) i;
+        y2 = whole-back (s .y2) (sizes .y2-size) i;
+      }
+
+  -- and none of them is minus zero
+  pub carried-plus : PlusZero (carried s)
+  carried-plus =
+      record {
+        alpha-plus = of-plus-zero binary64 (s .band .alpha) (sizes .alpha-size);
+        beta-plus = of-plus-zero binary64 (s .band .beta) (sizes .beta-size);
+        gamma-plus = of-plus-zero binary64 (s .band .gamma) (sizes .gamma-size);
+        x1-plus = of-plus-zero binary64 (s .x1) (sizes .x1-size);
+        x2-plus = of-plus-zero binary64 (s .x2) (sizes .x2-size);
+        y1-plus = of-plus-zero binary64 (s .y1) (sizes .y1-size);
+        y2-plus = of-plus-zero binary64 (s .y2) (sizes .y2-size);
       }
 
   -- a preview of it may be stepped on a word x
@@ -69,5 +106,5 @@ module _ (s : Section) (r : Ready s) where
         cast : T (inSigned binary64 31 (float (next .y1))) × (toSigned 31 (float (next .y1)) ≡ next .y1)
         cast = int-back binary64 31 (next .y1) (le-trans size (lit≤ tt)) (lt-of-le-of-lt size (lit< tt))
           where
-            size : natAbs (next .y1) ≤ 8388608
+            size : natAbs (next .y1) ≤ wordSize
             size = word-size (next .y1) (ready-stays s x r w .y1-word)

@@ -21,6 +21,10 @@ abbrev pub floatSum : Float → Float → Float → Float → Float → Float �
 floatSum zero alpha beta gamma x x2 y1 y2 =
     add binary64 (sub binary64 (add binary64 zero (mul binary64 alpha (sub binary64 x x2))) (mul binary64 beta y2)) (mul binary64 gamma y1)
 
+-- a size of at most m, and so of at most 2^53
+pub below : {n : ℕ} (m : ℕ) → T (leb m (2 ^ prec binary64)) → n ≤ m → n ≤ 2 ^ prec binary64
+below m t h = le-trans h (leb→le m (2 ^ prec binary64) t)
+
 module _ (band : Band) (x x2 y1 y2 : ℤ) (small : Small band x x2 y1 y2) where
   -- A × (x - x2), G × y1 and B × y2
   abbrev forward : ℤ
@@ -51,10 +55,6 @@ module _ (band : Band) (x x2 y1 y2 : ℤ) (small : Small band x x2 y1 y2) where
   reordered : forward -ℤ back2 +ℤ back1 ≡ exactSum band x x2 y1 y2
   unfolding exactSum
   reordered = terms-eq (var forward ⊖ var back2 ⊕ var back1) (var forward ⊕ var back1 ⊖ var back2) (omega arith)
-
-  -- a size that is below 2^53
-  below : {n : ℕ} (m : ℕ) → T (leb m (2 ^ prec binary64)) → n ≤ m → n ≤ 2 ^ prec binary64
-  below m t h = le-trans h (leb→le m (2 ^ prec binary64) t)
 
   -- S is below 2^53
   pub sum-size : natAbs (exactSum band x x2 y1 y2) < 2 ^ prec binary64

@@ -1,6 +1,6 @@
 -- "The preview keeps coefficients and delayed words as f64": how it carries a section. Definitions only.
 use mathlib.Core.Path.{_≡_}
-use mathlib.Core.Bool.{true}
+use mathlib.Core.Bool.{true, false}
 use Prim.Native.Nat.{_^_, _<_}
 use lib.IntN.{ℤ, natAbs}
 use lib.Ieee.{Float, binary64, prec, ofInt}
@@ -8,10 +8,10 @@ use Rattle.refusals.specs.Numbers.{isAccepted}
 use Rattle.bands.specs.Bands.{bandOf}
 use Rattle.section.specs.declared.Section.{Section}
 use Rattle.section.specs.Step.{stepVerdict}
-use Rattle.floats.specs.Whole.{wholeOf}
+use Rattle.floats.specs.Whole.{wholeOf, isMinusZero}
 use Rattle.preview.specs.declared.Preview.{Preview}
 
--- a whole number as an f64. "Zero is plus zero inside it": no whole number gives minus zero
+-- a whole number as an f64
 abbrev pub float : ℤ → Float
 float z = ofInt binary64 z
 
@@ -38,6 +38,16 @@ sectionIn p =
       y1 = wholeOf (p .y1);
       y2 = wholeOf (p .y2);
     }
+
+-- "zero is plus zero inside it": none of the preview's numbers is minus zero
+pub record PlusZero (p : Preview) : Type 0 where
+  pub alpha-plus : isMinusZero (p .alpha) ≡ false
+  pub beta-plus : isMinusZero (p .beta) ≡ false
+  pub gamma-plus : isMinusZero (p .gamma) ≡ false
+  pub x1-plus : isMinusZero (p .x1) ≡ false
+  pub x2-plus : isMinusZero (p .x2) ≡ false
+  pub y1-plus : isMinusZero (p .y1) ≡ false
+  pub y2-plus : isMinusZero (p .y2) ≡ false
 
 -- what a step asks: the preview carries a section, and that section accepts a step on x
 pub record Carrying (p : Preview) (x : ℤ) : Type 0 where
