@@ -14,7 +14,7 @@ use lib.Ieee.{Float, nan, inf, fin, Format, prec, emax, low, up, down, unlike, r
 use lib.Ieee.Fits.{down-pos, reach}
 use lib.Ieee.Exact.{HasValue}
 use lib.Ieee.Back.{round-whole}
-use lib.Ieee.Scale.{round-same, overflow}
+use lib.Ieee.Scale.{round-same}
 use Rattle.integers.proofs.Parts.{linear, var, _⊕_, _⊖_, ⊝_}
 use Rattle.integers.proofs.Ring.{*ℤ-neg-left, *ℤ-neg-right}
 use Rattle.floats.specs.Value.{isFinite, signed, inUnits}

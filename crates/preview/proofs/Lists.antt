@@ -28,16 +28,16 @@ module _ (l : List ℤ) (i : ℕ) (h : i < length l) where
   results-from s = ap (resultsOver s) (drop-cons l i (pos 0) h)
 
 -- what an accepted call tells
-pub record Accepts (band : Band) (words : List ℤ) (room : ℕ) : Type 0 where
+pub record AcceptedCall (band : Band) (words : List ℤ) (room : ℕ) : Type 0 where
   pub band-accepted : isAccepted (bandVerdict band) ≡ true
   pub room-has : length words ≤ room
   pub all-words : areWords words ≡ true
 
-pub preview-accepted : (band : Band) (words : List ℤ) (room : ℕ) → isAccepted (previewVerdict band words room) ≡ true → Accepts band words room
+pub preview-accepted : (band : Band) (words : List ℤ) (room : ℕ) → isAccepted (previewVerdict band words room) ≡ true → AcceptedCall band words room
 unfolding previewVerdict
 preview-accepted band words room e = go (isAccepted (bandVerdict band)) (leb (length words) room) (areWords words) refl refl refl
   where
-    go : (b l w : Bool) → isAccepted (bandVerdict band) ≡ b → leb (length words) room ≡ l → areWords words ≡ w → Accepts band words room
+    go : (b l w : Bool) → isAccepted (bandVerdict band) ≡ b → leb (length words) room ≡ l → areWords words ≡ w → AcceptedCall band words room
     go true true true h k m = record { band-accepted = h; room-has = leb-true (length words) room k; all-words = m }
     go true true false h k m = absurd (false≢true (simp (h, k, m) at e))
     go true false true h k m = absurd (false≢true (simp (h, k, m) at e))

@@ -1,7 +1,7 @@
 -- The result in floats: S over 2^22 rounded to a whole number, and the comparisons that limit it, are those of the section.
-use mathlib.Core.Path.{_≡_, sym, ap, ap₂, _∙_}
-use mathlib.Core.Bool.{Bool, true, false, cond}
-use Prim.Native.Nat.{_*_, _^_, _≤_, _<_}
+use mathlib.Core.Path.{_≡_, sym, ap₂, _∙_}
+use mathlib.Core.Bool.{Bool, cond}
+use Prim.Native.Nat.{_^_, _≤_, _<_}
 use native.Mathlib.Nat.{le-trans, le-of-lt}
 use lib.Dec.{lit≤}
 use lib.IntN.{ℤ, natAbs}

@@ -28,7 +28,7 @@ carried s =
       y2 = float (s .y2);
     }
 
--- the section that a preview carries
+-- the section that a preview carries: its floats are whole, so each is the nearest whole number to itself
 abbrev pub sectionIn : Preview → Section
 sectionIn p =
     record {

@@ -5,13 +5,12 @@
 ghost use mathlib.Core.Path.{_≡_};
 ghost use mathlib.Core.Bool.{true};
 ghost use lib.ListN.{length};
-ghost use lib.Ieee.{binary64, ofInt};
 ghost use Rattle.refusals.specs.Numbers.{isAccepted};
 ghost use Rattle.floats.specs.Whole.{wholeOf};
 ghost use Rattle.section.specs.Equation.{worked};
 ghost use Rattle.section.specs.Step.{clearedSection, stepped};
 ghost use Rattle.preview.specs.Preview.{areWords, previewVerdict, previewed, sectionResults};
-ghost use Rattle.preview.specs.Carried.{carried, sectionIn, Carrying, WholeSum};
+ghost use Rattle.preview.specs.Carried.{float, carried, sectionIn, Carrying, WholeSum};
 use bands::Band;
 use refusals::Verdict;
 
@@ -125,14 +124,14 @@ fn step(preview: Preview, x: i32) -> Preview
 const SUM_SCALE: f64 = 4194304.0;
 
 // The ends of a word.
-const WORD_LOW: f64 = -8388608.0;
+const WORD_LOW: f64 = bands::WORD_LOW as f64;
 
-const WORD_HIGH: f64 = 8388607.0;
+const WORD_HIGH: f64 = bands::WORD_HIGH as f64;
 
 // y of S: S / 2^22, which is exact, rounded, then saturated to a word.
 fn result_of(sum: f64) -> f64
     requires { ⌜ WholeSum sum ⌝ }
-    ensures { λ r. ⌜ r ≡ ofInt binary64 (worked (wholeOf sum) .y) ⌝ }
+    ensures { λ r. ⌜ r ≡ float (worked (wholeOf sum) .y) ⌝ }
 {
     let rounded = floats::nearest_whole(sum / SUM_SCALE);
     if rounded < WORD_LOW {

@@ -1,10 +1,9 @@
 -- `preview::result_of` meets its contract: its quotient is exact, its rounding and its two tests are those of the section.
 use mathlib.Core.Path.{_≡_, refl, sym, ap, _∙_, subst}
 use mathlib.Core.Bool.{Bool, true, false, cond}
-use Prim.Native.Nat.{_≤_}
 use native.Mathlib.Nat.{le-of-lt}
 use lib.Dec.{lit≤}
-use lib.IntN.{ℤ, pos}
+use lib.IntN.{ℤ}
 use lib.Ieee.{Float, binary64, ofBits, ofInt, lt}
 use Rattle.floats.specs.Whole.{wholeOf}
 use Rattle.floats.proofs.WholeNumbers.{Whole, of-whole}

@@ -27,7 +27,7 @@ use Rattle.preview.specs.declared.Preview.{Preview}
 use Rattle.preview.specs.Preview.{areWords}
 use Rattle.preview.specs.Carried.{float, carried, sectionIn, Carrying}
 use Rattle.preview.proofs.Carry.{carried-back, may-step, result-back}
-use Rattle.preview.proofs.Lists.{words-from, results-from, Accepts, preview-accepted}
+use Rattle.preview.proofs.Lists.{words-from, results-from, AcceptedCall, preview-accepted}
 use Rattle.preview.proofs.run.Statement.{statement}
 use Rattle.preview.proofs.run.Tie as tie
 use Rattle.preview.proofs.run.Reads as reads
@@ -71,7 +71,7 @@ module _ (c : lts.After-cleared (cleared-reads.Asked, cleared-reads.Learnt, step
   abbrev first : Section
   first = clearedSection (start .args .band)
 
-  accepts : Accepts (start .args .band) words (length room)
+  accepts : AcceptedCall (start .args .band) words (length room)
   accepts = preview-accepted (start .args .band) words (length room) (start .pre)
 
   first-ready : Ready first

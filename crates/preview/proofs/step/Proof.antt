@@ -18,7 +18,7 @@ use Rattle.section.specs.Step.{advanced}
 use Rattle.section.proofs.Laws.{accepted-small}
 use Rattle.section.proofs.Ready.{accepted-advances}
 use Rattle.preview.specs.declared.Preview.{Preview}
-use Rattle.preview.specs.Carried.{float, carried, sectionIn, WholeSum}
+use Rattle.preview.specs.Carried.{float, carried, sectionIn}
 use Rattle.preview.proofs.Sum.{floatSum, sum-size, sum-exact}
 use Rattle.preview.proofs.step.Statement.{statement}
 use Rattle.preview.proofs.step.Tie as tie
