@@ -60,7 +60,7 @@ module _ (band : Band) (x x2 y1 y2 : ℤ) (small : Small band x x2 y1 y2) where
   pub sum-size : natAbs (exactSum band x x2 y1 y2) < 2 ^ prec binary64
   sum-size = subst (λ (z : ℤ). natAbs z < 2 ^ prec binary64) reordered (lt-of-le-of-lt (sum-sized (forward -ℤ back2) back1 part-size back1-size) (lit< tt))
 
-  -- a word, and a product of two whole numbers
+  -- a coefficient or a word as a float
   word : (z : ℤ) → natAbs z ≤ wordSize → Whole (float z) z
   word z h = of-whole binary64 z (below wordSize tt h)
 
