@@ -33,15 +33,15 @@ record Sizes (s : Section) : Type 0 where
   y2-size : natAbs (s .y2) ≤ 2 ^ prec binary64
 
 word-below : (z : ℤ) → isWord z ≡ true → natAbs z ≤ 2 ^ prec binary64
-word-below z w = below wordSize tt (word-size z w)
+word-below z w = below (word-size z w) tt
 
 module _ (s : Section) (r : Ready s) where
   sizes : Sizes s
   sizes =
       record {
-        alpha-size = below 8388607 tt (coefficients .alpha-size);
-        beta-size = below 4194303 tt (coefficients .beta-size);
-        gamma-size = below 8388606 tt (coefficients .gamma-size);
+        alpha-size = below (coefficients .alpha-size) tt;
+        beta-size = below (coefficients .beta-size) tt;
+        gamma-size = below (coefficients .gamma-size) tt;
         x1-size = word-below (s .x1) (r .x1-word);
         x2-size = word-below (s .x2) (r .x2-word);
         y1-size = word-below (s .y1) (r .y1-word);

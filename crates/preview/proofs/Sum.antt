@@ -22,8 +22,8 @@ floatSum zero alpha beta gamma x x2 y1 y2 =
     add binary64 (sub binary64 (add binary64 zero (mul binary64 alpha (sub binary64 x x2))) (mul binary64 beta y2)) (mul binary64 gamma y1)
 
 -- a size of at most m, and so of at most 2^53
-pub below : {n : ℕ} (m : ℕ) → T (leb m (2 ^ prec binary64)) → n ≤ m → n ≤ 2 ^ prec binary64
-below m t h = le-trans h (leb→le m (2 ^ prec binary64) t)
+pub below : {n m : ℕ} → n ≤ m → T (leb m (2 ^ prec binary64)) → n ≤ 2 ^ prec binary64
+below {n} {m} h t = le-trans h (leb→le m (2 ^ prec binary64) t)
 
 module _ (band : Band) (x x2 y1 y2 : ℤ) (small : Small band x x2 y1 y2) where
   -- A × (x - x2), G × y1 and B × y2
@@ -62,23 +62,23 @@ module _ (band : Band) (x x2 y1 y2 : ℤ) (small : Small band x x2 y1 y2) where
 
   -- a coefficient or a word as a float
   word : (z : ℤ) → natAbs z ≤ wordSize → Whole (float z) z
-  word z h = of-whole binary64 z (below wordSize tt h)
+  word z h = of-whole binary64 z (below h tt)
 
   change-is : sub binary64 (float x) (float x2) ≡ float (x -ℤ x2)
-  change-is = sub-whole binary64 x (below wordSize tt (small .x-size)) (word x2 (small .x2-size))
+  change-is = sub-whole binary64 x (below (small .x-size) tt) (word x2 (small .x2-size))
 
   forward-whole : Whole (mul binary64 (float (band .alpha)) (float (x -ℤ x2))) forward
   forward-whole =
-      mul-whole binary64 (word (band .alpha) (small .alpha-size)) (of-whole binary64 (x -ℤ x2) (below (wordSize + wordSize) tt change-size))
-      (below (wordSize * (wordSize + wordSize)) tt forward-size)
+      mul-whole binary64 (word (band .alpha) (small .alpha-size)) (of-whole binary64 (x -ℤ x2) (below change-size tt))
+      (below forward-size tt)
 
   back1-whole : Whole (mul binary64 (float (band .gamma)) (float y1)) back1
   back1-whole =
-      mul-whole binary64 (word (band .gamma) (small .gamma-size)) (word y1 (small .y1-size)) (below (wordSize * wordSize) tt back1-size)
+      mul-whole binary64 (word (band .gamma) (small .gamma-size)) (word y1 (small .y1-size)) (below back1-size tt)
 
   back2-whole : Whole (mul binary64 (float (band .beta)) (float y2)) back2
   back2-whole =
-      mul-whole binary64 (word (band .beta) (small .beta-size)) (word y2 (small .y2-size)) (below (wordSize * wordSize) tt back2-size)
+      mul-whole binary64 (word (band .beta) (small .beta-size)) (word y2 (small .y2-size)) (below back2-size tt)
 
   -- from plus zero on, one product after another
   pub sum-exact : floatSum (float (pos 0)) (float (band .alpha)) (float (band .beta)) (float (band .gamma)) (float x) (float x2) (float y1) (float y2) ≡ float (exactSum band x x2 y1 y2)
@@ -88,6 +88,6 @@ module _ (band : Band) (x x2 y1 y2 : ℤ) (small : Small band x x2 y1 y2) where
       ∙ ap (λ (d : Float). add binary64 (sub binary64 d (mul binary64 (float (band .beta)) (float y2))) (mul binary64 (float (band .gamma)) (float y1)))
       (add-whole binary64 (pos 0) (lit≤ tt) forward-whole ∙ ap float (+ℤ-idl forward))
       ∙ ap (λ (d : Float). add binary64 d (mul binary64 (float (band .gamma)) (float y1)))
-      (sub-whole binary64 forward (below (wordSize * (wordSize + wordSize)) tt forward-size) back2-whole)
-      ∙ add-whole binary64 (forward -ℤ back2) (below (wordSize * (wordSize + wordSize) + wordSize * wordSize) tt part-size) back1-whole
+      (sub-whole binary64 forward (below forward-size tt) back2-whole)
+      ∙ add-whole binary64 (forward -ℤ back2) (below part-size tt) back1-whole
       ∙ ap float reordered
