@@ -12,7 +12,7 @@ use outside::checks::{
     arithmetic, bands, big_numbers, block_refusals, blocks, call_lists, cuts, distance_lists,
     factors, fitness, levels, loads, one_step, orders, refusals, steps,
 };
-use outside::checks::{preview_lengths, preview_refusals, preview_section, previews};
+use outside::checks::{preview_lengths, preview_refusals, previews};
 use outside::checks::{
     sheet_damage, sheet_fields, sheet_lengths, sheet_lines, sheet_lists, sheets,
 };
@@ -70,7 +70,7 @@ fn print_seeds() {
         ("previews", previews::PREVIEWS_SEED),
         ("preview lengths", preview_lengths::PREVIEW_LENGTHS_SEED),
         ("refused previews", preview_refusals::PREVIEW_REFUSALS_SEED),
-        ("preview and section", preview_section::PREVIEW_SECTION_SEED),
+        ("preview and section", previews::PREVIEW_SECTION_SEED),
         ("big numbers", big_numbers::BIG_SEED),
         ("one step", one_step::ONE_STEP_SEED),
     ];

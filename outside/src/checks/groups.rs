@@ -3,7 +3,7 @@
 use super::{arithmetic, bands, figures, refusals, steps, Outcome};
 use super::{block_refusals, blocks, cuts, fitness, levels, loads, unit_figures};
 use super::{call_lists, distance, factors, order_figures, orders};
-use super::{preview_figures, preview_lengths, preview_refusals, preview_section, previews};
+use super::{preview_figures, preview_lengths, preview_refusals, previews};
 use super::{sheet_damage, sheet_fields, sheet_figures, sheet_lengths, sheet_lines};
 use super::{sheet_lists, sheets};
 use crate::subject::Subject;
@@ -187,7 +187,7 @@ pub const PREVIEW_FIGURES: Group = Group {
 pub const PREVIEW_AND_SECTION: Group = Group {
     name: "preview and section",
     what: "lists held against the same implementation's own section",
-    run: preview_section::alike,
+    run: previews::beside_section,
 };
 
 pub const SECTION_GROUPS: [Group; 8] = [

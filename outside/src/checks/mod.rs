@@ -23,7 +23,6 @@ pub mod orders;
 pub mod preview_figures;
 pub mod preview_lengths;
 pub mod preview_refusals;
-pub mod preview_section;
 pub mod previews;
 pub mod refusals;
 pub mod same_block;

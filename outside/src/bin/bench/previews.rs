@@ -3,10 +3,9 @@
 //! same shape.
 
 use std::hint::black_box;
-use std::slice;
 use std::time::Instant;
 
-use outside::ffi::raw;
+use outside::ffi::{self, raw};
 use outside::preview::fast;
 use outside::random::Random;
 use outside::reference::ACCEPTED;
@@ -18,50 +17,14 @@ const SEED: u64 = 0xF0DD_00C1;
 const WORDS: usize = 100_000;
 const CALLS: usize = 20;
 
-type PreviewFn = unsafe extern "C" fn(i32, i32, i32, *const i32, usize, *mut i32, usize) -> u32;
+type PreviewFn = fn([i32; 3], &[i32], &mut [i32]) -> u32;
 
-#[inline(never)]
-unsafe extern "C" fn rust_preview(
-    a: i32,
-    b: i32,
-    g: i32,
-    words: *const i32,
-    words_len: usize,
-    results: *mut i32,
-    results_len: usize,
-) -> u32 {
-    // SAFETY: the caller lends words that nobody writes and results that nobody
-    // else holds, with their lengths.
-    unsafe {
-        let words = slice::from_raw_parts(words, words_len);
-        let results = slice::from_raw_parts_mut(results, results_len);
-        fast::preview([a, b, g], words, results)
-    }
-}
-
-/// The library's section from a cleared start: a step a word.
-#[inline(never)]
-unsafe extern "C" fn section_steps(
-    a: i32,
-    b: i32,
-    g: i32,
-    words: *const i32,
-    words_len: usize,
-    results: *mut i32,
-    results_len: usize,
-) -> u32 {
-    // SAFETY: the caller lends words that nobody writes and results that nobody
-    // else holds, with their lengths.
-    let (words, results) = unsafe {
-        (
-            slice::from_raw_parts(words, words_len),
-            slice::from_raw_parts_mut(results, results_len),
-        )
-    };
+/// The library's section from a cleared start: a step a word, with nothing
+/// between. The low half of a step's answer is y.
+fn section_steps([a, b, g]: [i32; 3], words: &[i32], results: &mut [i32]) -> u32 {
     let mut section = [a, b, g, 0, 0, 0, 0];
     for (result, &x) in results.iter_mut().zip(words) {
-        // SAFETY: the section is seven numbers of this function's own. The low
-        // half of the answer is y.
+        // SAFETY: the section is seven numbers of this function's own.
         *result = unsafe { raw::fonddrys_section_step(&mut section, x) } as i32;
     }
     ACCEPTED
@@ -70,14 +33,11 @@ unsafe extern "C" fn section_steps(
 /// The list previewed again and again: nanoseconds a word, and the checksum of
 /// the results.
 #[inline(never)]
-fn run_previews(preview: PreviewFn, [a, b, g]: [i32; 3], words: &[i32]) -> (f64, u64) {
+fn run_previews(preview: PreviewFn, band: [i32; 3], words: &[i32]) -> (f64, u64) {
     let mut results = vec![0; words.len()];
     let begun = Instant::now();
     for _ in 0..CALLS {
-        let (from, to) = (words.as_ptr(), results.as_mut_ptr());
-        // SAFETY: both are this program's own, with their lengths.
-        let answer = unsafe { preview(a, b, g, from, words.len(), to, results.len()) };
-        assert_eq!(answer, ACCEPTED);
+        assert_eq!(preview(band, words, &mut results), ACCEPTED);
     }
     let nanoseconds = begun.elapsed().as_nanos() as f64;
     let checksum = results.iter().fold(0, |sum, &y| fold(sum, y.into()));
@@ -93,11 +53,11 @@ pub fn time() {
     );
     let mut random = Random::new(SEED);
     let words: Vec<i32> = (0..WORDS).map(|_| random.word()).collect();
-    let library = raw::fonddrys_preview as PreviewFn;
+    let library: PreviewFn = ffi::preview;
     for (name, band) in bands() {
         let run = |preview| run_previews(preview, band, &words);
         let both = [("preview", library), ("section", section_steps)];
         race_named(&format!("preview and section, {name}"), both, run);
-        race(&format!("preview, {name}"), library, rust_preview, run);
+        race(&format!("preview, {name}"), library, fast::preview, run);
     }
 }
