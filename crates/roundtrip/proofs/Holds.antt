@@ -36,7 +36,7 @@ accepted-reads bytes e given =
 -- ---- a fit unit's sheet
 
 -- with room for it, it is the part that is handed back
-part-is-sheet : (u : Unit) (room : ℕ) → HasSheet u → sheetSize ≤ room → filledPart u room ≡ sheetOf u
+pub part-is-sheet : (u : Unit) (room : ℕ) → HasSheet u → sheetSize ≤ room → filledPart u room ≡ sheetOf u
 unfolding filledPart writes
 part-is-sheet u room has h = ap₂ (λ (a b : Bool). cond (a && b) (sheetOf u) []) (le-leb sheetSize room h) has
 

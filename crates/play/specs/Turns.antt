@@ -1,0 +1,45 @@
+-- What the play program does with its input. No contract can say which bytes a read of the C library brings; so each says that there are bytes
+-- of which it holds. Definitions only.
+use mathlib.Core.Path.{_≡_}
+use mathlib.Core.List.{List, [], _++_}
+use Prim.Native.Nat.{ℕ, _≤_, _<_}
+use lib.ListN.{length, take}
+use Rattle.unit.specs.declared.Unit.{Unit}
+use Rattle.unit.specs.Fit.{Fit}
+use Rattle.stream.specs.Claim.{Stream, oneBlock, next, Ready}
+use Rattle.play.specs.declared.playing.Received.{Received}
+use Rattle.play.specs.declared.playing.Progress.{Progress}
+
+-- a read puts bytes behind the held ones at the front of the input, and leaves those as they are
+pub record Read (held : ℕ) (input : List ℕ) (r : Received) (input' : List ℕ) : Type 0 where
+  pub bytes : List ℕ
+  pub front-is : take (r .count) input' ≡ take held input ++ bytes
+  pub count-fits : r .count ≤ length input'
+  pub length-is : length input' ≡ length input
+
+-- the stream that the program has in hand, its held bytes at the front of the input. The sound is with whoever took it.
+abbrev pub inHand : Progress → List ℕ → Stream
+inHand p input = record { unit = p .unit; held = take (p .held) input; sound = [] }
+
+-- it can be read on: the unit is fit and has two channels, less than a frame is held, and the output has room for all that the input has
+pub record CanGoOn (p : Progress) (input output : List ℕ) : Type 0 where
+  pub ready : Ready (inHand p input)
+  pub held-few : p .held < 4
+  pub input-room : 4 ≤ length input
+  pub output-room : length input ≤ length output
+
+-- a turn is the next read of the stream
+pub record Turned (p : Progress) (input : List ℕ) (after : Progress) (input' : List ℕ) : Type 0 where
+  pub bytes : List ℕ
+  pub unit-is : after .unit ≡ next (inHand p input) bytes .unit
+  pub held-is : take (after .held) input' ≡ next (inHand p input) bytes .held
+  pub held-count : after .held ≡ length (next (inHand p input) bytes .held)
+  pub held-few : after .held < 4
+  pub ready : Ready (inHand after input')
+
+-- "its sound and sheet are those of one block": the unit at the end is that of one block of all that was read, and its tail is held
+pub record Played (u : Unit) (after : Progress) : Type 0 where
+  pub bytes : List ℕ
+  pub unit-is : after .unit ≡ oneBlock u bytes .unit
+  pub held-count : after .held ≡ length (oneBlock u bytes .held)
+  pub fit : Fit (after .unit)

@@ -1,0 +1,82 @@
+// Standard input to standard output, until the input ends.
+ghost use Prim.Native.Nat.{_≤_};
+ghost use lib.ListN.{length};
+ghost use Rattle.stream.specs.Claim.{begun, Ready};
+ghost use Rattle.play.specs.Turns.{Read, CanGoOn, Turned, Played};
+use unit::Unit;
+
+// A stream between two reads: the unit, the count of bytes of a frame that is not whole yet, whether more may come, and whether sound was
+// lost on its way out.
+pub struct Progress {
+    pub unit: Unit,
+    pub held: usize,
+    pub is_open: bool,
+    pub is_lost: bool,
+}
+
+// What a read leaves: the count of bytes at the front of the input, held ones and new ones, and whether more may come.
+pub struct Received {
+    pub count: usize,
+    pub is_open: bool,
+}
+
+// Plays until the input ends or fails, or the output fails.
+pub fn play(unit: Unit) -> Progress
+    requires { ⌜ Ready (begun unit) ⌝ }
+    ensures { λ r. ⌜ Played unit r ⌝ }
+{
+    let mut input = io::large_buffer();
+    let mut output = io::large_buffer();
+    let mut stream = Progress {
+        unit,
+        held: 0,
+        is_open: true,
+        is_lost: false,
+    };
+    let mut turns = u64::MAX;
+    while turns > 0 {
+        stream = turn(stream, &mut input, &mut output);
+        if !stream.is_open {
+            break;
+        }
+        turns -= 1;
+    }
+    stream
+}
+
+// One read, and the sound of the frames that are then whole.
+fn turn(stream: Progress, input: &mut [u8], output: &mut [u8]) -> Progress
+    requires { ⌜ CanGoOn stream (now input) (now output) ⌝ }
+    ensures { λ r. ⌜ Turned stream (now (input .entry)) r (now (input .exit)) ⌝ }
+{
+    let received = receive(input, stream.held);
+    let count = received.count;
+    let unit = stream.unit;
+    let advanced = stream::advance(unit, &mut input[..count], output);
+    let after = advanced.unit;
+    let whole = advanced.whole;
+    let is_written = console::write_out(&output[..whole]);
+    Progress {
+        unit: after,
+        held: advanced.held,
+        is_open: received.is_open && is_written,
+        is_lost: !is_written,
+    }
+}
+
+// Reads once, behind the held bytes.
+fn receive(input: &mut [u8], held: usize) -> Received
+    requires { ⌜ held ≤ length (now input) ⌝ }
+    ensures { λ r. ⌜ Read held (now (input .entry)) r (now (input .exit)) ⌝ }
+{
+    let room = &mut input[held..];
+    let got = libc::read(libc::STDIN_FILENO, room);
+    if got < 0 {
+        os::fail(b"standard input");
+    }
+    let more = io::count(got, room);
+    Received {
+        count: held + more,
+        is_open: got > 0,
+    }
+}

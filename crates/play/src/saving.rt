@@ -1,0 +1,79 @@
+// Writing strip.new: the sheet goes to a file beside it, which then takes its name. So an old strip.new is never half overwritten.
+ghost use Rattle.unit.specs.Fit.{Fit};
+ghost use Rattle.play.specs.Saved.{IsSheet};
+use unit::Unit;
+
+// The file beside strip.new.
+const PART: [u8; 14] = *b"strip.new.part";
+
+// Whether the file can be made, tried ahead of the sound. A message says why not. A standard stream that is closed is found here too:
+// its number goes to the next file that is opened.
+pub fn can_save() -> bool {
+    let fd = os::open_overwrite(&PART);
+    if fd < 0 {
+        os::fail(&PART);
+        return false;
+    }
+    libc::close(fd);
+    os::unlink(&PART);
+    is_own(fd)
+}
+
+// Whether the number is none of the three standard streams'.
+fn is_own(fd: i32) -> bool {
+    if fd == libc::STDIN_FILENO {
+        io::write_all(libc::STDERR_FILENO, b"standard input: closed\n");
+    }
+    if fd == libc::STDOUT_FILENO {
+        io::write_all(libc::STDERR_FILENO, b"standard output: closed\n");
+    }
+    fd > libc::STDERR_FILENO
+}
+
+// Saves the unit's sheet as strip.new. Where that fails a message says so, and the sheet goes to standard error, so that it is not lost.
+pub fn save(unit: Unit)
+    requires { ⌜ Fit unit ⌝ }
+{
+    let mut bytes = [0u8; 1128];
+    let sheet = writing::write(unit, &mut bytes);
+    if !store(sheet) {
+        os::unlink(&PART);
+        io::write_all(libc::STDERR_FILENO, sheet);
+    }
+}
+
+// The sheet to the file beside strip.new, and that to its place.
+fn store(sheet: &[u8]) -> bool
+    requires { ⌜ IsSheet (now sheet) ⌝ }
+{
+    let fd = os::open_overwrite(&PART);
+    if fd < 0 {
+        os::fail(&PART);
+        return false;
+    }
+    let is_written = put(fd, sheet);
+    libc::close(fd);
+    if !is_written {
+        return false;
+    }
+    if os::rename(&PART, b"strip.new") < 0 {
+        os::fail(b"strip.new");
+        return false;
+    }
+    true
+}
+
+// All bytes to the file, and from there to its device.
+fn put(fd: i32, sheet: &[u8]) -> bool
+    requires { ⌜ IsSheet (now sheet) ⌝ }
+{
+    if !io::write_all(fd, sheet) {
+        os::fail(&PART);
+        return false;
+    }
+    if libc::fsync(fd) < 0 {
+        os::fail(&PART);
+        return false;
+    }
+    true
+}

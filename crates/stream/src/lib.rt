@@ -1,0 +1,49 @@
+// Playing a stream: input that comes in pieces, cut anywhere. Whole frames are played at once, and the bytes of a frame that is not whole yet
+// are held at the front of the input until more come.
+ghost use mathlib.Core.Path.{_≡_};
+ghost use mathlib.Core.List.{_++_};
+ghost use Prim.Native.Nat.{_+_, _≤_};
+ghost use lib.ListN.{length, drop};
+ghost use Rattle.stream.specs.Advance.{advanced, advancedOutput, advancedInput};
+use refusals::Verdict;
+use unit::Unit;
+
+// What playing a piece answers: the unit after it, the count of bytes that were played, and of those that are held.
+pub struct Advanced {
+    pub verdict: Verdict,
+    pub unit: Unit,
+    pub whole: usize,
+    pub held: usize,
+}
+
+// Plays the whole frames of the input, the held bytes and those that came behind them. The output then begins with their sound, and the
+// input with the tail behind them. 14 for an unfit unit, 6 where the output is shorter than the frames; refused, unit, input and output
+// are unchanged.
+pub fn advance(unit: Unit, input: &mut [u8], output: &mut [u8]) -> Advanced
+    ensures { λ r. ⌜ (r ≡ advanced 2 unit (now (input .entry)) (length (now (output .entry)))) × (now (output .exit) ≡ advancedOutput 2 unit (now (input .entry)) (now (output .entry))) × (now (input .exit) ≡ advancedInput 2 unit (now (input .entry)) (length (now (output .entry)))) ⌝ }
+{
+    let held = input.len() % 4;
+    let whole = input.len() - held;
+    let played = blocks::play(unit, &input[..whole], output);
+    let verdict = played.verdict;
+    let after = played.unit;
+    if refusals::accepted(verdict) {
+        keep_tail(input, whole);
+    }
+    Advanced {
+        verdict,
+        unit: after,
+        whole,
+        held,
+    }
+}
+
+// Moves the tail, at most four bytes from here on, to the front.
+fn keep_tail(input: &mut [u8], from: usize)
+    requires { ⌜ (from ≤ length (now input)) × (length (now input) ≤ from + 4) ⌝ }
+    ensures { λ r. ⌜ now (input .exit) ≡ drop from (now (input .entry)) ++ drop (length (drop from (now (input .entry)))) (now (input .entry)) ⌝ }
+{
+    let mut tail = [0u8; 4];
+    let count = bytes::copy(&input[from..], &mut tail);
+    bytes::copy(&tail[..count], input);
+}
