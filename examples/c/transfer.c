@@ -18,11 +18,7 @@
 
 #include "fonddrys.h"
 
-enum {
-    WRONG_USE = 64,
-    IO_FAULT = 74,
-    BUFFER_BYTES = 16384 * FONDDRYS_FRAME_BYTES
-};
+enum { WRONG_USE = 64, IO_FAULT = 74, BUFFER_BYTES = 16384 * FONDDRYS_FRAME_BYTES };
 
 static const char *const reasons[] = {
     "accepted",
@@ -92,7 +88,8 @@ static int abandon(const char *name, const char *leftover)
 }
 
 /* Writes bytes to the file temporary, and then gives it the name. */
-static int write_renamed(const char *name, const char *temporary, const uint8_t *bytes, size_t count)
+static int write_renamed(const char *name, const char *temporary, const uint8_t *bytes,
+                         size_t count)
 {
     FILE *file = fopen(temporary, "wb");
     if (file == NULL) {
@@ -199,8 +196,9 @@ static int give_order(fonddrys_unit *unit, char *const *argument)
     unsigned long side;
     unsigned long band;
     unsigned long position;
-    if (!read_number(argument[0], UINT32_MAX, &side) || !read_number(argument[1], UINT32_MAX, &band)
-        || !read_number(argument[2], UINT8_MAX, &position)) {
+    if (!read_number(argument[0], UINT32_MAX, &side) ||
+        !read_number(argument[1], UINT32_MAX, &band) ||
+        !read_number(argument[2], UINT8_MAX, &position)) {
         return wrong_use();
     }
     uint32_t refusal =
