@@ -80,7 +80,7 @@ static int read_sheet(const char *name, fonddrys_unit *unit)
     return refusal == FONDDRYS_ACCEPTED ? 0 : refused(refusal);
 }
 
-/* Reports a fault in making a file, and removes what there is of another. */
+/* Reports a fault in making the file of that name, and removes what is left of it. */
 static int abandon(const char *name, const char *leftover)
 {
     int status = io_fault(name);

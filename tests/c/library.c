@@ -156,15 +156,21 @@ static void test_section(void)
         {8388607, 0, 8388607, 0},   {8388607, -1, 8388607, 1},  {8388607, -8388608, 8388607, 1},
         {-8388608, 0, -8388608, 0}, {-8388608, 1, -8388608, 1}, {-1, 0, -1, 0},
     };
-    fonddrys_section section = {6606, 4181093, 8375315, 0, 0, 0, 0};
+    fonddrys_section section = {.alpha = 6606, .beta = 4181093, .gamma = 8375315};
     CHECK(fonddrys_section_step(&section, 256000), FIRST_RESULT);
     CHECK(fonddrys_section_step(&section, 256000), 1208);
     CHECK(fonddrys_section_step(&section, 0), 1607);
-    const fonddrys_section after = {6606, 4181093, 8375315, 0, 256000, 1607, 1208};
+    const fonddrys_section after = {.alpha = 6606,
+                                    .beta = 4181093,
+                                    .gamma = 8375315,
+                                    .x1 = 0,
+                                    .x2 = 256000,
+                                    .y1 = 1607,
+                                    .y2 = 1208};
     CHECK_SAME(section, after);
     for (size_t i = 0; i < COUNT(ends); i++) {
-        section = (fonddrys_section){4194304, 0, 0, 7, ends[i].x2, 0, 0}; /* y is x - x2 */
-        const fonddrys_section want = {4194304, 0, 0, ends[i].x, 7, ends[i].y, 0};
+        section = (fonddrys_section){.alpha = 4194304, .x1 = 7, .x2 = ends[i].x2}; /* y is x - x2 */
+        const fonddrys_section want = {.alpha = 4194304, .x1 = ends[i].x, .x2 = 7, .y1 = ends[i].y};
         int64_t answer = fonddrys_section_step(&section, ends[i].x);
         CHECK_ROW(i, fonddrys_step_y(answer), ends[i].y);
         CHECK_ROW(i, fonddrys_step_limited(answer), ends[i].limited);
