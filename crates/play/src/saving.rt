@@ -48,7 +48,7 @@ fn store(sheet: &[u8]) -> bool
 {
     let fd = os::open_overwrite(&PART);
     if fd < 0 {
-        os::fail(&PART);
+        os::fail(b"strip.new");
         return false;
     }
     let is_written = put(fd, sheet);
@@ -68,11 +68,11 @@ fn put(fd: i32, sheet: &[u8]) -> bool
     requires { ⌜ IsSheet (now sheet) ⌝ }
 {
     if !io::write_all(fd, sheet) {
-        os::fail(&PART);
+        os::fail(b"strip.new");
         return false;
     }
     if libc::fsync(fd) < 0 {
-        os::fail(&PART);
+        os::fail(b"strip.new");
         return false;
     }
     true

@@ -1,0 +1,3 @@
+-- The laws of the desk program.
+--     Right   bytes at the right end of others
+pub mod Right

@@ -1,0 +1,35 @@
+-- `arguments::byte` meets its contract, by the test.
+use mathlib.Core.Path.{sym, ap}
+use mathlib.Core.Bool.{Bool, cond}
+use Prim.Native.Nat.{ℕ}
+use native.Mathlib.Omega.{arith}
+use borrow.Author.Tests.{le-leb, lt-leb}
+use Rattle.desk.specs.Arguments.{byteOf}
+use borrow.Author.Needs.{needs}
+use Rattle.desk.proofs.arguments.byte.Statement.{statement}
+use Rattle.desk.proofs.arguments.byte.Tie as tie
+use Rattle.desk.proofs.arguments.byte.Reads as reads
+use Rattle.desk.proofs.arguments.byte.Lts as lts
+
+-- src/arguments.rt:48:9
+returns : tie.Need-returns
+unfolding byteOf
+returns c = ap (λ (t : Bool). cond t n 255) (sym (lt-leb n 255 (omega arith)))
+  where
+    n : ℕ
+    n = c .before .args .number
+
+-- src/arguments.rt:50:5
+cast-result : tie.Need-cast-result
+cast-result c = search needs
+
+-- src/arguments.rt:44:1
+returns-2 : tie.Need-returns-2
+unfolding byteOf
+returns-2 c = ap (λ (t : Bool). cond t n 255) (sym (le-leb n 255 (omega arith)))
+  where
+    n : ℕ
+    n = c .before .args .number
+
+pub byte-spec : {M : Type 1} → statement M
+byte-spec = tie.close (tie.spec returns cast-result returns-2)

@@ -1,0 +1,18 @@
+-- Arguments as numbers. Definitions only.
+use mathlib.Core.Bool.{cond}
+use Prim.Native.Nat.{ℕ, _+_}
+use lib.Dec.{leb}
+use lib.IntN.{ℤ, pos, negsuc}
+
+-- stands for no number: a field's number has nine digits at most
+abbrev pub none : ℕ
+none = 1000000000
+
+-- a field's number, where it is not below zero
+unfoldable pub unsignedOf : ℤ → ℕ
+unsignedOf (pos n) = n
+unsignedOf (negsuc n) = none
+
+-- a number as a byte; one that is too large is the largest
+unfoldable pub byteOf : ℕ → ℕ
+byteOf n = cond (leb n 255) n 255

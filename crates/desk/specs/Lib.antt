@@ -1,0 +1,2 @@
+-- The desk program.
+pub mod Arguments

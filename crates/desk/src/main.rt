@@ -1,0 +1,70 @@
+// Gives one level order to a strip sheet: the sheet from standard input, the order from the arguments, the sheet after it to standard
+// output. The arguments are side (0 left, 1 right, 2 both), band (0 to 9, or 10 for the volume) and position (0 to 31, or "mute").
+// A refusal is one line on standard error, its number, and nothing is written.
+mod arguments;
+
+use arguments::NONE;
+use orders::Setting;
+
+// One byte more than a sheet has, so that a longer one shows.
+const SHEET_ROOM: usize = 1129;
+
+fn main() {
+    let side = arguments::number(1);
+    let band = arguments::number(2);
+    if side == NONE || band == NONE {
+        say_usage();
+        return;
+    }
+    if arguments::is_mute(3) {
+        read_sheet(side, band, Setting::Mute);
+        return;
+    }
+    let position = arguments::number(3);
+    if position == NONE {
+        say_usage();
+        return;
+    }
+    read_sheet(side, band, Setting::Position(arguments::byte(position)));
+}
+
+fn say_usage() {
+    io::write_all(
+        libc::STDERR_FILENO,
+        b"desk SIDE BAND POSITION: side 0 to 2, band 0 to 10, position 0 to 31 or mute\n",
+    );
+}
+
+// Reads the sheet and gives the order.
+fn read_sheet(side: u32, band: u32, setting: Setting) {
+    let mut bytes = [0u8; SHEET_ROOM];
+    let count = io::read_full(libc::STDIN_FILENO, &mut bytes);
+    if !console::is_readable(libc::STDIN_FILENO) {
+        os::fail(b"standard input");
+        return;
+    }
+    order(&bytes[..count], side, band, setting);
+}
+
+// The order to the unit that these bytes carry.
+fn order(bytes: &[u8], side: u32, band: u32, setting: Setting) {
+    let house = loading::load(&bands::house_set());
+    let given = house.unit;
+    let read = reading::read(bytes, given);
+    let found = read.verdict;
+    if !refusals::accepted(found) {
+        console::refuse(found);
+        return;
+    }
+    let unit = read.unit;
+    let ordered = orders::order(unit, side, band, setting);
+    let verdict = ordered.verdict;
+    if !refusals::accepted(verdict) {
+        console::refuse(verdict);
+        return;
+    }
+    let after = ordered.unit;
+    let mut sheet = [0u8; 1128];
+    let part = writing::write(after, &mut sheet);
+    console::write_out(part);
+}
