@@ -13,4 +13,5 @@ pub mod random;
 pub mod reference;
 pub mod subject;
 pub mod system;
+pub mod temporary;
 pub mod unit;

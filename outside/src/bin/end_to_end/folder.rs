@@ -1,9 +1,10 @@
 //! Folders for one run each, and what lies in them.
 
 use std::collections::BTreeMap;
-use std::path::{Path, PathBuf};
-use std::sync::atomic::{AtomicU64, Ordering};
-use std::{env, fs, io, process};
+use std::path::Path;
+use std::{fs, io};
+
+use outside::temporary::Temporary;
 
 /// What a name in a folder stands for.
 #[derive(Clone, PartialEq)]
@@ -46,37 +47,31 @@ pub fn and_folder(contents: &Contents, name: &str) -> Contents {
     more
 }
 
-/// A new folder among the system's temporary ones, removed in the end.
+/// A folder for one run, removed in the end.
 pub struct Folder {
-    path: PathBuf,
+    place: Temporary,
 }
 
 impl Folder {
     pub fn new(contents: &Contents) -> io::Result<Folder> {
-        static COUNT: AtomicU64 = AtomicU64::new(0);
-        let count = COUNT.fetch_add(1, Ordering::Relaxed);
-        let name = format!("end_to_end-{}-{count}", process::id());
-        let folder = Folder {
-            path: env::temp_dir().join(name),
-        };
-        fs::create_dir(&folder.path)?;
+        let place = Temporary::new("end_to_end")?;
         for (name, entry) in contents {
             match entry {
-                Entry::File(bytes) => fs::write(folder.path.join(name), bytes)?,
-                Entry::Folder => fs::create_dir(folder.path.join(name))?,
+                Entry::File(bytes) => fs::write(place.path().join(name), bytes)?,
+                Entry::Folder => fs::create_dir(place.path().join(name))?,
             }
         }
-        Ok(folder)
+        Ok(Folder { place })
     }
 
     pub fn path(&self) -> &Path {
-        &self.path
+        self.place.path()
     }
 
     /// What lies there now.
     pub fn contents(&self) -> io::Result<Contents> {
         let mut contents = Contents::new();
-        for entry in fs::read_dir(&self.path)? {
+        for entry in fs::read_dir(self.path())? {
             let entry = entry?;
             let found = if entry.file_type()?.is_dir() {
                 Entry::Folder
@@ -87,12 +82,5 @@ impl Folder {
             contents.insert(name, found);
         }
         Ok(contents)
-    }
-}
-
-impl Drop for Folder {
-    fn drop(&mut self) {
-        // What can't be removed stays among the temporary folders.
-        let _ = fs::remove_dir_all(&self.path);
     }
 }

@@ -3,6 +3,7 @@
 
 pub mod fault;
 mod save;
+mod sheet;
 mod start;
 
 use std::fs::File;
@@ -11,12 +12,9 @@ use std::mem::ManuallyDrop;
 use std::os::fd::FromRawFd;
 use std::process::ExitCode;
 
-use outside::reference::{house_set, ACCEPTED};
-use outside::unit::sheet::{fast as sheet, SHEET};
-use outside::unit::{cleared, fast, Numbers, LEFT, PART_OF_A_FRAME, RIGHT};
+use outside::unit::{fast, Numbers, LEFT, PART_OF_A_FRAME, RIGHT};
 
 use self::fault::Fault;
-use crate::folder::SHEET_NAME;
 
 const BUFFER: usize = 65_536;
 /// Where the flag stands among the numbers of a side.
@@ -70,62 +68,6 @@ impl Actor {
             }
         }
         Ok(())
-    }
-
-    fn read_sheet(&mut self) -> Result<(), Stop> {
-        let Ok(mut file) = File::open(SHEET_NAME) else {
-            return Ok(());
-        };
-        match file.read_to_end(&mut self.sheet) {
-            Err(error) if !self.is(Fault::FolderAsEmpty) => Err(told(SHEET_NAME, &error)),
-            _ => Ok(()),
-        }
-    }
-
-    /// The bytes that count as the sheet.
-    fn taken_sheet(&self) -> Vec<u8> {
-        let mut taken = self.sheet.clone();
-        match self.fault {
-            Fault::LongSheet => taken.truncate(SHEET),
-            Fault::ShortSheet if taken.len() == SHEET - 1 => taken.push(b'\n'),
-            Fault::MissingAsHouse if taken.is_empty() => {
-                taken.resize(SHEET, 0);
-                sheet::write(&cleared(&house_set()), &mut taken);
-            }
-            _ => {}
-        }
-        taken
-    }
-
-    fn unit(&self) -> Result<Numbers, Stop> {
-        let mut unit = cleared(&house_set());
-        match sheet::read(&mut unit, &self.taken_sheet()) {
-            ACCEPTED => Ok(unit),
-            number => Err(self.refusal(unit, number)),
-        }
-    }
-
-    /// The line of a refused sheet, after what a wrong actor does besides.
-    fn refusal(&self, mut unit: Numbers, number: u32) -> Stop {
-        match self.fault {
-            Fault::SheetAfterRefusal => return self.save(&unit).err().unwrap_or(self.line(number)),
-            Fault::SoundAfterRefusal => drop(self.play(&mut unit)),
-            Fault::NumberOnOutput => {
-                let _ = stream(1).write_all(self.line(number).as_bytes());
-                return String::new();
-            }
-            Fault::OneNumber => return self.line(11),
-            _ => {}
-        }
-        self.line(number)
-    }
-
-    fn line(&self, number: u32) -> String {
-        match self.fault {
-            Fault::NumberAlone => format!("{number}"),
-            Fault::NumberInWords => format!("refused: {number}\n"),
-            _ => format!("{number}\n"),
-        }
     }
 
     /// Plays whole frames.
