@@ -12,7 +12,7 @@ use outside::checks::Difference;
 use super::folder::{Contents, Folder};
 use super::program::{Program, Way};
 use super::seen::Seen;
-use super::session::Session;
+use super::session::{Ended, Session};
 
 /// Where the input comes from.
 #[derive(Clone, Copy)]
@@ -145,13 +145,13 @@ pub fn start(
     Session::start(command, most)
 }
 
-/// Runs the program in this folder.
-pub fn run(
+/// Runs the program in this folder to its end.
+pub fn run_only(
     program: &Program,
     folder: &Folder,
     given: &Given,
     patience: Duration,
-) -> Result<Seen, Difference> {
+) -> Result<Ended, Difference> {
     let aside = Folder::new(&Contents::new()).map_err(system_fault)?;
     let mut session = start(program, folder, given, &aside)?;
     match given.input {
@@ -159,15 +159,29 @@ pub fn run(
         Input::Pieces(bytes, lengths) => send_pieces(&mut session, bytes, lengths, patience),
         _ => {}
     }
-    let ended = session.end()?;
-    let sound = match given.output {
-        Output::File => fs::read(aside.path().join("output")).map_err(system_fault)?,
-        _ => ended.sound,
-    };
+    let mut ended = session.end()?;
+    if let Output::File = given.output {
+        ended.sound = fs::read(aside.path().join("output")).map_err(system_fault)?;
+    }
+    Ok(ended)
+}
+
+/// What is seen after the program has ended in this folder.
+pub fn seen(ended: Ended, folder: &Folder) -> Result<Seen, Difference> {
     Ok(Seen {
-        sound,
+        sound: ended.sound,
         errors: ended.errors,
         after: folder.contents().map_err(system_fault)?,
         ending: ended.ending,
     })
+}
+
+/// Runs the program in this folder and looks.
+pub fn run(
+    program: &Program,
+    folder: &Folder,
+    given: &Given,
+    patience: Duration,
+) -> Result<Seen, Difference> {
+    seen(run_only(program, folder, given, patience)?, folder)
 }

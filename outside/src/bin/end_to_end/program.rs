@@ -1,8 +1,8 @@
 //! The program under test, and the ways it is started.
 
-use std::ffi::OsString;
+use std::os::unix::fs::MetadataExt;
 use std::path::{Path, PathBuf};
-use std::process::Command;
+use std::process::{Command, Stdio};
 use std::{env, fs, io};
 
 /// A program and the arguments it is always given.
@@ -23,6 +23,9 @@ pub enum Way {
     /// As the user nobody, who has no rights of the superuser.
     Nobody,
 }
+
+/// What makes setpriv become nobody.
+const NOBODY: [&str; 4] = ["--reuid=65534", "--regid=65534", "--clear-groups", "--"];
 
 impl Program {
     /// The program at a path, seen from any folder.
@@ -63,8 +66,7 @@ impl Program {
             }
             Way::Nobody => {
                 let mut other = Command::new("setpriv");
-                other.args(["--reuid=65534", "--regid=65534", "--clear-groups", "--"]);
-                other.arg(OsString::from(&self.path));
+                other.args(NOBODY).arg(&self.path);
                 other
             }
         };
@@ -73,10 +75,14 @@ impl Program {
     }
 }
 
-/// True where programs can be started as nobody.
-pub fn can_be_nobody() -> bool {
+/// A way to start a program without the rights of the superuser, where there is
+/// one: the owner of this process is another user, or can become nobody.
+pub fn without_rights() -> Option<Way> {
+    if fs::metadata("/proc/self").is_ok_and(|process| process.uid() != 0) {
+        return Some(Way::Bare);
+    }
     let mut trial = Command::new("setpriv");
-    trial.args(["--reuid=65534", "--regid=65534", "--clear-groups", "true"]);
-    trial.stderr(std::process::Stdio::null());
-    trial.status().is_ok_and(|status| status.success())
+    trial.args(NOBODY).arg("true").stderr(Stdio::null());
+    let works = trial.status().is_ok_and(|status| status.success());
+    works.then_some(Way::Nobody)
 }

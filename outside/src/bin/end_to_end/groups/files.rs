@@ -1,32 +1,31 @@
 //! Sheets that can't be read or written, and how `strip.new` is replaced.
 
 use std::fs;
-use std::os::unix::fs::PermissionsExt;
 
 use outside::checks::sheet_makers::SheetMaker;
 use outside::checks::sounds::Sound;
 use outside::checks::Difference;
 
-use super::{Outcome, Tally, Tester};
+use super::{rights, Outcome, Tally, Tester};
 use crate::expected;
 use crate::folder::{and_file, and_folder, with_sheet, Contents, Entry, Folder};
 use crate::folder::{NEW_NAME, PART_NAME, SHEET_NAME};
-use crate::given::{self, Given, Input, Output};
-use crate::program::{can_be_nobody, Way};
+use crate::given::{self, Given, Input};
+use crate::program::Way;
 use crate::seen::{same, Seen};
 
 pub const SEED: u64 = 0xF0DD_00D6;
 const OLD: &[u8] = b"an old sheet";
 
-fn folder_fault(error: std::io::Error) -> Difference {
+pub fn folder_fault(error: std::io::Error) -> Difference {
     format!("the folder: {error}")
 }
 
 /// A sheet, frames, and the run that they ought to give.
-struct Material {
-    sheet: Contents,
-    bytes: Vec<u8>,
-    expected: Seen,
+pub struct Material {
+    pub sheet: Contents,
+    pub bytes: Vec<u8>,
+    pub expected: Seen,
 }
 
 impl Material {
@@ -125,58 +124,6 @@ fn not_begun(tester: &Tester, material: &Material, tally: &mut Tally) -> Result<
     Ok(())
 }
 
-/// A run as nobody: by a copy of the program, in a folder with these rights for
-/// all.
-fn as_nobody(
-    tester: &Tester,
-    before: &Contents,
-    [folder_mode, sheet_mode]: [u32; 2],
-    given: &Given,
-    tally: &mut Tally,
-) -> Result<Seen, Difference> {
-    let place = Folder::new(&Contents::new()).map_err(folder_fault)?;
-    let program = tester
-        .program
-        .copied_to(place.path())
-        .map_err(folder_fault)?;
-    let folder = Folder::new(before).map_err(folder_fault)?;
-    for (path, mode) in [
-        (place.path(), 0o755),
-        (&program.path, 0o755),
-        (folder.path(), folder_mode),
-        (&folder.path().join(SHEET_NAME), sheet_mode),
-    ] {
-        fs::set_permissions(path, fs::Permissions::from_mode(mode)).map_err(folder_fault)?;
-    }
-    tally.runs += 1;
-    given::run(&program, &folder, given, tester.patience)
-}
-
-/// A folder that can't be written, a sheet that can't be opened, and both as
-/// they should be.
-fn rights(tester: &Tester, material: &Material, tally: &mut Tally) -> Result<(), Difference> {
-    let given = Given {
-        input: Input::Pipe(&material.bytes),
-        output: Output::Pipe,
-        way: Way::Nobody,
-    };
-    let sheet = &material.sheet;
-    let denied = Seen::nothing_but("strip.new.part: Permission denied\n", sheet);
-    for (case, modes, expected) in [
-        ("an unwritable folder", [0o555, 0o444], &denied),
-        (
-            "an unreadable sheet",
-            [0o777, 0o000],
-            &Seen::nothing_but("11\n", sheet),
-        ),
-        ("rights enough", [0o777, 0o444], &material.expected),
-    ] {
-        let seen = as_nobody(tester, sheet, modes, &given, tally)?;
-        same(expected, &seen).map_err(|difference| format!("{case}: {difference}"))?;
-    }
-    Ok(())
-}
-
 pub fn all(tester: &Tester) -> Outcome {
     let mut tally = Tally::default();
     let material = Material::new(&mut tally);
@@ -184,10 +131,6 @@ pub fn all(tester: &Tester) -> Outcome {
     left_over(tester, &material, &mut tally)?;
     unwritten(tester, &material, &mut tally)?;
     not_begun(tester, &material, &mut tally)?;
-    if can_be_nobody() {
-        rights(tester, &material, &mut tally)?;
-    } else {
-        tally.left_out.push("rights of files");
-    }
+    rights::all(tester, &material, &mut tally)?;
     Ok(tally)
 }

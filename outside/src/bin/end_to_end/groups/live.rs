@@ -9,7 +9,7 @@ use outside::checks::Difference;
 use super::{Outcome, Tally, Tester};
 use crate::expected;
 use crate::folder::{and_file, with_sheet, Contents, Folder, NEW_NAME};
-use crate::given::{start, Given, Input};
+use crate::given::{seen, start, Given, Input};
 use crate::seen::{same, Seen};
 use crate::session::{Ending, Session};
 
@@ -74,14 +74,7 @@ impl<'a> Live<'a> {
     /// What is seen once the program has ended.
     fn end(self) -> Result<(Seen, usize), Difference> {
         let ended = self.session.end()?;
-        let after = self.folder.contents();
-        let seen = Seen {
-            sound: ended.sound,
-            errors: ended.errors,
-            after: after.map_err(|error| format!("the folder: {error}"))?,
-            ending: ended.ending,
-        };
-        Ok((seen, self.sent))
+        Ok((seen(ended, &self.folder)?, self.sent))
     }
 }
 

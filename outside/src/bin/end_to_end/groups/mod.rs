@@ -7,6 +7,7 @@ pub mod figures;
 pub mod files;
 pub mod live;
 pub mod refusals;
+pub mod rights;
 pub mod sounds;
 pub mod streams;
 pub mod tails;
