@@ -43,6 +43,7 @@ pub enum Fault {
     ReadFaultUnsaved,
     WriteFaultSilent,
     WriteFaultSaved,
+    PartWritten,
     ClosedUnnoticed,
 }
 
@@ -71,7 +72,7 @@ const fn wrong(
 pub const RIGHT: &str = "right";
 
 #[rustfmt::skip]
-pub const WRONG: [Wrong; 37] = [
+pub const WRONG: [Wrong; 38] = [
     wrong(Fault::TailAsFrame, "tail-as-frame", "a tail is filled with zeros and played", &[TAILS, CHUNKS]),
     wrong(Fault::TailDropped, "tail-dropped", "a tail is not told", &[TAILS, CHUNKS, LIVE]),
     wrong(Fault::TailUnsaved, "tail-unsaved", "no sheet is written after a tail", &[TAILS]),
@@ -108,6 +109,7 @@ pub const WRONG: [Wrong; 37] = [
     wrong(Fault::ReadFaultUnsaved, "read-fault-unsaved", "no sheet is written after a read fault", &[STREAMS]),
     wrong(Fault::WriteFaultSilent, "write-fault-silent", "a write fault is not told", &[STREAMS]),
     wrong(Fault::WriteFaultSaved, "write-fault-saved", "the sheet is written after a write fault", &[STREAMS]),
+    wrong(Fault::PartWritten, "part-written", "a part of a sound that was written is taken as all", &[STREAMS]),
     wrong(Fault::ClosedUnnoticed, "closed-unnoticed", "a closed stream is taken as an empty one", &[STREAMS]),
 ];
 

@@ -87,7 +87,10 @@ impl Actor {
         if self.is(Fault::SheetAllAlong) {
             self.save(unit)?;
         }
-        let written = stream(1).write_all(&sound);
+        let written = match self.fault {
+            Fault::PartWritten => stream(1).write(&sound).map(drop),
+            _ => stream(1).write_all(&sound),
+        };
         written.map_err(|error| told("standard output", &error))
     }
 

@@ -15,7 +15,27 @@ use crate::session::Ending;
 
 pub const SEED: u64 = 0xF0DD_00D7;
 const FRAMES: usize = 200_000;
-const IGNORED: Way = Way::Shell("trap '' PIPE", "");
+
+/// A run of so many frames that stops: where its sound goes, how it is started,
+/// what it tells, how many bytes are heard and how it ends.
+#[derive(Clone, Copy)]
+struct Stop {
+    frames: usize,
+    output: Output,
+    way: Way,
+    line: &'static str,
+    heard: usize,
+    ending: Ending,
+}
+
+const STOP: Stop = Stop {
+    frames: FRAMES,
+    output: Output::Pipe,
+    way: Way::Bare,
+    line: "",
+    heard: 0,
+    ending: Ending::Status(0),
+};
 
 /// The test under way: two folders with one sheet, without an old `strip.new`
 /// and with one, and a long sound.
@@ -67,23 +87,18 @@ impl Test<'_> {
         Ok(())
     }
 
-    /// A run that stops with nothing written, after so many bytes of sound.
-    fn stops(
-        &mut self,
-        case: &str,
-        given: (Output, Way),
-        line: &str,
-        heard: usize,
-        ending: Ending,
-    ) -> Result<(), Difference> {
-        let (output, way) = given;
+    /// Runs that stop with nothing written, in both folders, by a file and by a
+    /// pipe.
+    fn stops(&mut self, case: &str, stop: Stop) -> Result<(), Difference> {
+        let bytes = &self.bytes[..4 * stop.frames];
         for before in &self.folders {
-            for input in [Input::File(&self.bytes), Input::Pipe(&self.bytes)] {
+            for input in [Input::File(bytes), Input::Pipe(bytes)] {
+                let (output, way) = (stop.output, stop.way);
                 let given = Given { input, output, way };
                 let expected = Seen {
-                    sound: self.sound[..heard].to_vec(),
-                    ending,
-                    ..Seen::nothing_but(line, before)
+                    sound: self.sound[..stop.heard].to_vec(),
+                    ending: stop.ending,
+                    ..Seen::nothing_but(stop.line, before)
                 };
                 self.tester
                     .expect(case, before, &given, &expected, &mut self.tally)?;
@@ -92,20 +107,51 @@ impl Test<'_> {
         Ok(())
     }
 
-    fn write_faults(&mut self) -> Result<(), Difference> {
-        let ended = Ending::Status(0);
-        let line = "standard output: No space left on device\n";
-        self.stops("a full device", (Output::Full, Way::Bare), line, 0, ended)?;
-        let line = "standard output: File too large\n";
-        let limited = Way::Shell("ulimit -f 8; trap '' XFSZ", "");
-        self.stops("a full file", (Output::File, limited), line, 4_096, ended)?;
+    /// No room at all, and room for a part of the sound, of one write too.
+    fn no_room(&mut self) -> Result<(), Difference> {
+        for frames in [1, 2_000, FRAMES] {
+            let stop = Stop {
+                frames,
+                output: Output::Full,
+                line: "standard output: No space left on device\n",
+                ..STOP
+            };
+            self.stops(&format!("a full device, {frames} frames"), stop)?;
+        }
+        for frames in [2_000, FRAMES] {
+            let stop = Stop {
+                frames,
+                output: Output::File,
+                way: Way::Shell("ulimit -f 8; trap '' XFSZ", ""),
+                line: "standard output: File too large\n",
+                heard: 4_096,
+                ..STOP
+            };
+            self.stops(&format!("a full file, {frames} frames"), stop)?;
+        }
+        Ok(())
+    }
+
+    /// Broken pipes, ignored and not.
+    fn broken_pipes(&mut self) -> Result<(), Difference> {
         for heard in [0, 1, 100_002] {
-            let output = Output::ClosedAfter(heard);
             let case = format!("a pipe closed after {heard} bytes");
-            let line = "standard output: Broken pipe\n";
-            self.stops(&case, (output, IGNORED), line, heard, ended)?;
-            let signal = Ending::Signal(SIGPIPE);
-            self.stops(&case, (output, Way::Bare), "", heard, signal)?;
+            let output = Output::ClosedAfter(heard);
+            let stop = Stop {
+                output,
+                heard,
+                way: Way::Shell("trap '' PIPE", ""),
+                line: "standard output: Broken pipe\n",
+                ..STOP
+            };
+            self.stops(&case, stop)?;
+            let stop = Stop {
+                output,
+                heard,
+                ending: Ending::Signal(SIGPIPE),
+                ..STOP
+            };
+            self.stops(&case, stop)?;
         }
         Ok(())
     }
@@ -118,8 +164,8 @@ impl Test<'_> {
             ("<&- 2>&-", ""),
             (">&- 2>&-", ""),
         ] {
-            let way = (Output::Pipe, Way::Shell("", closing));
-            self.stops(closing, way, line, 0, Ending::Status(0))?;
+            let way = Way::Shell("", closing);
+            self.stops(closing, Stop { way, line, ..STOP })?;
         }
         Ok(())
     }
@@ -128,7 +174,8 @@ impl Test<'_> {
 pub fn all(tester: &Tester) -> Outcome {
     let mut test = Test::new(tester);
     test.read_faults()?;
-    test.write_faults()?;
+    test.no_room()?;
+    test.broken_pipes()?;
     test.closed()?;
     Ok(test.tally)
 }
