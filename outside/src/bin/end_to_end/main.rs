@@ -25,7 +25,7 @@ use std::time::{Duration, Instant};
 use outside::checks::Difference;
 
 use self::groups::{
-    chunks, continued, files, live, refusals, sounds, streams, tails, Tester, GROUPS,
+    chunks, continued, files, live, refusals, sounds, streams, tails, Group, Tally, Tester, GROUPS,
 };
 use self::program::Program;
 
@@ -88,7 +88,8 @@ fn print_seeds() {
     println!("seeds: {}", seeds.join(", "));
 }
 
-/// Runs every group and prints a line for each.
+/// Runs every group and prints a line for each; one that differs doesn't keep the
+/// others from being run.
 fn test(path: &Path) -> Result<(), Difference> {
     let program = Program::at(path);
     let tester = Tester {
@@ -98,20 +99,34 @@ fn test(path: &Path) -> Result<(), Difference> {
         patience: PATIENCE,
     };
     println!("{}:", path.display());
-    let (mut runs, mut frames) = (0, 0);
+    let (mut runs, mut frames, mut differing) = (0, 0, Vec::new());
     for group in GROUPS {
-        let tally =
-            (group.run)(&tester).map_err(|difference| format!("{}: {difference}", group.name))?;
-        println!(
-            "  {} ({}): {} runs agree, {} frames",
-            group.name, group.what, tally.runs, tally.frames
-        );
-        for case in tally.left_out {
-            println!("    left out, can't be tried here: {case}");
+        match (group.run)(&tester) {
+            Ok(tally) => {
+                print_group(&group, &tally);
+                runs += tally.runs;
+                frames += tally.frames;
+            }
+            Err(difference) => {
+                println!("  {} ({}): {difference}", group.name, group.what);
+                differing.push(group.name);
+            }
         }
-        runs += tally.runs;
-        frames += tally.frames;
     }
-    println!("  in all {runs} runs, {frames} frames");
-    Ok(())
+    println!("  in all {runs} runs agree, {frames} frames");
+    if differing.is_empty() {
+        Ok(())
+    } else {
+        Err(differing.join(", "))
+    }
+}
+
+fn print_group(group: &Group, tally: &Tally) {
+    println!(
+        "  {} ({}): {} runs agree, {} frames",
+        group.name, group.what, tally.runs, tally.frames
+    );
+    for case in &tally.left_out {
+        println!("    left out, can't be tried here: {case}");
+    }
 }
