@@ -1,6 +1,6 @@
 //! Outside tests of the equaliser: an implementation of the section, of its
 //! preview and of the unit written from document 01 alone, and the comparison of
-//! the library with it.
+//! the library and of the play program with it.
 
 pub mod calls;
 pub mod checks;
@@ -12,4 +12,6 @@ pub mod preview;
 pub mod random;
 pub mod reference;
 pub mod subject;
+pub mod system;
+pub mod temporary;
 pub mod unit;

@@ -1,0 +1,119 @@
+//! The calls of the system that `std` has no name for. Linux only.
+
+use std::ffi::c_int;
+use std::io;
+use std::os::fd::{AsRawFd, BorrowedFd};
+use std::time::Duration;
+
+mod raw {
+    use std::ffi::{c_int, c_long, c_ulong};
+
+    #[repr(C)]
+    #[derive(Clone, Copy, Default)]
+    pub struct Timeval {
+        pub seconds: c_long,
+        pub microseconds: c_long,
+    }
+
+    /// The times, and fourteen numbers that are not used here.
+    #[repr(C)]
+    #[derive(Clone, Copy, Default)]
+    pub struct Rusage {
+        pub user: Timeval,
+        pub system: Timeval,
+        pub others: [c_long; 14],
+    }
+
+    extern "C" {
+        pub fn fcntl(descriptor: c_int, command: c_int, ...) -> c_int;
+        pub fn ioctl(descriptor: c_int, request: c_ulong, ...) -> c_int;
+        pub fn signal(number: c_int, handler: usize) -> usize;
+        pub fn wait4(
+            process: c_int,
+            status: *mut c_int,
+            options: c_int,
+            usage: *mut Rusage,
+        ) -> c_int;
+        pub fn getrusage(who: c_int, usage: *mut Rusage) -> c_int;
+    }
+}
+
+const F_GETFD: c_int = 1;
+const F_SETPIPE_SZ: c_int = 1_031;
+const FIONREAD: std::ffi::c_ulong = 0x541B;
+const RUSAGE_SELF: c_int = 0;
+
+pub const SIGPIPE: c_int = 13;
+pub const SIG_DFL: usize = 0;
+
+/// True where this descriptor is open.
+pub fn is_open(descriptor: c_int) -> bool {
+    // SAFETY: asks for the flags of a descriptor and changes nothing.
+    unsafe { raw::fcntl(descriptor, F_GETFD) != -1 }
+}
+
+/// Gives a pipe this much room; where that is refused it stays as it was.
+pub fn widen_pipe(pipe: BorrowedFd, bytes: c_int) {
+    // SAFETY: the command takes one number.
+    unsafe { raw::fcntl(pipe.as_raw_fd(), F_SETPIPE_SZ, bytes) };
+}
+
+/// The bytes that stand in a pipe and nobody has read.
+pub fn unread(pipe: BorrowedFd) -> usize {
+    let mut bytes: c_int = 0;
+    // SAFETY: the request fills one number, which is this function's own.
+    unsafe { raw::ioctl(pipe.as_raw_fd(), FIONREAD, &mut bytes as *mut c_int) };
+    bytes as usize
+}
+
+/// Sets what a signal does and gives what it did before.
+///
+/// # Safety
+/// `action` is one that this function gave, or `SIG_DFL`.
+pub unsafe fn set_signal(number: c_int, action: usize) -> usize {
+    unsafe { raw::signal(number, action) }
+}
+
+/// The time that a process has used.
+#[derive(Clone, Copy)]
+pub struct Used {
+    pub user: Duration,
+    pub system: Duration,
+}
+
+impl Used {
+    fn of(usage: &raw::Rusage) -> Used {
+        let time = |time: raw::Timeval| {
+            Duration::from_secs(time.seconds as u64)
+                + Duration::from_micros(time.microseconds as u64)
+        };
+        Used {
+            user: time(usage.user),
+            system: time(usage.system),
+        }
+    }
+
+    pub fn total(&self) -> Duration {
+        self.user + self.system
+    }
+}
+
+/// The time that this process has used up to now.
+pub fn used() -> Used {
+    let mut usage = raw::Rusage::default();
+    // SAFETY: fills what is this function's own.
+    unsafe { raw::getrusage(RUSAGE_SELF, &mut usage) };
+    Used::of(&usage)
+}
+
+/// Waits for the end of a child: the status as the system packs it, which is 0
+/// for an exit status of 0, and the time it used. The child is gone afterwards.
+pub fn wait_for(process: u32) -> io::Result<(i32, Used)> {
+    let (mut status, mut usage) = (0, raw::Rusage::default());
+    // SAFETY: fills what is this function's own.
+    let ended = unsafe { raw::wait4(process as c_int, &mut status, 0, &mut usage) };
+    if ended == -1 {
+        return Err(io::Error::last_os_error());
+    }
+    Ok((status, Used::of(&usage)))
+}
