@@ -10,13 +10,13 @@ use lib.Seq.{length-take-le, take-append-le}
 use Rattle.unit.specs.declared.Unit.{Unit}
 use Rattle.unit.specs.Fit.{Fit}
 use Rattle.stream.specs.declared.Advanced.{Advanced}
-use Rattle.stream.specs.Advance.{tailBytes, advanced, advancedInput}
+use Rattle.stream.specs.Advance.{tailBytes, advanced, advancedOutput, advancedInput}
 use Rattle.stream.specs.Claim.{Stream, oneBlock, begun, next, streamed, allOf, Advances, Ready}
 use Rattle.stream.proofs.Cuts.{tail-length}
 use Rattle.stream.proofs.Holds.{block-next, begun-empty, cut-anywhere}
 use Rattle.play.specs.declared.playing.Received.{Received}
 use Rattle.play.specs.declared.playing.Progress.{Progress}
-use Rattle.play.specs.Turns.{Read, inHand, CanGoOn, Turned, Played}
+use Rattle.play.specs.Turns.{Read, inHand, CanGoOn, IsSound, Turned, Played}
 
 -- ---- one turn
 
@@ -41,6 +41,20 @@ module _ (p : Progress) (input input' output : List ℕ) (r : Received) (can : C
   held-of : advanced 2 (p .unit) piece (length output) .held ≡ length piece % 4
   unfolding advanced
   held-of = refl
+
+  -- what stands at the front of the output is their sound
+  pub sounded : (a : Advanced) (output' : List ℕ) → a ≡ advanced 2 (p .unit) (take (r .count) input') (length output) → output' ≡ advancedOutput 2 (p .unit) (take (r .count) input') output → IsSound (take (a .whole) output')
+  unfolding next
+  sounded a output' answer sounds =
+      record {
+        unit = p .unit;
+        input = piece;
+        fit = can .ready .fit;
+        bytes-are =
+            ap₂ take (ap (λ (v : Advanced). v .whole) answer) sounds
+            ∙ ap (λ (l : List ℕ). take (advanced 2 (p .unit) l (length output) .whole) (advancedOutput 2 (p .unit) l output)) (read .front-is)
+            ∙ advances .sound-is;
+      }
 
   pub turned : (a : Advanced) (kept rest : List ℕ) (after : Progress) → a ≡ advanced 2 (p .unit) (take (r .count) input') (length output) → kept ≡ advancedInput 2 (p .unit) (take (r .count) input') (length output) → after .unit ≡ a .unit → after .held ≡ a .held → Turned p input after (kept ++ rest)
   turned a kept rest after answer keeps unit-after held-after =

@@ -28,6 +28,13 @@ pub record CanGoOn (p : Progress) (input output : List ℕ) : Type 0 where
   pub input-room : 4 ≤ length input
   pub output-room : length input ≤ length output
 
+-- the bytes are the sound of the whole frames of an input, through a fit unit
+pub record IsSound (bytes : List ℕ) : Type 0 where
+  pub unit : Unit
+  pub input : List ℕ
+  pub fit : Fit unit
+  pub bytes-are : bytes ≡ oneBlock unit input .sound
+
 -- a turn is the next read of the stream
 pub record Turned (p : Progress) (input : List ℕ) (after : Progress) (input' : List ℕ) : Type 0 where
   pub bytes : List ℕ

@@ -2,7 +2,7 @@
 ghost use Prim.Native.Nat.{_≤_};
 ghost use lib.ListN.{length};
 ghost use Rattle.stream.specs.Claim.{begun, Ready};
-ghost use Rattle.play.specs.Turns.{Read, CanGoOn, Turned, Played};
+ghost use Rattle.play.specs.Turns.{Read, CanGoOn, IsSound, Turned, Played};
 use unit::Unit;
 
 // A stream between two reads: the unit, the count of bytes of a frame that is not whole yet, whether more may come, and whether sound was
@@ -55,13 +55,20 @@ fn turn(stream: Progress, input: &mut [u8], output: &mut [u8]) -> Progress
     let advanced = stream::advance(unit, &mut input[..count], output);
     let after = advanced.unit;
     let whole = advanced.whole;
-    let is_written = console::write_out(&output[..whole]);
+    let is_written = send(&output[..whole]);
     Progress {
         unit: after,
         held: advanced.held,
         is_open: received.is_open && is_written,
         is_lost: !is_written,
     }
+}
+
+// Writes sound to standard output. Where that fails a message says so.
+fn send(sound: &[u8]) -> bool
+    requires { ⌜ IsSound (now sound) ⌝ }
+{
+    console::write_out(sound)
 }
 
 // Reads once, behind the held bytes.

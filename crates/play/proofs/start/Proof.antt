@@ -17,43 +17,33 @@ use Rattle.play.proofs.saving.can_save.Reads as can-save-reads
 use Rattle.reading.proofs.read.Reads as read-reads
 use Rattle.refusals.proofs.accepted.Reads as accepted-reads
 
--- src/main.rt:35:32
 house-set-requires : tie.Need-house-set-requires
 house-set-requires c κs = search needs
 
--- src/main.rt:35:31
 slice-aggregate-load : tie.Need-slice-aggregate-load
 slice-aggregate-load c = search needs
 
--- src/main.rt:35:9
 load-requires : tie.Need-load-requires
 load-requires c κs = search needs
 
--- src/main.rt:37:9
 read-requires : tie.Need-read-requires
 read-requires c κs = search needs
 
--- src/main.rt:39:9
 accepted-requires : tie.Need-accepted-requires
 accepted-requires c κs = search needs
 
--- src/main.rt:40:9
 refuse-requires : tie.Need-refuse-requires
 refuse-requires c κs = search needs
 
--- src/main.rt:41:9
 returns : tie.Need-returns
 returns c = search needs
 
--- src/main.rt:43:9
 can-save-requires : tie.Need-can-save-requires
 can-save-requires c κs = search needs
 
--- src/main.rt:44:9
 returns-2 : tie.Need-returns-2
 returns-2 c = search needs
 
--- src/main.rt:47:12
 play-requires : tie.Need-play-requires
 play-requires c κs =
     sheet-ready (now (r .before .before .before .before .before .before .args .bytes)) _ (r .read .result) (r .read .ensures) (sym (c .before .before .before .before .accepted .ensures) ∙ not-false (c .before .before .before .before .accepted .result) (c .before .before .before .if1 .left))
@@ -61,11 +51,9 @@ play-requires c κs =
     r : lts.After-read (house-set-reads.Asked, house-set-reads.Learnt, load-reads.Asked, load-reads.Learnt, read-reads.Asked, read-reads.Learnt, accepted-reads.Asked, accepted-reads.Learnt, refuse-reads.Asked, refuse-reads.Learnt, can-save-reads.Asked, can-save-reads.Learnt, play-reads.Asked, play-reads.Learnt, finish-reads.Asked, finish-reads.Learnt) reads.Pre reads.Post
     r = c .before .before .before .before .before
 
--- src/main.rt:47:5
 finish-requires : tie.Need-finish-requires
 finish-requires c κs = c .play .ensures .fit
 
--- src/main.rt:34:1
 returns-3 : tie.Need-returns-3
 returns-3 c = search needs
 

@@ -22,35 +22,27 @@ use Rattle.blocks.proofs.play.Reads as play-reads
 use Rattle.refusals.proofs.accepted.Reads as accepted-reads
 use Rattle.stream.proofs.keep_tail.Reads as keep-tail-reads
 
--- src/lib.rt:26:17
 sub-whole : tie.Need-sub-whole
 sub-whole c = search needs
 
--- src/lib.rt:27:37
 slice-reshare-prefix-play : tie.Need-slice-reshare-prefix-play
 slice-reshare-prefix-play c = search needs
 
--- src/lib.rt:27:37
 slice-aggregate-play : tie.Need-slice-aggregate-play
 slice-aggregate-play c = simp length-take (omega arith)
 
--- src/lib.rt:27:9
 play-requires : tie.Need-play-requires
 play-requires c κs = search needs
 
--- src/lib.rt:30:8
 accepted-requires : tie.Need-accepted-requires
 accepted-requires c κs = search needs
 
--- src/lib.rt:31:9
 keep-tail-requires : tie.Need-keep-tail-requires
 keep-tail-requires c κs = search needs
 
--- src/lib.rt:22:1
 same-length : tie.Need-same-length
 same-length c = search needs
 
--- src/lib.rt:22:1
 same-length-2 : tie.Need-same-length-2
 same-length-2 c = search needs
 
@@ -90,7 +82,6 @@ module _ (c : lts.After-accepted (play-reads.Asked, play-reads.Learnt, accepted-
   abbrev kept : List ℕ
   kept = tailBytes 2 input ++ drop (length (tailBytes 2 input)) input
 
--- src/lib.rt:22:1
 returns : tie.Need-returns
 unfolding advancedInput
 returns c = (
@@ -102,15 +93,12 @@ returns c = (
     a : lts.After-accepted (play-reads.Asked, play-reads.Learnt, accepted-reads.Asked, accepted-reads.Learnt, keep-tail-reads.Asked, keep-tail-reads.Learnt) reads.Pre reads.Post
     a = c .before .before .before .before .before
 
--- src/lib.rt:22:1
 same-length-3 : tie.Need-same-length-3
 same-length-3 c = search needs
 
--- src/lib.rt:22:1
 same-length-4 : tie.Need-same-length-4
 same-length-4 c = search needs
 
--- src/lib.rt:22:1
 returns-2 : tie.Need-returns-2
 unfolding advancedInput
 returns-2 c = (answer-is (c .before), output-is (c .before), failed (test (c .before)) (kept (c .before)) (input (c .before)) (sym (test-is (c .before)) ∙ c .if1 .left))

@@ -14,27 +14,21 @@ use Rattle.stream.proofs.keep_tail.Reads as reads
 use Rattle.stream.proofs.keep_tail.Lts as lts
 use Rattle.bytes.proofs.copy.Reads as copy-reads
 
--- src/lib.rt:47:29
 sub-copy : tie.Need-sub-copy
 sub-copy c = search needs
 
--- src/lib.rt:47:29
 part-copy-start : tie.Need-part-copy-start
 part-copy-start c = search needs
 
--- src/lib.rt:47:29
 part-copy-end : tie.Need-part-copy-end
 part-copy-end c = search needs
 
--- src/lib.rt:47:45
 slice-aggregate-copy : tie.Need-slice-aggregate-copy
 slice-aggregate-copy c = search needs
 
--- src/lib.rt:47:9
 copy-requires : tie.Need-copy-requires
 copy-requires c κs = search needs
 
--- src/lib.rt:48:17
 array-share-prefix-tail : tie.Need-array-share-prefix-tail
 array-share-prefix-tail c = search needs
 
@@ -57,19 +51,15 @@ module _ (c : lts.After-copy (copy-reads.Asked, copy-reads.Learnt) reads.Pre rea
   tail-length : length (drop from input) ≡ length input - from
   tail-length = length-drop from input
 
--- src/lib.rt:48:17
 slice-aggregate-copy-2 : tie.Need-slice-aggregate-copy-2
 slice-aggregate-copy-2 c = omega (arith, c .before .before .copy .ensures .0, ap length (tail-is (c .before .before)), ap length (rest-from (from (c .before .before)) (input (c .before .before))))
 
--- src/lib.rt:48:5
 copy-requires-2 : tie.Need-copy-requires-2
 copy-requires-2 c κs = omega (arith, ap length (tail-is (c .before .before .before)), tail-length (c .before .before .before))
 
--- src/lib.rt:42:1
 same-length : tie.Need-same-length
 same-length c = search needs
 
--- src/lib.rt:42:1
 returns : tie.Need-returns
 returns c =
     c .before .before .copy2 .ensures .1

@@ -11,7 +11,6 @@ use Rattle.desk.proofs.arguments.byte.Tie as tie
 use Rattle.desk.proofs.arguments.byte.Reads as reads
 use Rattle.desk.proofs.arguments.byte.Lts as lts
 
--- src/arguments.rt:48:9
 returns : tie.Need-returns
 unfolding byteOf
 returns c = ap (λ (t : Bool). cond t n 255) (sym (lt-leb n 255 (omega arith)))
@@ -19,11 +18,9 @@ returns c = ap (λ (t : Bool). cond t n 255) (sym (lt-leb n 255 (omega arith)))
     n : ℕ
     n = c .before .args .number
 
--- src/arguments.rt:50:5
 cast-result : tie.Need-cast-result
 cast-result c = search needs
 
--- src/arguments.rt:44:1
 returns-2 : tie.Need-returns-2
 unfolding byteOf
 returns-2 c = ap (λ (t : Bool). cond t n 255) (sym (le-leb n 255 (omega arith)))

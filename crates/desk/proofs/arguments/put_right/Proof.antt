@@ -8,31 +8,24 @@ use Rattle.desk.proofs.arguments.put_right.Reads as reads
 use Rattle.desk.proofs.arguments.put_right.Lts as lts
 use Rattle.bytes.proofs.copy.Reads as copy-reads
 
--- src/arguments.rt:29:17
 sub-start : tie.Need-sub-start
 sub-start c = search needs
 
--- src/arguments.rt:30:23
 sub-copy : tie.Need-sub-copy
 sub-copy c = search needs
 
--- src/arguments.rt:30:23
 part-copy-start : tie.Need-part-copy-start
 part-copy-start c = search needs
 
--- src/arguments.rt:30:23
 part-copy-end : tie.Need-part-copy-end
 part-copy-end c = search needs
 
--- src/arguments.rt:30:5
 copy-requires : tie.Need-copy-requires
 copy-requires c κs = search needs
 
--- src/arguments.rt:25:1
 same-length : tie.Need-same-length
 same-length c = search needs
 
--- src/arguments.rt:25:1
 returns : tie.Need-returns
 returns c = at-right (now (s .args .text)) (now (s .args .columns)) (c .before .before .copy .last .1 .0) (s .pre) (c .before .before .copy .ensures .1)
   where

@@ -29,11 +29,9 @@ unfolding unsignedOf
 above (pos n) h = refl
 above (negsuc n) h = absurd (omega linear)
 
--- src/arguments.rt:38:9
 returns : tie.Need-returns
 returns c = below (c .before .args .number) (ltZ-true (c .before .args .number) (pos 0) (test-of ltZ (number (c .before)) (literal 0) (c .if1 .taken)))
 
--- src/arguments.rt:40:5
 cast-result : tie.Need-cast-result
 cast-result c =
     let entry = c .before in
@@ -42,7 +40,6 @@ cast-result c =
       record { fits = omega (arith, natAbs-le (entry .args .number) (entry .fits .number .sfits)) },
     )
 
--- src/arguments.rt:34:1
 returns-2 : tie.Need-returns-2
 returns-2 c = ap natAbs (number (c .before) .reads) ∙ above (c .before .args .number) (ltZ-false (c .before .args .number) (pos 0) (test-of ltZ (number (c .before)) (literal 0) (c .if1 .left)))
 

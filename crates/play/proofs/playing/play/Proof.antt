@@ -20,27 +20,21 @@ Inv-loop input₀ output₀ stream₀ turns₀ input output stream turns =
 abbrev μ-loop : tie.MeasureT-loop
 μ-loop input₀ output₀ stream₀ turns₀ input output stream turns = turns
 
--- src/playing.rt:28:21
 large-buffer-requires : tie.Need-large-buffer-requires Inv-loop μ-loop
 large-buffer-requires c κs = tt
 
--- src/playing.rt:29:22
 large-buffer-requires-2 : tie.Need-large-buffer-requires-2 Inv-loop μ-loop
 large-buffer-requires-2 c κs = tt
 
--- src/playing.rt:37:5
 loop-holds : tie.Need-loop-holds Inv-loop μ-loop
 loop-holds c = (c .before .large-buffer .ensures, c .large-buffer2 .ensures, c .before .before .pre .fit, begin (c .before .before .args .unit) _ (c .before .large-buffer .result) (c .before .before .pre) refl refl)
 
--- src/playing.rt:38:31
 slice-aggregate-turn : tie.Need-slice-aggregate-turn Inv-loop μ-loop
 slice-aggregate-turn c = c .before .before .loop .inv .0
 
--- src/playing.rt:38:43
 slice-aggregate-turn-2 : tie.Need-slice-aggregate-turn-2 Inv-loop μ-loop
 slice-aggregate-turn-2 c = c .before .before .before .loop .inv .1
 
--- src/playing.rt:38:9
 turn-requires : tie.Need-turn-requires Inv-loop μ-loop
 turn-requires c κs =
     let inv = c .before .before .before .loop .inv in
@@ -68,23 +62,18 @@ module _ (c : lts.After-turn (large-buffer-reads.Asked, large-buffer-reads.Learn
         go-on u (head .loop .stream) (c .turn .result) (head .loop .input) (c .turn .last .1 .0) (inv .2) (inv .3) (c .turn .ensures),
       )
 
--- src/playing.rt:42:9
 sub-turns : tie.Need-sub-turns Inv-loop μ-loop
 sub-turns c = omega arith
 
--- src/playing.rt:37:5
 loop-less : tie.Need-loop-less Inv-loop μ-loop
 loop-less c = omega arith
 
--- src/playing.rt:37:5
 loop-again : tie.Need-loop-again Inv-loop μ-loop
 loop-again c = after (c .before .before .before .before)
 
--- src/playing.rt:24:1
 returns : tie.Need-returns Inv-loop μ-loop
 returns c = done (c .before .before .before .before .args .unit) (c .before .loop .stream) (c .before .loop .input) (c .before .loop .inv .3)
 
--- src/playing.rt:24:1
 returns-2 : tie.Need-returns-2 Inv-loop μ-loop
 returns-2 c = done (c .before .before .before .before .before .before .before .before .before .before .before .args .unit) (t .turn .result) (t .turn .last .1 .0) (after t .3)
   where

@@ -11,43 +11,33 @@ use Rattle.io.proofs.count.Reads as count-reads
 use Rattle.libc.proofs.read.Reads as read-reads
 use Rattle.os.proofs.fail.Reads as fail-reads
 
--- src/playing.rt:72:16
 sub-room : tie.Need-sub-room
 sub-room c = search needs
 
--- src/playing.rt:72:16
 part-room-start : tie.Need-part-room-start
 part-room-start c = search needs
 
--- src/playing.rt:72:16
 part-room-end : tie.Need-part-room-end
 part-room-end c = search needs
 
--- src/playing.rt:73:9
 read-requires : tie.Need-read-requires
 read-requires c κs = search needs
 
--- src/playing.rt:75:18
 slice-aggregate-fail : tie.Need-slice-aggregate-fail
 slice-aggregate-fail c = search needs
 
--- src/playing.rt:75:9
 fail-requires : tie.Need-fail-requires
 fail-requires c κs = search needs
 
--- src/playing.rt:77:9
 count-requires : tie.Need-count-requires
 count-requires c κs = search needs
 
--- src/playing.rt:79:16
 add-t8 : tie.Need-add-t8
 add-t8 c = search needs
 
--- src/playing.rt:68:1
 same-length : tie.Need-same-length
 same-length c = search needs
 
--- src/playing.rt:68:1
 returns : tie.Need-returns
 returns c =
     read-behind (s .args .held) (c .before .before .count .result) (now (s .args .input)) (c .before .before .before .before .before .before .before .read .last .1 .0) _ _

@@ -11,35 +11,27 @@ use Rattle.os.proofs.unlink.Reads as unlink-reads
 use Rattle.play.proofs.saving.store.Reads as store-reads
 use Rattle.writing.proofs.write.Reads as write-reads
 
--- src/saving.rt:38:38
 slice-aggregate-write : tie.Need-slice-aggregate-write
 slice-aggregate-write c = search needs
 
--- src/saving.rt:38:9
 write-requires : tie.Need-write-requires
 write-requires c κs = search needs
 
--- src/saving.rt:39:9
 store-requires : tie.Need-store-requires
 store-requires c κs = part-sheet (c .before .before .before .args .unit) 1128 _ (c .before .before .before .pre) (lit≤ tt) (c .before .write .ensures .0)
 
--- src/saving.rt:40:20
 slice-aggregate-unlink : tie.Need-slice-aggregate-unlink
 slice-aggregate-unlink c = search needs
 
--- src/saving.rt:40:9
 unlink-requires : tie.Need-unlink-requires
 unlink-requires c κs = search needs
 
--- src/saving.rt:41:9
 write-all-requires : tie.Need-write-all-requires
 write-all-requires c κs = search needs
 
--- src/saving.rt:34:1
 returns : tie.Need-returns
 returns c = search needs
 
--- src/saving.rt:34:1
 returns-2 : tie.Need-returns-2
 returns-2 c = search needs
 
