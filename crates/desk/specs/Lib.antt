@@ -1,2 +1,5 @@
 -- The desk program.
+--     Arguments   arguments as numbers
+--     Order       one order to a sheet
 pub mod Arguments
+pub mod Order

@@ -1,13 +1,19 @@
 // Gives one level order to a strip sheet: the sheet from standard input, the order from the arguments, the sheet after it to standard
 // output. The arguments are side (0 left, 1 right, 2 both), band (0 to 9, or 10 for the volume) and position (0 to 31, or "mute").
 // A refusal is one line on standard error, its number, and nothing is written.
+ghost use mathlib.Core.Path.{_≡_};
+ghost use Rattle.desk.specs.Order.{deskVerdict, deskSheet};
+
 mod arguments;
 
 use arguments::NONE;
 use orders::Setting;
+use refusals::Verdict;
 
 // One byte more than a sheet has, so that a longer one shows.
 const SHEET_ROOM: usize = 1129;
+
+const SHEET_SIZE: usize = 1128;
 
 fn main() {
     let side = arguments::number(1);
@@ -35,7 +41,7 @@ fn say_usage() {
     );
 }
 
-// Reads the sheet and gives the order.
+// Reads the sheet, gives the order, and writes the sheet after it.
 fn read_sheet(side: u32, band: u32, setting: Setting) {
     let mut bytes = [0u8; SHEET_ROOM];
     let count = io::read_full(libc::STDIN_FILENO, &mut bytes);
@@ -43,28 +49,34 @@ fn read_sheet(side: u32, band: u32, setting: Setting) {
         os::fail(b"standard input");
         return;
     }
-    order(&bytes[..count], side, band, setting);
-}
-
-// The order to the unit that these bytes carry.
-fn order(bytes: &[u8], side: u32, band: u32, setting: Setting) {
-    let house = loading::load(&bands::house_set());
-    let given = house.unit;
-    let read = reading::read(bytes, given);
-    let found = read.verdict;
-    if !refusals::accepted(found) {
-        console::refuse(found);
-        return;
-    }
-    let unit = read.unit;
-    let ordered = orders::order(unit, side, band, setting);
-    let verdict = ordered.verdict;
+    let mut sheet = [0u8; SHEET_SIZE];
+    let verdict = order(&bytes[..count], side, band, setting, &mut sheet);
     if !refusals::accepted(verdict) {
         console::refuse(verdict);
         return;
     }
-    let after = ordered.unit;
-    let mut sheet = [0u8; 1128];
-    let part = writing::write(after, &mut sheet);
-    console::write_out(part);
+    console::write_out(&sheet);
+}
+
+// The order to the unit that these bytes carry. The answer is the sheet's refusal, or then the order's. Accepted, the sheet after the order
+// is at the front of the buffer; refused, the buffer is unchanged.
+fn order(bytes: &[u8], side: u32, band: u32, setting: Setting, sheet: &mut [u8]) -> Verdict
+    ensures { λ r. ⌜ (r ≡ deskVerdict (now (bytes .entry)) side band setting) × (now (sheet .exit) ≡ deskSheet (now (bytes .entry)) side band setting (now (sheet .entry))) ⌝ }
+{
+    let set = bands::house_set();
+    let house = loading::load(&set);
+    let given = house.unit;
+    let read = reading::read(bytes, given);
+    let found = read.verdict;
+    if !refusals::accepted(found) {
+        return found;
+    }
+    let unit = read.unit;
+    let ordered = orders::order(unit, side, band, setting);
+    let verdict = ordered.verdict;
+    if refusals::accepted(verdict) {
+        let after = ordered.unit;
+        writing::fill(after, sheet);
+    }
+    verdict
 }

@@ -1,4 +1,7 @@
 // Writing strip.new: the sheet goes to a file beside it, which then takes its name. So an old strip.new is never half overwritten.
+ghost use mathlib.Core.Path.{_≡_};
+ghost use lib.IntN.{pos};
+ghost use lib.Signed.{ltZ};
 ghost use Rattle.unit.specs.Fit.{Fit};
 ghost use Rattle.play.specs.Saved.{IsSheet};
 use unit::Unit;
@@ -20,7 +23,9 @@ pub fn can_save() -> bool {
 }
 
 // Whether the number is none of the three standard streams'.
-fn is_own(fd: i32) -> bool {
+fn is_own(fd: i32) -> bool
+    ensures { λ r. ⌜ r ≡ ltZ (pos 2) fd ⌝ }
+{
     if fd == libc::STDIN_FILENO {
         io::write_all(libc::STDERR_FILENO, b"standard input: closed\n");
     }
