@@ -54,8 +54,8 @@ pub extern "C" fn fonddrys_house_set(words: &mut [i32; 30])
 }
 
 // One step of the section whose seven numbers are lent: A, B, G, x1, x2, y1, y2. They are those of the section after the step;
-// refused, they stay as they are. The answer is packed: y in the low 32 bits, above it 1 where the section has limited, and twice the
-// refusal's number.
+// refused, they stay as they are. The answer is one number: 2^32 times the sum of the mark for limiting and twice the refusal's number, and
+// y added, which may be negative.
 #[no_mangle]
 pub extern "C" fn fonddrys_section_step(numbers: &mut [i32; 7], x: i32) -> i64
     ensures { λ r. ⌜ (r ≡ packed (stepped (sectionOf (now (numbers .entry))) x)) × (now (numbers .exit) ≡ numbersOf (stepped (sectionOf (now (numbers .entry))) x .section)) ⌝ }
