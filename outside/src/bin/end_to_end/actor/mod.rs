@@ -1,7 +1,10 @@
-//! A play program of the tests' own, right or wrong in one named way. By this
-//! the tests are shown to pass a right program and to find each wrong one.
+//! Programs of the tests' own, right or wrong in one named way. By these the
+//! tests are shown to pass a right program and to find each wrong one.
 
+mod arguments;
+mod desk;
 pub mod fault;
+mod house;
 mod save;
 mod sheet;
 mod start;
@@ -15,6 +18,7 @@ use std::process::ExitCode;
 use outside::unit::{fast, Numbers, LEFT, PART_OF_A_FRAME, RIGHT};
 
 use self::fault::Fault;
+use crate::program::{DESK, HOUSE};
 
 const BUFFER: usize = 65_536;
 /// Where the flag stands among the numbers of a side.
@@ -23,11 +27,10 @@ const FLAG: usize = 2;
 /// What ends a run early: a line for standard error.
 type Stop = String;
 
-/// How the input ended.
-enum InputEnd {
-    Whole,
-    Tail,
-    Fault(Stop),
+/// How the input ended: whether a tail is left, and the line of a fault.
+struct InputEnd {
+    tail: bool,
+    fault: Stop,
 }
 
 struct Actor {
@@ -59,15 +62,22 @@ impl Actor {
     }
 
     fn streams_open(&self) -> Result<(), Stop> {
-        for (place, name) in ["standard input", "standard output", "standard error"]
-            .into_iter()
-            .enumerate()
-        {
-            if !start::was_open(place) && !self.is(Fault::ClosedUnnoticed) {
-                return Err(format!("{name}: closed\n"));
-            }
+        let names = ["standard input", "standard output", "standard error"];
+        let closed = names.into_iter().enumerate();
+        let closed = closed.filter(|&(place, _)| !start::was_open(place));
+        let most = match self.fault {
+            Fault::ClosedUnnoticed => 0,
+            Fault::AllClosedTold => names.len(),
+            _ => 1,
+        };
+        let lines: String = closed
+            .map(|(_, name)| format!("{name}: closed\n"))
+            .take(most)
+            .collect();
+        match lines.is_empty() {
+            true => Ok(()),
+            false => Err(lines),
         }
-        Ok(())
     }
 
     /// Plays whole frames.
@@ -102,7 +112,10 @@ impl Actor {
             match stream(0).read(&mut buffer[held..]) {
                 Ok(0) => return self.tail(unit, &buffer[..held]),
                 Ok(count) => held += count,
-                Err(error) => return Ok(InputEnd::Fault(told("standard input", &error))),
+                Err(error) => {
+                    let (tail, fault) = (held % 4 > 0, told("standard input", &error));
+                    return Ok(InputEnd { tail, fault });
+                }
             }
             if self.is(Fault::WaitsForMore) && held < BUFFER {
                 continue;
@@ -125,36 +138,53 @@ impl Actor {
         if !whole.is_empty() {
             self.frames(unit, whole)?;
         }
-        if tail.is_empty() {
-            return Ok(InputEnd::Whole);
-        }
-        if self.is(Fault::TailAsFrame) {
+        if self.is(Fault::TailAsFrame) && !tail.is_empty() {
             let mut frame = tail.to_vec();
             frame.resize(4, 0);
             self.frames(unit, &frame)?;
         }
-        Ok(InputEnd::Tail)
+        Ok(InputEnd {
+            tail: !tail.is_empty(),
+            fault: String::new(),
+        })
     }
 
     /// Plays, writes the sheet, and gives what is to be told afterwards.
     fn play_and_save(&self, unit: &mut Numbers) -> Result<String, Stop> {
         let end = match (self.play(unit), self.fault) {
             (Err(_), Fault::WriteFaultSilent) => return Ok(String::new()),
-            (Err(stop), Fault::WriteFaultSaved) => InputEnd::Fault(stop),
+            (Err(fault), Fault::WriteFaultSaved) => InputEnd { tail: false, fault },
             (end, _) => end?,
         };
-        match (&end, self.fault) {
-            (InputEnd::Tail, Fault::TailUnsaved) => {}
-            (InputEnd::Fault(_), Fault::ReadFaultUnsaved) => {}
-            _ => self.save(unit)?,
+        let saved = match self.fault {
+            Fault::TailUnsaved if end.tail => Ok(()),
+            Fault::ReadFaultUnsaved if !end.fault.is_empty() => Ok(()),
+            _ => self.save(unit),
+        };
+        Ok(self.ended(end, saved))
+    }
+
+    /// The lines that are told at the end.
+    fn ended(&self, end: InputEnd, saved: Result<(), Stop>) -> String {
+        let InputEnd { tail, mut fault } = end;
+        let is_told = match self.fault {
+            Fault::TailDropped => false,
+            Fault::ReadFaultHidesTail => fault.is_empty(),
+            Fault::UnsavedHidesTail => saved.is_ok(),
+            _ => true,
+        };
+        let tail = match tail && is_told {
+            true => self.line(PART_OF_A_FRAME),
+            false => String::new(),
+        };
+        if self.is(Fault::ReadFaultAsEnd) {
+            fault.clear();
         }
-        Ok(match (end, self.fault) {
-            (InputEnd::Tail, Fault::TailDropped) => String::new(),
-            (InputEnd::Tail, _) => self.line(PART_OF_A_FRAME),
-            (InputEnd::Fault(_), Fault::ReadFaultAsEnd) => String::new(),
-            (InputEnd::Fault(stop), _) => stop,
-            (InputEnd::Whole, _) => String::new(),
-        })
+        let unsaved = saved.err().unwrap_or_default();
+        match self.fault {
+            Fault::TailFirst => [tail, fault, unsaved].concat(),
+            _ => [fault, unsaved, tail].concat(),
+        }
     }
 
     fn whole_run(&mut self) -> Result<String, Stop> {
@@ -167,12 +197,16 @@ impl Actor {
     }
 }
 
-/// Acts as a play program in the folder that this one was started in.
-pub fn act(fault: Fault) -> ExitCode {
+/// Acts as the program of this name in the folder that this one was started in.
+pub fn act(fault: Fault, role: &str, arguments: &[&[u8]]) -> ExitCode {
     start::restore_broken_pipe();
     let sheet = Vec::new();
     let mut actor = Actor { fault, sheet };
-    let (Ok(line) | Err(line)) = actor.whole_run();
+    let (Ok(line) | Err(line)) = match role {
+        HOUSE => actor.house(arguments),
+        DESK => actor.desk(arguments),
+        _ => actor.whole_run(),
+    };
     // Where standard error fails there is nowhere to tell it.
     let _ = stream(2).write_all(line.as_bytes());
     if actor.is(Fault::NumberAsStatus) && !line.is_empty() {

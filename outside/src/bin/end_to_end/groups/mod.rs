@@ -1,10 +1,14 @@
 //! The groups of cases. A group runs a program again and again, each time in a
 //! folder of its own, and stops at the first difference.
 
+mod bad_sheets;
+pub mod chains;
 pub mod chunks;
 pub mod continued;
+pub mod desk;
 pub mod figures;
 pub mod files;
+pub mod house;
 pub mod live;
 pub mod refusals;
 pub mod rights;
@@ -89,13 +93,56 @@ pub const STREAMS: Group = Group {
     run: streams::all,
 };
 
-pub const GROUPS: [Group; 9] = [
-    FIGURES, REFUSALS, TAILS, SOUNDS, CHUNKS, CONTINUED, LIVE, FILES, STREAMS,
+pub const HOUSE: Group = Group {
+    name: "house",
+    what: "the cleared house unit's sheet, whatever it is given",
+    run: house::all,
+};
+pub const ORDERS: Group = Group {
+    name: "desk orders",
+    what: "every side and band on random sheets, all positions, odd pieces",
+    run: desk::orders::all,
+};
+pub const DESK_REFUSALS: Group = Group {
+    name: "desk refusals",
+    what: "the sheet's numbers ahead of the order's, and streams that fail",
+    run: desk::refusals::all,
+};
+pub const ARGUMENTS: Group = Group {
+    name: "desk arguments",
+    what: "badly written, missing and needless ones",
+    run: desk::arguments::all,
+};
+pub const CHAINS: Group = Group {
+    name: "chains",
+    what: "house, desk and play one after the other",
+    run: chains::all,
+};
+
+pub const GROUPS: [Group; 14] = [
+    FIGURES,
+    REFUSALS,
+    TAILS,
+    SOUNDS,
+    CHUNKS,
+    CONTINUED,
+    LIVE,
+    FILES,
+    STREAMS,
+    HOUSE,
+    ORDERS,
+    DESK_REFUSALS,
+    ARGUMENTS,
+    CHAINS,
 ];
 
-/// The program under test, and how far it is tested.
+/// The programs under test, and how far they are tested.
 pub struct Tester {
+    /// The play program.
     pub program: Program,
+    /// The two beside it.
+    pub house: Program,
+    pub desk: Program,
     /// How many long sounds, and their frames.
     pub sounds: u64,
     pub frames: usize,
@@ -104,19 +151,30 @@ pub struct Tester {
 }
 
 impl Tester {
-    /// Runs the program in a new folder that holds this.
+    /// Runs the play program in a new folder that holds this.
     pub fn run(
         &self,
         before: &Contents,
         given: &Given,
         tally: &mut Tally,
     ) -> Result<Seen, Difference> {
-        let folder = Folder::new(before).map_err(|error| format!("no folder: {error}"))?;
-        tally.runs += 1;
-        given::run(&self.program, &folder, given, self.patience)
+        self.run_other(&self.program, before, given, tally)
     }
 
-    /// Runs it and holds what is seen against what must be.
+    /// Runs a program in a new folder that holds this.
+    fn run_other(
+        &self,
+        program: &Program,
+        before: &Contents,
+        given: &Given,
+        tally: &mut Tally,
+    ) -> Result<Seen, Difference> {
+        let folder = Folder::new(before).map_err(|error| format!("no folder: {error}"))?;
+        tally.runs += 1;
+        given::run(program, &folder, given, self.patience)
+    }
+
+    /// Runs the play program and holds what is seen against what must be.
     pub fn expect(
         &self,
         case: &str,
@@ -126,7 +184,20 @@ impl Tester {
         tally: &mut Tally,
     ) -> Result<(), Difference> {
         tally.frames += expected.sound.len() as u64 / 4;
-        self.run(before, given, tally)
+        self.expect_other(&self.program, case, before, given, expected, tally)
+    }
+
+    /// The same for a program whose output counts no frames.
+    pub fn expect_other(
+        &self,
+        program: &Program,
+        case: &str,
+        before: &Contents,
+        given: &Given,
+        expected: &Seen,
+        tally: &mut Tally,
+    ) -> Result<(), Difference> {
+        self.run_other(program, before, given, tally)
             .and_then(|seen| same(expected, &seen))
             .map_err(|difference| format!("{case}: {difference}"))
     }
