@@ -51,7 +51,7 @@ impl Actor {
     pub fn refusal(&self, mut unit: Numbers, number: u32) -> Stop {
         match self.fault {
             Fault::SheetAfterRefusal => return self.save(&unit).err().unwrap_or(self.line(number)),
-            Fault::SoundAfterRefusal => drop(self.play(&mut unit)),
+            Fault::SoundAfterRefusal => drop(self.play_input(&mut unit)),
             Fault::NumberOnOutput => {
                 let _ = stream(1).write_all(self.line(number).as_bytes());
                 return String::new();

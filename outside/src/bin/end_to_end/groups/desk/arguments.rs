@@ -105,31 +105,41 @@ const BLANKS: [&[&[u8]]; 3] = [
 ];
 
 impl Desk<'_> {
-    /// The line, whatever the input is: a fit sheet, none, or a folder.
+    /// The line, whatever the input is: a folder, a fit sheet, a longer one, none.
     fn usage(&mut self, arguments: &[&[u8]]) -> Result<(), Difference> {
-        if self.tally.runs.is_multiple_of(3) {
-            let expected = Seen::nothing_but(USAGE, &folder());
-            return self.expect(arguments, &Given::input(Input::Folder), &expected);
+        let mut sheet = self.maker.sheet(self.tally.runs);
+        match self.tally.runs % 4 {
+            0 => {
+                let expected = Seen::nothing_but(USAGE, &folder());
+                return self.expect(arguments, &Given::input(Input::Folder), &expected);
+            }
+            1 => {}
+            2 => sheet.push(b'\n'),
+            _ => sheet.clear(),
         }
-        let sheet = match self.tally.runs % 3 {
-            1 => self.maker.sheet(self.tally.runs),
-            _ => Vec::new(),
-        };
         self.told(arguments, &sheet, USAGE)
     }
 
-    /// A bad one at each place, the others good; and with a refused order.
+    /// A bad one at each place, the others good or not.
     fn bad_places(&mut self) -> Result<(), Difference> {
         for bad in BAD {
             self.usage(&[bad, b"0", b"20"])?;
             self.usage(&[b"0", bad, b"20"])?;
-            self.usage(&[b"0", b"0", bad])?;
-            self.usage(&[b"3", b"11", bad])?;
+            let side = match self.tally.runs % 2 {
+                0 => b"0",
+                _ => b"3",
+            };
+            self.usage(&[side, b"0", bad])?;
         }
         for side_or_band in [b"mute".as_slice(), &[b'1'; 100_000]] {
             self.usage(&[side_or_band, b"0", b"0"])?;
             self.usage(&[b"0", side_or_band, b"mute"])?;
         }
+        Ok(())
+    }
+
+    /// A third one that is neither a position nor mute.
+    fn bad_levels(&mut self) -> Result<(), Difference> {
         for level in NO_LEVELS {
             self.usage(&[b"0", b"0", level])?;
             self.usage(&[b"2", b"10", level])?;
@@ -152,11 +162,12 @@ impl Desk<'_> {
 
 pub fn all(tester: &Tester) -> Outcome {
     let mut desk = Desk::new(tester, SEED);
-    for arguments in TOO_FEW.iter().flat_map(|list| [list; 3]) {
+    for arguments in TOO_FEW.iter().flat_map(|list| [list; 4]) {
         desk.usage(arguments)?;
     }
     desk.plain_runs(&MORE)?;
     desk.plain_runs(&BLANKS)?;
+    desk.bad_levels()?;
     desk.bad_places()?;
     Ok(desk.tally)
 }

