@@ -186,8 +186,8 @@ impl Test<'_> {
 pub fn all(tester: &Tester) -> Outcome {
     let mut test = Test::new(tester);
     test.read_faults()?;
+    test.closed()?;
     test.no_room()?;
     test.broken_pipes()?;
-    test.closed()?;
     Ok(test.tally)
 }

@@ -10,8 +10,8 @@ use crate::groups::{Outcome, Tester};
 
 pub const SEED: u64 = 0xF0DD_00D8;
 
-/// Levels for every side and band: the ends, the middle and mute.
-const LEVELS: [&str; 6] = ["0", "15", "16", "17", "31", "mute"];
+/// Levels for every side and band.
+const LEVELS: [&str; 4] = ["0", "17", "31", "mute"];
 
 /// Pieces in which a sheet comes.
 const PIECES: [&[usize]; 6] = [&[1], &[2, 7], &[100, 1], &[1_127, 1], &[1, 1_127], &[564]];

@@ -40,20 +40,19 @@ impl Desk<'_> {
     }
 
     /// 1, with levels that would be refused too and with others.
-    fn no_such_place(&mut self) -> Result<(), Difference> {
-        let sides = SIDES.map(|side| [[side, "0"], [side, "10"]]);
-        let bands = BANDS.map(|band| [["0", band], ["2", band]]);
-        let volume = [[["0", "10"], ["1", "10"]]];
-        for [side, band] in [&sides[..], &bands, &volume].concat().concat() {
-            let other = match self.tally.runs % 4 {
-                0 => "mute",
-                _ => "32",
-            };
+    fn no_such_places(&mut self, places: &[[&str; 2]]) -> Result<(), Difference> {
+        for (&[side, band], other) in places.iter().zip(["32", "mute"].iter().cycle()) {
             for level in ["20", other] {
                 self.refused_order([side, band, level], 1)?;
             }
         }
         Ok(())
+    }
+
+    fn no_such_side_or_band(&mut self) -> Result<(), Difference> {
+        let sides = SIDES.map(|side| [[side, "0"], [side, "10"]]);
+        let bands = BANDS.map(|band| [["0", band], ["2", band]]);
+        self.no_such_places(&[sides, bands].concat().concat())
     }
 
     /// 2, for a band and for the volume.
@@ -68,12 +67,10 @@ impl Desk<'_> {
 
     /// Sheets that are refused, with orders that are not and that are.
     fn refused_sheets(&mut self) -> Result<(), Difference> {
-        for (case, sheet, number) in refused(&self.maker.sheet(0)) {
-            let other = match self.tally.runs % 4 {
-                0 => ["1", "10", "mute"],
-                _ => ["0", "3", "32"],
-            };
-            for order in [["0", "3", "20"], other] {
+        let others = [["0", "3", "32"], ["1", "10", "mute"]];
+        let sheets = refused(&self.maker.sheet(0));
+        for ((case, sheet, number), other) in sheets.into_iter().zip(others.iter().cycle()) {
+            for order in [&["0", "3", "20"], other] {
                 self.told(&order.map(str::as_bytes), &sheet, &line(number))
                     .map_err(|difference| format!("{case}: {difference}"))?;
             }
@@ -116,9 +113,10 @@ impl Desk<'_> {
 pub fn all(tester: &Tester) -> Outcome {
     let mut desk = Desk::new(tester, SEED);
     desk.streams()?;
+    desk.no_such_places(&[["0", "10"], ["1", "10"]])?;
     desk.no_such_position()?;
     desk.refused_sheets()?;
-    desk.no_such_place()?;
+    desk.no_such_side_or_band()?;
     desk.damaged()?;
     Ok(desk.tally)
 }
