@@ -1,10 +1,12 @@
-//! Runs the play program from end to end: in a folder of its own each time, with
-//! its sound, its errors and everything in the folder held against the
-//! independent implementation. Exit status 0 only if all is right.
+//! Runs the programs play, house and desk from end to end: in a folder of its own
+//! each time, with the output, the errors and everything in the folder held against
+//! the independent implementation. Exit status 0 only if all is right.
 //!
-//!     end_to_end [PATH]       tests the program there, ../target/bin/play else
+//!     end_to_end [PATH]       tests play there, ../target/bin/play else, and the
+//!                             two beside it
 //!     end_to_end --self-test  tests right and wrong players of its own
-//!     end_to_end --act NAME   is one of these players
+//!     end_to_end --act NAME PROGRAM [ARGUMENTS]
+//!                             is that program as one of these players has it
 
 mod actor;
 mod expected;
@@ -18,6 +20,8 @@ mod session;
 mod threads;
 
 use std::env;
+use std::ffi::OsString;
+use std::os::unix::ffi::OsStrExt;
 use std::path::Path;
 use std::process::ExitCode;
 use std::time::{Duration, Instant};
@@ -25,33 +29,42 @@ use std::time::{Duration, Instant};
 use outside::checks::Difference;
 
 use self::groups::{
-    chunks, continued, files, live, refusals, sounds, streams, tails, Group, Tally, Tester, GROUPS,
+    chains, chunks, continued, desk, files, live, refusals, sounds, streams, tails,
 };
-use self::program::Program;
+use self::groups::{Group, Tally, Tester, GROUPS};
+use self::program::{Program, DESK, HOUSE, PLAY};
 
-const PLAY: &str = concat!(env!("CARGO_MANIFEST_DIR"), "/../target/bin/play");
+const PATH: &str = concat!(env!("CARGO_MANIFEST_DIR"), "/../target/bin/play");
 /// Ten seconds at 44.1 kHz.
 const FRAMES: usize = 441_000;
 const SOUNDS: u64 = 5;
 const PATIENCE: Duration = Duration::from_secs(20);
 
 fn main() -> ExitCode {
-    let arguments: Vec<String> = env::args().skip(1).collect();
-    let arguments: Vec<&str> = arguments.iter().map(String::as_str).collect();
-    match arguments[..] {
-        ["--act", name] => match actor::fault::named(name) {
-            Some(fault) => actor::act(fault),
-            None => usage(),
-        },
+    let arguments: Vec<OsString> = env::args_os().skip(1).collect();
+    let words: Vec<&str> = arguments
+        .iter()
+        .map(|argument| argument.to_str().unwrap_or("--"))
+        .collect();
+    match words[..] {
+        ["--act", name, role, ..] => act(name, role, &arguments[3..]),
         ["--self-test"] => told(self_test::run),
-        [] => told(|| test(Path::new(PLAY))),
+        [] => told(|| test(Path::new(PATH))),
         [path] if !path.starts_with("--") => told(|| test(Path::new(path))),
         _ => usage(),
     }
 }
 
+fn act(name: &str, role: &str, arguments: &[OsString]) -> ExitCode {
+    let arguments: Vec<&[u8]> = arguments.iter().map(|text| text.as_bytes()).collect();
+    match actor::fault::named(name) {
+        Some(fault) if [PLAY, HOUSE, DESK].contains(&role) => actor::act(fault, role, &arguments),
+        _ => usage(),
+    }
+}
+
 fn usage() -> ExitCode {
-    println!("usage: end_to_end [PATH | --self-test | --act NAME]");
+    println!("usage: end_to_end [PATH | --self-test | --act NAME PROGRAM [ARGUMENTS]]");
     ExitCode::FAILURE
 }
 
@@ -83,6 +96,10 @@ fn print_seeds() {
         ("live", live::SEED),
         ("files", files::SEED),
         ("streams", streams::SEED),
+        ("desk orders", desk::orders::SEED),
+        ("desk refusals", desk::refusals::SEED),
+        ("desk arguments", desk::arguments::SEED),
+        ("chains", chains::SEED),
     ];
     let seeds = seeds.map(|(name, seed)| format!("{name} {seed:#x}"));
     println!("seeds: {}", seeds.join(", "));
@@ -91,9 +108,12 @@ fn print_seeds() {
 /// Runs every group and prints a line for each; one that differs doesn't keep the
 /// others from being run.
 fn test(path: &Path) -> Result<(), Difference> {
-    let program = Program::at(path);
+    let found =
+        |path: &Path| Program::at(path).map_err(|error| format!("{}: {error}", path.display()));
     let tester = Tester {
-        program: program.map_err(|error| format!("{}: {error}", path.display()))?,
+        program: found(path)?,
+        house: found(&path.with_file_name(HOUSE))?,
+        desk: found(&path.with_file_name(DESK))?,
         sounds: SOUNDS,
         frames: FRAMES,
         patience: PATIENCE,

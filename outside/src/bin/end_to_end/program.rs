@@ -1,15 +1,22 @@
-//! The program under test, and the ways it is started.
+//! The programs under test, and the ways they are started.
 
+use std::ffi::{OsStr, OsString};
+use std::os::unix::ffi::{OsStrExt, OsStringExt};
 use std::os::unix::fs::MetadataExt;
 use std::path::{Path, PathBuf};
 use std::process::{Command, Stdio};
 use std::{env, fs, io};
 
+/// The names of the programs.
+pub const PLAY: &str = "play";
+pub const HOUSE: &str = "house";
+pub const DESK: &str = "desk";
+
 /// A program and the arguments it is always given.
 #[derive(Clone)]
 pub struct Program {
     pub path: PathBuf,
-    pub arguments: Vec<String>,
+    pub arguments: Vec<OsString>,
 }
 
 /// How it is started.
@@ -36,17 +43,43 @@ impl Program {
         })
     }
 
-    /// This program itself, acting as a play program.
-    pub fn actor(name: &str) -> io::Result<Program> {
+    /// This program itself, acting as one of the programs.
+    pub fn actor(name: &str, role: &str) -> io::Result<Program> {
         Ok(Program {
             path: env::current_exe()?,
-            arguments: vec!["--act".to_string(), name.to_string()],
+            arguments: ["--act", name, role].map(OsString::from).to_vec(),
         })
+    }
+
+    /// A shell that does this.
+    pub fn shell(text: &OsStr) -> Program {
+        Program {
+            path: PathBuf::from("sh"),
+            arguments: vec![OsString::from("-c"), text.to_os_string()],
+        }
+    }
+
+    /// The same program with arguments more.
+    pub fn given(&self, more: &[&[u8]]) -> Program {
+        let mut program = self.clone();
+        let more = more.iter().map(|text| OsStr::from_bytes(text));
+        program.arguments.extend(more.map(OsStr::to_os_string));
+        program
+    }
+
+    /// The program and its arguments as a shell takes them.
+    pub fn in_shell(&self) -> OsString {
+        let mut text = quoted(self.path.as_os_str());
+        for argument in &self.arguments {
+            text.push(" ");
+            text.push(quoted(argument));
+        }
+        text
     }
 
     /// The same program copied into a folder.
     pub fn copied_to(&self, folder: &Path) -> io::Result<Program> {
-        let path = folder.join("play");
+        let path = folder.join(PLAY);
         fs::copy(&self.path, &path)?;
         Ok(Program {
             path,
@@ -73,6 +106,19 @@ impl Program {
         command.args(&self.arguments).current_dir(folder);
         command
     }
+}
+
+/// A word that a shell takes as it is.
+fn quoted(word: &OsStr) -> OsString {
+    let mut bytes = vec![b'\''];
+    for &byte in word.as_bytes() {
+        match byte {
+            b'\'' => bytes.extend(b"'\\''"),
+            _ => bytes.push(byte),
+        }
+    }
+    bytes.push(b'\'');
+    OsString::from_vec(bytes)
 }
 
 /// A way to start a program without the rights of the superuser, where there is

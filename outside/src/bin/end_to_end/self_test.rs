@@ -7,7 +7,7 @@ use outside::checks::Difference;
 
 use super::actor::fault::{Wrong, RIGHT, WRONG};
 use super::groups::{Tester, GROUPS};
-use super::program::Program;
+use super::program::{Program, DESK, HOUSE, PLAY};
 
 /// Short sounds are enough for these.
 const SOUNDS: u64 = 6;
@@ -17,9 +17,13 @@ const LONG: Duration = Duration::from_secs(20);
 const SHORT: Duration = Duration::from_millis(300);
 
 fn tester(name: &str, patience: Duration) -> Result<Tester, Difference> {
-    let program = Program::actor(name);
+    let actor = |role: &str| {
+        Program::actor(name, role).map_err(|error| format!("this program itself: {error}"))
+    };
     Ok(Tester {
-        program: program.map_err(|error| format!("this program itself: {error}"))?,
+        program: actor(PLAY)?,
+        house: actor(HOUSE)?,
+        desk: actor(DESK)?,
         sounds: SOUNDS,
         frames: FRAMES,
         patience,

@@ -128,9 +128,13 @@ impl Session {
         !matches!(lock(&self.child).try_wait(), Ok(None))
     }
 
-    /// Closes the input and waits for the end of the program.
+    /// Closes the input and waits for the end of the program. Its errors come to
+    /// their end with it, mostly, so these are waited for first.
     pub fn end(mut self) -> Result<Ended, Difference> {
         drop(self.input.take());
+        let collected = |pipe: Option<Collector>| pipe.map_or(Vec::new(), Collector::end);
+        let errors = collected(self.errors.take());
+        let sound = collected(self.sound.take());
         while !self.has_ended() {
             thread::sleep(GLANCE);
         }
@@ -139,11 +143,11 @@ impl Session {
         if self.watch.take().is_some_and(Watch::end) {
             return Err(format!("it ran longer than {LIMIT:?}"));
         }
-        let collected = |pipe: Option<Collector>| pipe.map_or(Vec::new(), Collector::end);
+        let ending = Ending::of(status);
         Ok(Ended {
-            sound: collected(self.sound.take()),
-            errors: collected(self.errors.take()),
-            ending: Ending::of(status),
+            sound,
+            errors,
+            ending,
         })
     }
 }

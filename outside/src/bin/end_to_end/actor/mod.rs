@@ -1,34 +1,29 @@
-//! A play program of the tests' own, right or wrong in one named way. By this
-//! the tests are shown to pass a right program and to find each wrong one.
+//! Programs of the tests' own, right or wrong in one named way. By these the
+//! tests are shown to pass a right program and to find each wrong one.
 
+mod arguments;
+mod desk;
 pub mod fault;
+mod house;
+mod play;
 mod save;
 mod sheet;
 mod start;
 
 use std::fs::File;
-use std::io::{self, Read, Write};
+use std::io::{self, Write};
 use std::mem::ManuallyDrop;
 use std::os::fd::FromRawFd;
 use std::process::ExitCode;
 
-use outside::unit::{fast, Numbers, LEFT, PART_OF_A_FRAME, RIGHT};
-
 use self::fault::Fault;
+use crate::program::{DESK, HOUSE};
 
-const BUFFER: usize = 65_536;
 /// Where the flag stands among the numbers of a side.
 const FLAG: usize = 2;
 
 /// What ends a run early: a line for standard error.
 type Stop = String;
-
-/// How the input ended.
-enum InputEnd {
-    Whole,
-    Tail,
-    Fault(Stop),
-}
 
 struct Actor {
     fault: Fault,
@@ -57,122 +52,18 @@ impl Actor {
     fn is(&self, fault: Fault) -> bool {
         self.fault == fault
     }
-
-    fn streams_open(&self) -> Result<(), Stop> {
-        for (place, name) in ["standard input", "standard output", "standard error"]
-            .into_iter()
-            .enumerate()
-        {
-            if !start::was_open(place) && !self.is(Fault::ClosedUnnoticed) {
-                return Err(format!("{name}: closed\n"));
-            }
-        }
-        Ok(())
-    }
-
-    /// Plays whole frames.
-    fn frames(&self, unit: &mut Numbers, bytes: &[u8]) -> Result<(), Stop> {
-        match self.fault {
-            Fault::ChunkReset => *unit = self.unit()?,
-            Fault::ChunkFlag => [LEFT, RIGHT].iter().for_each(|side| unit[side + FLAG] = 0),
-            _ => {}
-        }
-        let mut sound = vec![0; bytes.len()];
-        fast::block(unit, bytes, &mut sound);
-        if self.is(Fault::SidesSwapped) {
-            sound
-                .chunks_exact_mut(4)
-                .for_each(|frame| frame.rotate_left(2));
-        }
-        if self.is(Fault::SheetAllAlong) {
-            self.save(unit)?;
-        }
-        let written = match self.fault {
-            Fault::PartWritten => stream(1).write(&sound).map(drop),
-            _ => stream(1).write_all(&sound),
-        };
-        written.map_err(|error| told("standard output", &error))
-    }
-
-    /// Plays the input to its end.
-    fn play(&self, unit: &mut Numbers) -> Result<InputEnd, Stop> {
-        let mut buffer = vec![0; BUFFER];
-        let mut held = 0;
-        loop {
-            match stream(0).read(&mut buffer[held..]) {
-                Ok(0) => return self.tail(unit, &buffer[..held]),
-                Ok(count) => held += count,
-                Err(error) => return Ok(InputEnd::Fault(told("standard input", &error))),
-            }
-            if self.is(Fault::WaitsForMore) && held < BUFFER {
-                continue;
-            }
-            let whole = held / 4 * 4;
-            if !self.is(Fault::TailRefusesAll) || whole == held {
-                self.frames(unit, &buffer[..whole])?;
-            }
-            buffer.copy_within(whole..held, 0);
-            held -= whole;
-            if self.is(Fault::ChunkTailDropped) {
-                held = 0;
-            }
-        }
-    }
-
-    /// What is left of the input at its end.
-    fn tail(&self, unit: &mut Numbers, bytes: &[u8]) -> Result<InputEnd, Stop> {
-        let (whole, tail) = bytes.split_at(bytes.len() / 4 * 4);
-        if !whole.is_empty() {
-            self.frames(unit, whole)?;
-        }
-        if tail.is_empty() {
-            return Ok(InputEnd::Whole);
-        }
-        if self.is(Fault::TailAsFrame) {
-            let mut frame = tail.to_vec();
-            frame.resize(4, 0);
-            self.frames(unit, &frame)?;
-        }
-        Ok(InputEnd::Tail)
-    }
-
-    /// Plays, writes the sheet, and gives what is to be told afterwards.
-    fn play_and_save(&self, unit: &mut Numbers) -> Result<String, Stop> {
-        let end = match (self.play(unit), self.fault) {
-            (Err(_), Fault::WriteFaultSilent) => return Ok(String::new()),
-            (Err(stop), Fault::WriteFaultSaved) => InputEnd::Fault(stop),
-            (end, _) => end?,
-        };
-        match (&end, self.fault) {
-            (InputEnd::Tail, Fault::TailUnsaved) => {}
-            (InputEnd::Fault(_), Fault::ReadFaultUnsaved) => {}
-            _ => self.save(unit)?,
-        }
-        Ok(match (end, self.fault) {
-            (InputEnd::Tail, Fault::TailDropped) => String::new(),
-            (InputEnd::Tail, _) => self.line(PART_OF_A_FRAME),
-            (InputEnd::Fault(_), Fault::ReadFaultAsEnd) => String::new(),
-            (InputEnd::Fault(stop), _) => stop,
-            (InputEnd::Whole, _) => String::new(),
-        })
-    }
-
-    fn whole_run(&mut self) -> Result<String, Stop> {
-        self.streams_open()?;
-        self.begin_sheet()?;
-        self.read_sheet()?;
-        let mut unit = self.unit()?;
-        self.try_part()?;
-        self.play_and_save(&mut unit)
-    }
 }
 
-/// Acts as a play program in the folder that this one was started in.
-pub fn act(fault: Fault) -> ExitCode {
+/// Acts as the program of this name in the folder that this one was started in.
+pub fn act(fault: Fault, role: &str, arguments: &[&[u8]]) -> ExitCode {
     start::restore_broken_pipe();
     let sheet = Vec::new();
     let mut actor = Actor { fault, sheet };
-    let (Ok(line) | Err(line)) = actor.whole_run();
+    let (Ok(line) | Err(line)) = match role {
+        HOUSE => actor.house(arguments),
+        DESK => actor.desk(arguments),
+        _ => actor.play(),
+    };
     // Where standard error fails there is nowhere to tell it.
     let _ = stream(2).write_all(line.as_bytes());
     if actor.is(Fault::NumberAsStatus) && !line.is_empty() {

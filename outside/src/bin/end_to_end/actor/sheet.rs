@@ -24,7 +24,7 @@ impl Actor {
     }
 
     /// The bytes that count as the sheet.
-    fn taken_sheet(&self) -> Vec<u8> {
+    pub fn taken_sheet(&self) -> Vec<u8> {
         let mut taken = self.sheet.clone();
         match self.fault {
             Fault::LongSheet => taken.truncate(SHEET),
@@ -48,10 +48,10 @@ impl Actor {
     }
 
     /// The line of a refused sheet, after what a wrong actor does besides.
-    fn refusal(&self, mut unit: Numbers, number: u32) -> Stop {
+    pub fn refusal(&self, mut unit: Numbers, number: u32) -> Stop {
         match self.fault {
             Fault::SheetAfterRefusal => return self.save(&unit).err().unwrap_or(self.line(number)),
-            Fault::SoundAfterRefusal => drop(self.play(&mut unit)),
+            Fault::SoundAfterRefusal => drop(self.play_input(&mut unit)),
             Fault::NumberOnOutput => {
                 let _ = stream(1).write_all(self.line(number).as_bytes());
                 return String::new();

@@ -90,12 +90,24 @@ fn left_over(tester: &Tester, material: &Material, tally: &mut Tally) -> Result<
     tester.expect(case, &before, &material.given(), &expected, tally)
 }
 
-/// `strip.new` is a folder, or files may have no bytes: the sheet is told.
-fn unwritten(tester: &Tester, material: &Material, tally: &mut Tally) -> Result<(), Difference> {
+/// `strip.new` is a folder: the sheet is told, and after it a tail.
+fn unreplaced(tester: &Tester, material: &Material, tally: &mut Tally) -> Result<(), Difference> {
     let before = and_folder(&material.sheet, NEW_NAME);
-    let expected = material.sheet_told("strip.new: Is a directory\n", &before);
-    let case = "strip.new is a folder";
-    tester.expect(case, &before, &material.given(), &expected, tally)?;
+    for tail in 0..4 {
+        let mut expected = material.sheet_told("strip.new: Is a directory\n", &before);
+        if tail > 0 {
+            expected.errors.extend(b"5\n");
+        }
+        let bytes = [&material.bytes[..], &[99; 3][..tail]].concat();
+        let given = Given::input(Input::Pipe(&bytes));
+        let case = format!("strip.new is a folder, a tail of {tail}");
+        tester.expect(&case, &before, &given, &expected, tally)?;
+    }
+    Ok(())
+}
+
+/// Files may have no bytes: the sheet is told.
+fn unwritten(tester: &Tester, material: &Material, tally: &mut Tally) -> Result<(), Difference> {
     let limited = Given {
         way: Way::Shell("ulimit -f 0; trap '' XFSZ", ""),
         ..material.given()
@@ -129,6 +141,7 @@ pub fn all(tester: &Tester) -> Outcome {
     let material = Material::new(&mut tally);
     replaced(tester, &material, &mut tally)?;
     left_over(tester, &material, &mut tally)?;
+    unreplaced(tester, &material, &mut tally)?;
     unwritten(tester, &material, &mut tally)?;
     not_begun(tester, &material, &mut tally)?;
     rights::all(tester, &material, &mut tally)?;

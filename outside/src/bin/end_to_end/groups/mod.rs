@@ -1,39 +1,23 @@
 //! The groups of cases. A group runs a program again and again, each time in a
 //! folder of its own, and stops at the first difference.
 
+mod bad_sheets;
+pub mod chains;
 pub mod chunks;
 pub mod continued;
+pub mod desk;
 pub mod figures;
 pub mod files;
+pub mod house;
 pub mod live;
 pub mod refusals;
 pub mod rights;
 pub mod sounds;
 pub mod streams;
 pub mod tails;
+mod tester;
 
-use std::time::Duration;
-
-use outside::checks::Difference;
-use outside::unit::exact::Met;
-
-use super::expected;
-use super::folder::{Contents, Folder};
-use super::given::{self, Given};
-use super::program::Program;
-use super::seen::{same, Seen};
-
-/// What a group counts.
-#[derive(Default)]
-pub struct Tally {
-    pub runs: u64,
-    pub frames: u64,
-    pub met: Met,
-    /// Cases that can't be tried here, in words.
-    pub left_out: Vec<&'static str>,
-}
-
-pub type Outcome = Result<Tally, Difference>;
+pub use self::tester::{Outcome, Tally, Tester};
 
 /// A group of cases: its name, what it tries and what it runs.
 #[derive(Clone, Copy)]
@@ -89,59 +73,45 @@ pub const STREAMS: Group = Group {
     run: streams::all,
 };
 
-pub const GROUPS: [Group; 9] = [
-    FIGURES, REFUSALS, TAILS, SOUNDS, CHUNKS, CONTINUED, LIVE, FILES, STREAMS,
+pub const HOUSE: Group = Group {
+    name: "house",
+    what: "the cleared house unit's sheet, whatever it is given",
+    run: house::all,
+};
+pub const ORDERS: Group = Group {
+    name: "desk orders",
+    what: "every side and band on random sheets, all positions, odd pieces",
+    run: desk::orders::all,
+};
+pub const DESK_REFUSALS: Group = Group {
+    name: "desk refusals",
+    what: "the sheet's numbers ahead of the order's, and streams that fail",
+    run: desk::refusals::all,
+};
+pub const ARGUMENTS: Group = Group {
+    name: "desk arguments",
+    what: "badly written, missing and needless ones",
+    run: desk::arguments::all,
+};
+pub const CHAINS: Group = Group {
+    name: "chains",
+    what: "house, desk and play one after the other",
+    run: chains::all,
+};
+
+pub const GROUPS: [Group; 14] = [
+    FIGURES,
+    REFUSALS,
+    TAILS,
+    SOUNDS,
+    CHUNKS,
+    CONTINUED,
+    LIVE,
+    FILES,
+    STREAMS,
+    HOUSE,
+    ORDERS,
+    DESK_REFUSALS,
+    ARGUMENTS,
+    CHAINS,
 ];
-
-/// The program under test, and how far it is tested.
-pub struct Tester {
-    pub program: Program,
-    /// How many long sounds, and their frames.
-    pub sounds: u64,
-    pub frames: usize,
-    /// How long to wait for what ought to come at once.
-    pub patience: Duration,
-}
-
-impl Tester {
-    /// Runs the program in a new folder that holds this.
-    pub fn run(
-        &self,
-        before: &Contents,
-        given: &Given,
-        tally: &mut Tally,
-    ) -> Result<Seen, Difference> {
-        let folder = Folder::new(before).map_err(|error| format!("no folder: {error}"))?;
-        tally.runs += 1;
-        given::run(&self.program, &folder, given, self.patience)
-    }
-
-    /// Runs it and holds what is seen against what must be.
-    pub fn expect(
-        &self,
-        case: &str,
-        before: &Contents,
-        given: &Given,
-        expected: &Seen,
-        tally: &mut Tally,
-    ) -> Result<(), Difference> {
-        tally.frames += expected.sound.len() as u64 / 4;
-        self.run(before, given, tally)
-            .and_then(|seen| same(expected, &seen))
-            .map_err(|difference| format!("{case}: {difference}"))
-    }
-
-    /// Runs it with nothing wrong but the sheet or the length of these bytes,
-    /// which the input carries.
-    pub fn plain(
-        &self,
-        case: &str,
-        before: &Contents,
-        given: &Given,
-        bytes: &[u8],
-        tally: &mut Tally,
-    ) -> Result<(), Difference> {
-        let expected = expected::run(before, bytes, &mut tally.met);
-        self.expect(case, before, given, &expected, tally)
-    }
-}

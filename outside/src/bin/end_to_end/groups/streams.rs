@@ -65,26 +65,37 @@ impl Test<'_> {
         }
     }
 
-    /// A read fault after so many frames: these are played, and the sheet after
-    /// them is written.
+    /// A read fault after so many bytes: the whole frames are played and the sheet
+    /// after them is written. A tail is told after the fault.
     fn read_faults(&mut self) -> Result<(), Difference> {
-        for (before, frames) in self.folders.iter().zip([[0, 1], [1_000, 10_000]]) {
-            for frames in frames {
-                let bytes = &self.bytes[..4 * frames];
-                let mut expected = expected::run(before, bytes, &mut self.tally.met);
-                expected.errors = b"standard input: Connection reset by peer\n".to_vec();
-                let case = format!("input broken off after {frames} frames");
-                let given = Given::input(Input::BrokenOff(bytes));
-                self.tester
-                    .expect(&case, before, &given, &expected, &mut self.tally)?;
+        let counts = [[0, 4, 1, 7, 4_001], [4_000, 40_000, 3, 6, 40_002]];
+        for (before, counts) in self.folders.clone().iter().zip(counts) {
+            for count in counts {
+                let case = format!("input broken off after {count} bytes");
+                let bytes = self.bytes[..count].to_vec();
+                let fault = b"standard input: Connection reset by peer\n";
+                self.read_fault(&case, before, Input::BrokenOff(&bytes), &bytes, fault)?;
             }
-            let mut expected = expected::run(before, &[], &mut self.tally.met);
-            expected.errors = b"standard input: Is a directory\n".to_vec();
-            let given = Given::input(Input::Folder);
-            self.tester
-                .expect("input a folder", before, &given, &expected, &mut self.tally)?;
+            let fault = b"standard input: Is a directory\n";
+            self.read_fault("input a folder", before, Input::Folder, &[], fault)?;
         }
         Ok(())
+    }
+
+    /// An input that fails after these bytes.
+    fn read_fault(
+        &mut self,
+        case: &str,
+        before: &Contents,
+        input: Input,
+        bytes: &[u8],
+        fault: &[u8],
+    ) -> Result<(), Difference> {
+        let mut expected = expected::run(before, bytes, &mut self.tally.met);
+        expected.errors.splice(..0, fault.iter().copied());
+        let given = Given::input(input);
+        self.tester
+            .expect(case, before, &given, &expected, &mut self.tally)
     }
 
     /// Runs that stop with nothing written, in both folders, by a file and by a
@@ -160,6 +171,7 @@ impl Test<'_> {
         for (closing, line) in [
             ("<&-", "standard input: closed\n"),
             (">&-", "standard output: closed\n"),
+            ("<&- >&-", "standard input: closed\n"),
             ("2>&-", ""),
             ("<&- 2>&-", ""),
             (">&- 2>&-", ""),
@@ -174,8 +186,8 @@ impl Test<'_> {
 pub fn all(tester: &Tester) -> Outcome {
     let mut test = Test::new(tester);
     test.read_faults()?;
+    test.closed()?;
     test.no_room()?;
     test.broken_pipes()?;
-    test.closed()?;
     Ok(test.tally)
 }

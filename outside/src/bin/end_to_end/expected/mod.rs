@@ -1,4 +1,6 @@
-//! What the play program must do, by the independent implementation.
+//! What the programs must do, by the independent implementation.
+
+pub mod desk;
 
 use outside::reference::ACCEPTED;
 use outside::unit::exact::{self, Met};
@@ -6,9 +8,9 @@ use outside::unit::sheet::exact as sheet;
 use outside::unit::sheet::SHEET;
 use outside::unit::{Numbers, PART_OF_A_FRAME};
 
-use super::folder::{and_file, Contents, Entry, NEW_NAME, SHEET_NAME};
-use super::seen::Seen;
-use super::session::Ending;
+use crate::folder::{and_file, Contents, Entry, NEW_NAME, SHEET_NAME};
+use crate::seen::Seen;
+use crate::session::Ending;
 
 /// The sheet in a folder: "A `strip.sht` that can't be opened counts as empty."
 fn sheet_in(before: &Contents) -> &[u8] {
@@ -34,7 +36,7 @@ pub fn line(number: u32) -> String {
     format!("{number}\n")
 }
 
-/// A run with nothing wrong but the sheet or the length of the input.
+/// A run of play with nothing wrong but the sheet or the length of the input.
 pub fn run(before: &Contents, input: &[u8], met: &mut Met) -> Seen {
     let mut numbers = [0; 118];
     let refusal = sheet::read(&mut numbers, sheet_in(before));
