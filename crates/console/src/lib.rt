@@ -1,5 +1,16 @@
-// What the programs say on standard error, and how they see that a read failed.
+// What the programs share: a refusal's line, and reading and writing that says what failed.
+ghost use Prim.Native.Nat.{_≤_};
+ghost use lib.ListN.{length};
+ghost use Rattle.io.specs.Counts.{Counts};
+ghost use Rattle.console.specs.Reads.{Read};
 use refusals::Verdict;
+
+// What reading leaves: the count of bytes at the front of the buffer, whether more may come, and whether a read failed.
+pub struct Received {
+    pub count: usize,
+    pub is_open: bool,
+    pub is_failed: bool,
+}
 
 // A refusal: one line on standard error, its number.
 pub fn refuse(verdict: Verdict) {
@@ -8,10 +19,39 @@ pub fn refuse(verdict: Verdict) {
     io::write_all(libc::STDERR_FILENO, b"\n");
 }
 
-// After `io::read_full`, which stops at the end of the input and at a read that fails: false where one more read fails.
-pub fn is_readable(fd: i32) -> bool {
-    let mut more = [0u8; 1];
-    libc::read(fd, &mut more) >= 0
+// Reads once, behind the bytes that are held at the front of the buffer. Where that fails a message says so, by the name of what is read.
+pub fn receive(fd: i32, name: &[u8], buffer: &mut [u8], held: usize) -> Received
+    requires { ⌜ held ≤ length (now buffer) ⌝ }
+    ensures { λ r. ⌜ Read held (now (buffer .entry)) r (now (buffer .exit)) ⌝ }
+{
+    let room = &mut buffer[held..];
+    let got = libc::read(fd, room);
+    if got < 0 {
+        os::fail(name);
+    }
+    let more = io::count(got, room);
+    Received {
+        count: held + more,
+        is_open: got > 0,
+        is_failed: got < 0,
+    }
+}
+
+// Reads until the buffer is full, the input ends or a read fails. Each read brings a byte at least, so that there are enough of them.
+pub fn receive_all(fd: i32, name: &[u8], buffer: &mut [u8]) -> Received
+    ensures { λ r. ⌜ Counts (r .count) (now (buffer .exit)) ⌝ }
+{
+    let mut received = Received {
+        count: 0,
+        is_open: true,
+        is_failed: false,
+    };
+    let mut reads = buffer.len();
+    while reads > 0 && received.is_open {
+        received = receive(fd, name, buffer, received.count);
+        reads -= 1;
+    }
+    received
 }
 
 // Writes all bytes to standard output. Where that fails a message says so.

@@ -44,11 +44,11 @@ fn say_usage() {
 // Reads the sheet, gives the order, and writes the sheet after it.
 fn read_sheet(side: u32, band: u32, setting: Setting) {
     let mut bytes = [0u8; SHEET_ROOM];
-    let count = io::read_full(libc::STDIN_FILENO, &mut bytes);
-    if !console::is_readable(libc::STDIN_FILENO) {
-        os::fail(b"standard input");
+    let received = console::receive_all(libc::STDIN_FILENO, b"standard input", &mut bytes);
+    if received.is_failed {
         return;
     }
+    let count = received.count;
     let mut sheet = [0u8; SHEET_SIZE];
     let verdict = order(&bytes[..count], side, band, setting, &mut sheet);
     if !refusals::accepted(verdict) {

@@ -1,7 +1,5 @@
 -- The laws of the play program.
---     Pieces   bytes that a read puts behind others
 --     Turns    a turn is the next read of the stream, and turns are one block
 --     Sheets   the sheet that it begins with, and the one that it leaves
-pub mod Pieces
 pub mod Turns
 pub mod Sheets

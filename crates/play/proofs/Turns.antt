@@ -14,9 +14,10 @@ use Rattle.stream.specs.Advance.{tailBytes, advanced, advancedOutput, advancedI
 use Rattle.stream.specs.Claim.{Stream, oneBlock, begun, next, streamed, allOf, Advances, Ready}
 use Rattle.stream.proofs.Cuts.{tail-length}
 use Rattle.stream.proofs.Holds.{block-next, begun-empty, cut-anywhere}
-use Rattle.play.specs.declared.playing.Received.{Received}
+use Rattle.console.specs.declared.Received.{Received}
+use Rattle.console.specs.Reads.{Read}
 use Rattle.play.specs.declared.playing.Progress.{Progress}
-use Rattle.play.specs.Turns.{Read, inHand, CanGoOn, IsSound, Turned, Played}
+use Rattle.play.specs.Turns.{inHand, CanGoOn, IsSound, Turned, Played}
 
 -- ---- one turn
 

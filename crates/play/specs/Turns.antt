@@ -7,15 +7,7 @@ use lib.ListN.{length, take}
 use Rattle.unit.specs.declared.Unit.{Unit}
 use Rattle.unit.specs.Fit.{Fit}
 use Rattle.stream.specs.Claim.{Stream, oneBlock, next, Ready}
-use Rattle.play.specs.declared.playing.Received.{Received}
 use Rattle.play.specs.declared.playing.Progress.{Progress}
-
--- a read puts bytes behind the held ones at the front of the input, and leaves those as they are
-pub record Read (held : ℕ) (input : List ℕ) (r : Received) (input' : List ℕ) : Type 0 where
-  pub bytes : List ℕ
-  pub front-is : take (r .count) input' ≡ take held input ++ bytes
-  pub count-fits : r .count ≤ length input'
-  pub length-is : length input' ≡ length input
 
 -- the stream that the program has in hand, its held bytes at the front of the input. The sound is with whoever took it.
 abbrev pub inHand : Progress → List ℕ → Stream

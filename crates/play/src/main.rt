@@ -23,12 +23,12 @@ fn main() {
 // Reads the sheet from its file, and plays through it.
 fn read_sheet(fd: i32) {
     let mut bytes = [0u8; SHEET_ROOM];
-    let count = io::read_full(fd, &mut bytes);
-    if !console::is_readable(fd) {
-        os::fail(b"strip.sht");
+    let received = console::receive_all(fd, b"strip.sht", &mut bytes);
+    libc::close(fd);
+    if received.is_failed {
         return;
     }
-    libc::close(fd);
+    let count = received.count;
     start(&bytes[..count]);
 }
 

@@ -1,8 +1,6 @@
 // Standard input to standard output, until the input ends.
-ghost use Prim.Native.Nat.{_≤_};
-ghost use lib.ListN.{length};
 ghost use Rattle.stream.specs.Claim.{begun, Ready};
-ghost use Rattle.play.specs.Turns.{Read, CanGoOn, IsSound, Turned, Played};
+ghost use Rattle.play.specs.Turns.{CanGoOn, IsSound, Turned, Played};
 use unit::Unit;
 
 // A stream between two reads: the unit, the count of bytes of a frame that is not whole yet, whether more may come, and whether sound was
@@ -12,12 +10,6 @@ pub struct Progress {
     pub held: usize,
     pub is_open: bool,
     pub is_lost: bool,
-}
-
-// What a read leaves: the count of bytes at the front of the input, held ones and new ones, and whether more may come.
-pub struct Received {
-    pub count: usize,
-    pub is_open: bool,
 }
 
 // Plays until the input ends or fails, or the output fails.
@@ -49,7 +41,7 @@ fn turn(stream: Progress, input: &mut [u8], output: &mut [u8]) -> Progress
     requires { ⌜ CanGoOn stream (now input) (now output) ⌝ }
     ensures { λ r. ⌜ Turned stream (now (input .entry)) r (now (input .exit)) ⌝ }
 {
-    let received = receive(input, stream.held);
+    let received = console::receive(libc::STDIN_FILENO, b"standard input", input, stream.held);
     let count = received.count;
     let unit = stream.unit;
     let advanced = stream::advance(unit, &mut input[..count], output);
@@ -69,21 +61,4 @@ fn send(sound: &[u8]) -> bool
     requires { ⌜ IsSound (now sound) ⌝ }
 {
     console::write_out(sound)
-}
-
-// Reads once, behind the held bytes.
-fn receive(input: &mut [u8], held: usize) -> Received
-    requires { ⌜ held ≤ length (now input) ⌝ }
-    ensures { λ r. ⌜ Read held (now (input .entry)) r (now (input .exit)) ⌝ }
-{
-    let room = &mut input[held..];
-    let got = libc::read(libc::STDIN_FILENO, room);
-    if got < 0 {
-        os::fail(b"standard input");
-    }
-    let more = io::count(got, room);
-    Received {
-        count: held + more,
-        is_open: got > 0,
-    }
 }

@@ -14,8 +14,11 @@ use Rattle.play.proofs.playing.turn.Tie as tie
 use Rattle.play.proofs.playing.turn.Reads as reads
 use Rattle.play.proofs.playing.turn.Lts as lts
 use Rattle.play.proofs.playing.send.Reads as send-reads
-use Rattle.play.proofs.playing.receive.Reads as receive-reads
+use Rattle.console.proofs.receive.Reads as receive-reads
 use Rattle.stream.proofs.advance.Reads as advance-reads
+
+slice-aggregate-receive : tie.Need-slice-aggregate-receive
+slice-aggregate-receive c = search needs
 
 receive-requires : tie.Need-receive-requires
 receive-requires c κs = search needs
@@ -24,7 +27,7 @@ slice-relend-prefix-advance : tie.Need-slice-relend-prefix-advance
 slice-relend-prefix-advance c = search needs
 
 slice-aggregate-advance : tie.Need-slice-aggregate-advance
-slice-aggregate-advance c = sym (length-take-le (c .before .before .before .before .receive .result .count) (c .before .before .before .before .receive .last .0) (c .before .before .before .before .receive .ensures .count-fits))
+slice-aggregate-advance c = sym (length-take-le (c .before .before .before .before .receive .result .count) (c .before .before .before .before .receive .last .1 .1 .0) (c .before .before .before .before .receive .ensures .count-fits))
 
 advance-requires : tie.Need-advance-requires
 advance-requires c κs = search needs
@@ -32,7 +35,7 @@ advance-requires c κs = search needs
 -- what is played fits the output
 module _ (a : lts.After-advance (receive-reads.Asked, receive-reads.Learnt, advance-reads.Asked, advance-reads.Learnt, send-reads.Asked, send-reads.Learnt) reads.Pre reads.Post) where
   abbrev from : lts.Start (receive-reads.Asked, receive-reads.Learnt, advance-reads.Asked, advance-reads.Learnt, send-reads.Asked, send-reads.Learnt) reads.Pre reads.Post
-  from = a .before .before .before .before .before .before .before .before .before .before
+  from = a .before .before .before .before .before .before .before .before .before .before .before
 
   abbrev got : lts.After-receive (receive-reads.Asked, receive-reads.Learnt, advance-reads.Asked, advance-reads.Learnt, send-reads.Asked, send-reads.Learnt) reads.Pre reads.Post
   got = a .before .before .before .before .before .before
@@ -44,7 +47,7 @@ module _ (a : lts.After-advance (receive-reads.Asked, receive-reads.Learnt, adva
         arith,
         ap (λ (v : Advanced). v .whole) (a .advance .ensures .0),
         a .advance .kept .1 .1 .0,
-        length-take-le (got .receive .result .count) (got .receive .last .0) (got .receive .ensures .count-fits),
+        length-take-le (got .receive .result .count) (got .receive .last .1 .1 .0) (got .receive .ensures .count-fits),
         got .receive .ensures .count-fits,
         got .receive .ensures .length-is,
         from .pre .output-room,
@@ -63,7 +66,7 @@ send-requires c κs =
     let a = c .before .before .before .before .before .before in
     let s = from a in
     let g = got a in
-    sounded (s .args .stream) (now (s .args .input)) (g .receive .last .0) (now (s .args .output)) (g .receive .result) (s .pre) (g .receive .ensures)
+    sounded (s .args .stream) (now (s .args .input)) (g .receive .last .1 .1 .0) (now (s .args .output)) (g .receive .result) (s .pre) (g .receive .ensures)
     (a .advance .result) (a .advance .last .1 .1 .0) (a .advance .ensures .0) (a .advance .ensures .1)
 
 same-length : tie.Need-same-length
@@ -74,11 +77,11 @@ same-length-2 c = search needs
 
 returns : tie.Need-returns
 returns c =
-    turned (s .args .stream) (now (s .args .input)) (g .receive .last .0) (now (s .args .output)) (g .receive .result) (s .pre) (g .receive .ensures)
+    turned (s .args .stream) (now (s .args .input)) (g .receive .last .1 .1 .0) (now (s .args .output)) (g .receive .result) (s .pre) (g .receive .ensures)
     (a .advance .result) (a .advance .last .1 .0) _ _ (a .advance .ensures .0) (a .advance .ensures .2) refl refl
   where
     s : lts.Start (receive-reads.Asked, receive-reads.Learnt, advance-reads.Asked, advance-reads.Learnt, send-reads.Asked, send-reads.Learnt) reads.Pre reads.Post
-    s = c .before .before .before .before .before .before .before .before .before .before .before .before .before .before .before .before .before .before
+    s = c .before .before .before .before .before .before .before .before .before .before .before .before .before .before .before .before .before .before .before
 
     g : lts.After-receive (receive-reads.Asked, receive-reads.Learnt, advance-reads.Asked, advance-reads.Learnt, send-reads.Asked, send-reads.Learnt) reads.Pre reads.Post
     g = c .before .before .before .before .before .before .before .before .before .before .before .before .before .before
@@ -90,6 +93,7 @@ pub turn-spec : {M : Type 1} → statement M
 turn-spec =
     tie.close
     (tie.spec
+    slice-aggregate-receive
     receive-requires
     slice-relend-prefix-advance
     slice-aggregate-advance

@@ -1,0 +1,23 @@
+-- Bytes that a read puts behind the held ones.
+use mathlib.Core.Path.{_≡_, sym, ap, _∙_}
+use mathlib.Core.List.{List, _++_}
+use Prim.Native.Nat.{ℕ, _+_, _≤_}
+use native.Mathlib.Omega.{arith}
+use lib.ListN.{length, take, length-append}
+use lib.Seq.{length-take-le, take-append-add, take-append-le}
+use Rattle.console.specs.declared.Received.{Received}
+use Rattle.console.specs.Reads.{Read}
+
+-- the part behind the held bytes is replaced, and so many of its bytes count
+pub read-behind : (held more : ℕ) (buffer part rest : List ℕ) (r : Received) → held ≤ length buffer → more ≤ length part → r .count ≡ held + more → length (take held buffer ++ (part ++ rest)) ≡ length buffer → Read held buffer r (take held buffer ++ (part ++ rest))
+read-behind held more buffer part rest r h k e same =
+    record {
+      bytes = take more part;
+      front-is =
+          ap (λ (n : ℕ). take n (take held buffer ++ (part ++ rest))) (e ∙ ap (λ (n : ℕ). n + more) (sym (length-take-le held buffer h)))
+          ∙ take-append-add (take held buffer) (part ++ rest) more
+          ∙ ap (λ (l : List ℕ). take held buffer ++ l) (take-append-le more part rest k);
+      count-fits =
+          omega (arith, e, length-append (take held buffer) (part ++ rest), length-append part rest, length-take-le held buffer h);
+      length-is = same;
+    }
