@@ -25,8 +25,10 @@ impl Actor {
         };
         self.sheet = bytes;
         match taken {
-            Err(error) if !self.is(Fault::DeskFolderAsEmpty) => Err(told("standard input", &error)),
-            _ => Ok(()),
+            Err(_) if self.is(Fault::DeskFolderAsEmpty) => Ok(()),
+            Err(_) if self.is(Fault::DeskLateFault) && self.sheet.len() == SHEET => Ok(()),
+            Err(error) => Err(told("standard input", &error)),
+            Ok(()) => Ok(()),
         }
     }
 

@@ -69,6 +69,7 @@ pub enum Fault {
     DeskOrderFirst,
     DeskSheetAfterRefusal,
     DeskFolderAsEmpty,
+    DeskLateFault,
     DeskSilent,
     DeskUsageOnOutput,
     DeskUsageLate,
@@ -109,7 +110,7 @@ const fn wrong(
 pub const RIGHT: &str = "right";
 
 #[rustfmt::skip]
-pub const WRONG: [Wrong; 74] = [
+pub const WRONG: [Wrong; 75] = [
     wrong(Fault::TailAsFrame, "tail-as-frame", "a tail is filled with zeros and played", &[TAILS, CHUNKS]),
     wrong(Fault::TailDropped, "tail-dropped", "a tail is not told", &[TAILS, CHUNKS, LIVE]),
     wrong(Fault::TailUnsaved, "tail-unsaved", "no sheet is written after a tail", &[TAILS]),
@@ -171,6 +172,7 @@ pub const WRONG: [Wrong; 74] = [
     wrong(Fault::DeskOrderFirst, "desk-order-first", "the order's number comes ahead of the sheet's", &[DESK_REFUSALS]),
     wrong(Fault::DeskSheetAfterRefusal, "desk-sheet-after-refusal", "desk writes the sheet after a refusal", &[DESK_REFUSALS]),
     wrong(Fault::DeskFolderAsEmpty, "desk-folder-as-empty", "an input that desk can't read counts as empty", &[DESK_REFUSALS]),
+    wrong(Fault::DeskLateFault, "desk-late-fault", "desk does not see that the input fails behind a whole sheet", &[DESK_REFUSALS]),
     wrong(Fault::DeskSilent, "desk-silent", "desk does not tell that its sheet can't be written", &[DESK_REFUSALS]),
     wrong(Fault::DeskUsageOnOutput, "desk-usage-on-output", "desk's usage goes to standard output", &[ARGUMENTS]),
     wrong(Fault::DeskUsageLate, "desk-usage-late", "desk reads the sheet ahead of its arguments", &[ARGUMENTS]),

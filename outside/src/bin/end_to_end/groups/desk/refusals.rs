@@ -101,6 +101,11 @@ impl Desk<'_> {
             self.expect(&order, &Given::input(Input::Folder), &expected)?;
         }
         let sheet = self.maker.sheet(4);
+        for count in [0, 500, sheet.len()] {
+            let expected = told("standard input: Connection reset by peer\n");
+            let input = Input::BrokenOff(&sheet[..count]);
+            self.expect(&orders[0], &Given::input(input), &expected)?;
+        }
         let given = Given {
             output: Output::Full,
             ..Given::input(Input::File(&sheet))
