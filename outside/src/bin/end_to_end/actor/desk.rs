@@ -26,7 +26,7 @@ impl Actor {
         self.sheet = bytes;
         match taken {
             Err(_) if self.is(Fault::DeskFolderAsEmpty) => Ok(()),
-            Err(_) if self.is(Fault::DeskLateFault) && self.sheet.len() == SHEET => Ok(()),
+            Err(_) if self.is(Fault::DeskUnseen) && self.sheet.len() == SHEET => Ok(()),
             Err(error) => Err(told("standard input", &error)),
             Ok(()) => Ok(()),
         }
