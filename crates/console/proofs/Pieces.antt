@@ -1,16 +1,21 @@
 -- Bytes that a read puts behind the held ones.
 use mathlib.Core.Path.{_≡_, sym, ap, _∙_}
+use mathlib.Core.Bool.{true}
 use mathlib.Core.List.{List, _++_}
-use Prim.Native.Nat.{ℕ, _+_, _≤_}
+use Prim.Native.Nat.{ℕ, _+_, _≤_, _<_}
 use native.Mathlib.Omega.{arith}
 use lib.ListN.{length, take, length-append}
 use lib.Seq.{length-take-le, take-append-add, take-append-le}
+use lib.IntN.{ℤ, pos, negsuc}
+use lib.Signed.{_<ℤ_}
+use Rattle.integers.proofs.Parts.{linear}
+use Rattle.io.specs.Counts.{clamped}
 use Rattle.console.specs.declared.Received.{Received}
 use Rattle.console.specs.Reads.{Read}
 
 -- the part behind the held bytes is replaced, and so many of its bytes count
-pub read-behind : (held more : ℕ) (buffer part rest : List ℕ) (r : Received) → held ≤ length buffer → more ≤ length part → r .count ≡ held + more → length (take held buffer ++ (part ++ rest)) ≡ length buffer → Read held buffer r (take held buffer ++ (part ++ rest))
-read-behind held more buffer part rest r h k e same =
+pub read-behind : (held more : ℕ) (buffer part rest : List ℕ) (r : Received) → held ≤ length buffer → more ≤ length part → r .count ≡ held + more → length (take held buffer ++ (part ++ rest)) ≡ length buffer → (r .«is_open» ≡ true → held < length buffer → 0 < more) → Read held buffer r (take held buffer ++ (part ++ rest))
+read-behind held more buffer part rest r h k e same brings =
     record {
       bytes = take more part;
       front-is =
@@ -20,4 +25,10 @@ read-behind held more buffer part rest r h k e same =
       count-fits =
           omega (arith, e, length-append (take held buffer) (part ++ rest), length-append part rest, length-take-le held buffer h);
       length-is = same;
+      comes = λ is-open room. omega (arith, e, brings is-open room);
     }
+
+-- a count above zero, within the room, is above zero
+pub some-came : (got : ℤ) (room : ℕ) → pos 0 <ℤ got → 0 < room → 0 < clamped got room
+some-came (pos n) room h k = omega (linear, arith)
+some-came (negsuc n) room h k = absurd (omega linear)

@@ -1,8 +1,9 @@
 -- A read. No contract can say which bytes a read of the C library brings; so it is said that there are bytes of which it holds. Definitions
 -- only.
 use mathlib.Core.Path.{_≡_}
+use mathlib.Core.Bool.{true}
 use mathlib.Core.List.{List, _++_}
-use Prim.Native.Nat.{ℕ, _≤_}
+use Prim.Native.Nat.{ℕ, _≤_, _<_}
 use lib.ListN.{length, take}
 use Rattle.console.specs.declared.Received.{Received}
 
@@ -12,3 +13,5 @@ pub record Read (held : ℕ) (buffer : List ℕ) (r : Received) (buffer' : List 
   pub front-is : take (r .count) buffer' ≡ take held buffer ++ bytes
   pub count-fits : r .count ≤ length buffer'
   pub length-is : length buffer' ≡ length buffer
+  -- where more may come, a byte has come, if there was room for one
+  pub comes : r .«is_open» ≡ true → held < length buffer → held < r .count
