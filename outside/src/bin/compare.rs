@@ -2,12 +2,12 @@
 //! every answer agrees and every wrong implementation is found out.
 
 use std::process::ExitCode;
-use std::time::Instant;
 
 use outside::checks::groups::{
     Group, DISTANCE, LISTS_OF_CALLS, MANY_SHEETS, ORDER_GROUPS, PREVIEW_GROUPS, SECTION_GROUPS,
     SHEET_GROUPS, SOUND_GROUPS, UNIT_GROUPS,
 };
+use outside::checks::report::report;
 use outside::checks::{
     arithmetic, bands, big_numbers, block_refusals, blocks, call_lists, cuts, distance_lists,
     factors, fitness, levels, loads, one_step, orders, refusals, steps,
@@ -26,57 +26,40 @@ use outside::subject::{Fast, Library, Subject};
 const NEAR: f64 = 0.9;
 
 fn main() -> ExitCode {
-    let begun = Instant::now();
-    print_seeds();
-    let result = everything();
-    println!("{:.1} seconds", begun.elapsed().as_secs_f64());
-    match result {
-        Ok(()) => {
-            println!("All agree.");
-            ExitCode::SUCCESS
-        }
-        Err(difference) => {
-            println!("DIFFERENCE: {difference}");
-            ExitCode::FAILURE
-        }
-    }
+    report(&SEEDS, "All agree.", everything)
 }
 
-fn print_seeds() {
-    let seeds = [
-        ("nearest", arithmetic::NEAREST_SEED),
-        ("limit", arithmetic::LIMIT_SEED),
-        ("bands", bands::BANDS_SEED),
-        ("lists", steps::LISTS_SEED),
-        ("refused calls", refusals::REFUSALS_SEED),
-        ("levels", levels::LEVELS_SEED),
-        ("loadings", loads::LOADS_SEED),
-        ("fitness", fitness::FITNESS_SEED),
-        ("blocks", blocks::BLOCKS_SEED),
-        ("frames", blocks::FRAMES_SEED),
-        ("cuts", cuts::CUTS_SEED),
-        ("refused blocks", block_refusals::BLOCK_REFUSALS_SEED),
-        ("orders", orders::ORDERS_SEED),
-        ("factors", factors::FACTORS_SEED),
-        ("lists of calls", call_lists::CALLS_SEED),
-        ("distance", distance_lists::DISTANCE_SEED),
-        ("sheets", sheets::SHEETS_SEED),
-        ("many sheets", sheets::MANY_SEED),
-        ("sheet fields", sheet_fields::FIELDS_SEED),
-        ("sheet lines", sheet_lines::LINES_SEED),
-        ("damaged sheets", sheet_damage::DAMAGE_SEED),
-        ("sheet lengths", sheet_lengths::LENGTHS_SEED),
-        ("lists through sheets", sheet_lists::SHEET_LISTS_SEED),
-        ("previews", previews::PREVIEWS_SEED),
-        ("preview lengths", preview_lengths::PREVIEW_LENGTHS_SEED),
-        ("refused previews", preview_refusals::PREVIEW_REFUSALS_SEED),
-        ("preview and section", previews::PREVIEW_SECTION_SEED),
-        ("big numbers", big_numbers::BIG_SEED),
-        ("one step", one_step::ONE_STEP_SEED),
-    ];
-    let seeds = seeds.map(|(name, seed)| format!("{name} {seed:#x}"));
-    println!("seeds: {}", seeds.join(", "));
-}
+const SEEDS: [(&str, u64); 29] = [
+    ("nearest", arithmetic::NEAREST_SEED),
+    ("limit", arithmetic::LIMIT_SEED),
+    ("bands", bands::BANDS_SEED),
+    ("lists", steps::LISTS_SEED),
+    ("refused calls", refusals::REFUSALS_SEED),
+    ("levels", levels::LEVELS_SEED),
+    ("loadings", loads::LOADS_SEED),
+    ("fitness", fitness::FITNESS_SEED),
+    ("blocks", blocks::BLOCKS_SEED),
+    ("frames", blocks::FRAMES_SEED),
+    ("cuts", cuts::CUTS_SEED),
+    ("refused blocks", block_refusals::BLOCK_REFUSALS_SEED),
+    ("orders", orders::ORDERS_SEED),
+    ("factors", factors::FACTORS_SEED),
+    ("lists of calls", call_lists::CALLS_SEED),
+    ("distance", distance_lists::DISTANCE_SEED),
+    ("sheets", sheets::SHEETS_SEED),
+    ("many sheets", sheets::MANY_SEED),
+    ("sheet fields", sheet_fields::FIELDS_SEED),
+    ("sheet lines", sheet_lines::LINES_SEED),
+    ("damaged sheets", sheet_damage::DAMAGE_SEED),
+    ("sheet lengths", sheet_lengths::LENGTHS_SEED),
+    ("lists through sheets", sheet_lists::SHEET_LISTS_SEED),
+    ("previews", previews::PREVIEWS_SEED),
+    ("preview lengths", preview_lengths::PREVIEW_LENGTHS_SEED),
+    ("refused previews", preview_refusals::PREVIEW_REFUSALS_SEED),
+    ("preview and section", previews::PREVIEW_SECTION_SEED),
+    ("big numbers", big_numbers::BIG_SEED),
+    ("one step", one_step::ONE_STEP_SEED),
+];
 
 fn everything() -> Result<(), Difference> {
     let numbers =

@@ -25,6 +25,7 @@ pub mod preview_lengths;
 pub mod preview_refusals;
 pub mod previews;
 pub mod refusals;
+pub mod report;
 pub mod same_block;
 pub mod same_order;
 pub mod same_preview;

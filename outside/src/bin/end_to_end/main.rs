@@ -24,8 +24,9 @@ use std::ffi::OsString;
 use std::os::unix::ffi::OsStrExt;
 use std::path::Path;
 use std::process::ExitCode;
-use std::time::{Duration, Instant};
+use std::time::Duration;
 
+use outside::checks::report::report;
 use outside::checks::Difference;
 
 use self::groups::{
@@ -68,42 +69,24 @@ fn usage() -> ExitCode {
     ExitCode::FAILURE
 }
 
-/// Runs it, and tells how it went and how long it took.
 fn told(run: impl FnOnce() -> Result<(), Difference>) -> ExitCode {
-    let begun = Instant::now();
-    print_seeds();
-    let result = run();
-    println!("{:.1} seconds", begun.elapsed().as_secs_f64());
-    match result {
-        Ok(()) => {
-            println!("All is right.");
-            ExitCode::SUCCESS
-        }
-        Err(difference) => {
-            println!("DIFFERENCE: {difference}");
-            ExitCode::FAILURE
-        }
-    }
+    report(&SEEDS, "All is right.", run)
 }
 
-fn print_seeds() {
-    let seeds = [
-        ("refused sheets", refusals::SEED),
-        ("tails", tails::SEED),
-        ("sounds", sounds::SEED),
-        ("chunks", chunks::SEED),
-        ("continued", continued::SEED),
-        ("live", live::SEED),
-        ("files", files::SEED),
-        ("streams", streams::SEED),
-        ("desk orders", desk::orders::SEED),
-        ("desk refusals", desk::refusals::SEED),
-        ("desk arguments", desk::arguments::SEED),
-        ("chains", chains::SEED),
-    ];
-    let seeds = seeds.map(|(name, seed)| format!("{name} {seed:#x}"));
-    println!("seeds: {}", seeds.join(", "));
-}
+const SEEDS: [(&str, u64); 12] = [
+    ("refused sheets", refusals::SEED),
+    ("tails", tails::SEED),
+    ("sounds", sounds::SEED),
+    ("chunks", chunks::SEED),
+    ("continued", continued::SEED),
+    ("live", live::SEED),
+    ("files", files::SEED),
+    ("streams", streams::SEED),
+    ("desk orders", desk::orders::SEED),
+    ("desk refusals", desk::refusals::SEED),
+    ("desk arguments", desk::arguments::SEED),
+    ("chains", chains::SEED),
+];
 
 /// Runs every group and prints a line for each; one that differs doesn't keep the
 /// others from being run.
