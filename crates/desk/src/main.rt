@@ -11,9 +11,7 @@ use orders::Setting;
 use refusals::Verdict;
 
 // One byte more than a sheet has, so that a longer one shows.
-const SHEET_ROOM: usize = 1129;
-
-const SHEET_SIZE: usize = 1128;
+const SHEET_ROOM: usize = sheet::SHEET_SIZE + 1;
 
 fn main() {
     let side = arguments::number(1);
@@ -49,7 +47,7 @@ fn read_sheet(side: u32, band: u32, setting: Setting) {
         return;
     }
     let count = received.count;
-    let mut sheet = [0u8; SHEET_SIZE];
+    let mut sheet = [0u8; sheet::SHEET_SIZE];
     let verdict = order(&bytes[..count], side, band, setting, &mut sheet);
     if !refusals::accepted(verdict) {
         console::refuse(verdict);

@@ -8,7 +8,7 @@ mod saving;
 use refusals::Verdict;
 
 // One byte more than a sheet has, so that a longer file shows.
-const SHEET_ROOM: usize = 1129;
+const SHEET_ROOM: usize = sheet::SHEET_SIZE + 1;
 
 fn main() {
     let fd = os::open_read(b"strip.sht");

@@ -39,7 +39,7 @@ fn is_own(fd: i32) -> bool
 pub fn save(unit: Unit)
     requires { ⌜ Fit unit ⌝ }
 {
-    let mut bytes = [0u8; 1128];
+    let mut bytes = [0u8; sheet::SHEET_SIZE];
     let sheet = writing::write(unit, &mut bytes);
     if !store(sheet) {
         os::unlink(&PART);

@@ -38,13 +38,13 @@ fn main() {
     let set = SET;
     let loaded = loading::load(&set);
     let cleared = loaded.unit;
-    let mut paper = [0u8; 1128];
+    let mut paper = [0u8; sheet::SHEET_SIZE];
     let part = writing::write(cleared, &mut paper);
     io::write_all(1, part);
     let mut sound = [0u8; 4];
     let played = blocks::play(cleared, &[232, 3, 0, 0], &mut sound);
     let after = played.unit;
-    let mut sheet = [0u8; 1128];
+    let mut sheet = [0u8; sheet::SHEET_SIZE];
     writing::fill(after, &mut sheet);
     io::write_all(1, &sheet);
     let read = reading::read(&sheet, cleared);
