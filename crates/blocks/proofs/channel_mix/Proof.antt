@@ -67,9 +67,6 @@ module _ (c : lts.After-sample (sample-reads.Asked, sample-reads.Learnt, channel
   unfolding channelFrame
   after-mix = le-trans (mix-size after x-size (after-fit .sections)) (lit≤ tt)
 
-sample-requires : tie.Need-sample-requires
-sample-requires c κs = search needs
-
 mul-x : tie.Need-mul-x
 mul-x c = binary-need _*ℤ_ (literal 256) (Sample c) (x-fits c)
 
@@ -105,7 +102,7 @@ pub channel-mix-spec : {M : Type 1} → statement M
 channel-mix-spec =
     tie.close
     (tie.spec
-    sample-requires
+    (λ c κs. search needs)
     mul-x
     channel-frame-requires
     returns)

@@ -6,9 +6,6 @@ use borrow.Author.Needs.{needs}
 use Rattle.blocks.proofs.check_block.Statement.{statement}
 use Rattle.blocks.proofs.check_block.Tie as tie
 
-is-fit-requires : tie.Need-is-fit-requires
-is-fit-requires c κs = search needs
-
 returns : tie.Need-returns
 unfolding blockVerdict
 returns c = sym (simp (sym (c .before .is-fit .ensures) ∙ not-true _ (c .if1 .taken)))
@@ -28,4 +25,4 @@ returns-4 c =
     sym (simp (sym (c .before .before .before .is-fit .ensures) ∙ not-false _ (c .before .before .if1 .left), eq-eqb _ _ (c .before .if2 .left), le-leb _ _ (c .if3 .left)))
 
 pub check-block-spec : {M : Type 1} → statement M
-check-block-spec = tie.close (tie.spec is-fit-requires returns returns-2 returns-3 returns-4)
+check-block-spec = tie.close (tie.spec (λ c κs. search needs) returns returns-2 returns-3 returns-4)

@@ -33,17 +33,8 @@ module _ (c : lts.After-accepted (check-block-reads.Asked, check-block-reads.Lea
   accepted-is : isAccepted verdict ≡ c .accepted .result
   accepted-is = sym (c .accepted .ensures ∙ ap isAccepted verdict-is)
 
-check-block-requires : tie.Need-check-block-requires
-check-block-requires c κs = search needs
-
-accepted-requires : tie.Need-accepted-requires
-accepted-requires c κs = search needs
-
 run-requires : tie.Need-run-requires
 run-requires c κs = accepted-is (c .before .before .before .before .before) ∙ c .before .before .before .before .if1 .taken
-
-same-length : tie.Need-same-length
-same-length c = search needs
 
 returns : tie.Need-returns
 unfolding blockPlayed blockOutput
@@ -93,4 +84,4 @@ returns-2 c = (
 pub play-spec : {M : Type 1} → statement M
 play-spec =
     tie.close
-    (tie.spec check-block-requires accepted-requires run-requires same-length returns returns-2)
+    (tie.spec (λ c κs. search needs) (λ c κs. search needs) run-requires (λ c. search needs) returns returns-2)

@@ -43,24 +43,6 @@ cast-bits c =
     subst (λ (z : ℤ). T (nonNeg z) × Fits w32 (natAbs z)) (sym (Raised c .reads))
     (yes-nonNeg (low c), omega (arith, abs-le (raised c) 131072 (omega (linear, low c)) (high c)))
 
-cast-output : tie.Need-cast-output
-cast-output c = search needs
-
-slice-write-output : tie.Need-slice-write-output
-slice-write-output c = search needs
-
-cast-output-2 : tie.Need-cast-output-2
-cast-output-2 c = search needs
-
-add-output : tie.Need-add-output
-add-output c = search needs
-
-slice-write-output-2 : tie.Need-slice-write-output-2
-slice-write-output-2 c = search needs
-
-same-length : tie.Need-same-length
-same-length c = search needs
-
 returns : tie.Need-returns
 unfolding bitsOf
 returns c =
@@ -72,10 +54,10 @@ put-sample-spec =
     (tie.spec
     add-bits
     cast-bits
-    cast-output
-    slice-write-output
-    cast-output-2
-    add-output
-    slice-write-output-2
-    same-length
+    (λ c. search needs)
+    (λ c. search needs)
+    (λ c. search needs)
+    (λ c. search needs)
+    (λ c. search needs)
+    (λ c. search needs)
     returns)

@@ -53,9 +53,6 @@ put-sample-requires c κs = (
   subst (λ (z : ℤ). z ≤ℤ sampleHigh) (sym (heard-is (c .before))) (sound-high (s (c .before) .args .volume) (s (c .before) .args .m)),
 )
 
-same-length : tie.Need-same-length
-same-length c = search needs
-
 returns : tie.Need-returns
 returns c = c .before .before .put-sample .ensures ∙ ap (putSample (now (s a .args .output)) (s a .args .at)) (heard-is a)
   where
@@ -63,4 +60,4 @@ returns c = c .before .before .put-sample .ensures ∙ ap (putSample (now (s a .
     a = c .before .before .before .before
 
 pub put-sound-spec : {M : Type 1} → statement M
-put-sound-spec = tie.close (tie.spec sound-requires put-sample-requires same-length returns)
+put-sound-spec = tie.close (tie.spec sound-requires put-sample-requires (λ c. search needs) returns)

@@ -65,21 +65,6 @@ module _ (c : lts.After-channel-numbers2 (band-numbers-reads.Asked, band-numbers
       })
       ∙ ap (λ (l : List Channel). unitOf (s .args .volume) (s .args .bands) l) (tabulate-all (s .args .t3) zeroChannel 2 (omega arith))
 
-band-numbers-requires : tie.Need-band-numbers-requires
-band-numbers-requires c κs = search needs
-
-array-copy-out-first : tie.Need-array-copy-out-first
-array-copy-out-first c = search needs
-
-array-copy-out-second : tie.Need-array-copy-out-second
-array-copy-out-second c = search needs
-
-channel-numbers-requires : tie.Need-channel-numbers-requires
-channel-numbers-requires c κs = search needs
-
-channel-numbers-requires-2 : tie.Need-channel-numbers-requires-2
-channel-numbers-requires-2 c κs = search needs
-
 frames-requires : tie.Need-frames-requires
 frames-requires c κs =
     record {
@@ -92,15 +77,6 @@ frames-requires c κs =
   where
     p : lts.After-channel-numbers2 (band-numbers-reads.Asked, band-numbers-reads.Learnt, channel-numbers-reads.Asked, channel-numbers-reads.Learnt, frames-reads.Asked, frames-reads.Learnt, channel-of-reads.Asked, channel-of-reads.Learnt) reads.Pre reads.Post
     p = c .before .before .before .before
-
-channel-of-requires : tie.Need-channel-of-requires
-channel-of-requires c κs = search needs
-
-channel-of-requires-2 : tie.Need-channel-of-requires-2
-channel-of-requires-2 c κs = search needs
-
-same-length : tie.Need-same-length
-same-length c = search needs
 
 returns : tie.Need-returns
 returns c =
@@ -128,13 +104,13 @@ pub run-spec : {M : Type 1} → statement M
 run-spec =
     tie.close
     (tie.spec
-    band-numbers-requires
-    array-copy-out-first
-    array-copy-out-second
-    channel-numbers-requires
-    channel-numbers-requires-2
+    (λ c κs. search needs)
+    (λ c. search needs)
+    (λ c. search needs)
+    (λ c κs. search needs)
+    (λ c κs. search needs)
     frames-requires
-    channel-of-requires
-    channel-of-requires-2
-    same-length
+    (λ c κs. search needs)
+    (λ c κs. search needs)
+    (λ c. search needs)
     returns)

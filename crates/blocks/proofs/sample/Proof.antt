@@ -45,17 +45,8 @@ module _ (c : lts.After-shared-slice-known2 reads.Pre reads.Post) where
       (omega (linear, (var (pos bits) ⊖ var (pos 65536)) .tie))
       (omega (linear, (var (pos bits) ⊖ var (pos 65536)) .tie, few))
 
-shared-slice-read-bits : tie.Need-shared-slice-read-bits
-shared-slice-read-bits c = search needs
-
 cast-bits : tie.Need-cast-bits
 cast-bits c = omega (arith, c .shared-slice-known .given (c .before .args .at))
-
-add-bits : tie.Need-add-bits
-add-bits c = search needs
-
-shared-slice-read-bits-2 : tie.Need-shared-slice-read-bits-2
-shared-slice-read-bits-2 c = search needs
 
 cast-bits-2 : tie.Need-cast-bits-2
 cast-bits-2 c = omega (arith, few c)
@@ -65,9 +56,6 @@ mul-bits c = omega (arith, few c)
 
 add-bits-2 : tie.Need-add-bits-2
 add-bits-2 c = omega (arith, few c)
-
-cast-result : tie.Need-cast-result
-cast-result c = search needs
 
 returns : tie.Need-returns
 unfolding signed
@@ -89,14 +77,14 @@ pub sample-spec : {M : Type 1} → statement M
 sample-spec =
     tie.close
     (tie.spec
-    shared-slice-read-bits
+    (λ c. search needs)
     cast-bits
-    add-bits
-    shared-slice-read-bits-2
+    (λ c. search needs)
+    (λ c. search needs)
     cast-bits-2
     mul-bits
     add-bits-2
-    cast-result
+    (λ c. search needs)
     returns
     cast-result-2
     sub-result

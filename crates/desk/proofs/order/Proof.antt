@@ -18,21 +18,6 @@ use Rattle.reading.proofs.read.Reads as read-reads
 use Rattle.refusals.proofs.accepted.Reads as accepted-reads
 use Rattle.writing.proofs.fill.Reads as fill-reads
 
-house-set-requires : tie.Need-house-set-requires
-house-set-requires c κs = search needs
-
-slice-aggregate-load : tie.Need-slice-aggregate-load
-slice-aggregate-load c = search needs
-
-load-requires : tie.Need-load-requires
-load-requires c κs = search needs
-
-read-requires : tie.Need-read-requires
-read-requires c κs = search needs
-
-accepted-requires : tie.Need-accepted-requires
-accepted-requires c κs = search needs
-
 returns : tie.Need-returns
 returns c =
     refused (now (s .args .bytes)) (s .args .side) (s .args .band) (s .args .setting) _ (r .read .result) (r .read .ensures) (now (s .args .sheet))
@@ -43,18 +28,6 @@ returns c =
 
     s : lts.Start (house-set-reads.Asked, house-set-reads.Learnt, load-reads.Asked, load-reads.Learnt, read-reads.Asked, read-reads.Learnt, accepted-reads.Asked, accepted-reads.Learnt, order-reads.Asked, order-reads.Learnt, fill-reads.Asked, fill-reads.Learnt) reads.Pre reads.Post
     s = r .before .before .before .before .before .before .before
-
-order-requires : tie.Need-order-requires
-order-requires c κs = search needs
-
-accepted-requires-2 : tie.Need-accepted-requires-2
-accepted-requires-2 c κs = search needs
-
-fill-requires : tie.Need-fill-requires
-fill-requires c κs = search needs
-
-same-length : tie.Need-same-length
-same-length c = search needs
 
 -- the order to an accepted sheet's unit
 module _ (c : lts.After-order (house-set-reads.Asked, house-set-reads.Learnt, load-reads.Asked, load-reads.Learnt, read-reads.Asked, read-reads.Learnt, accepted-reads.Asked, accepted-reads.Learnt, order-reads.Asked, order-reads.Learnt, fill-reads.Asked, fill-reads.Learnt) reads.Pre reads.Post) where
@@ -95,15 +68,15 @@ pub order-spec : {M : Type 1} → statement M
 order-spec =
     tie.close
     (tie.spec
-    house-set-requires
-    slice-aggregate-load
-    load-requires
-    read-requires
-    accepted-requires
+    (λ c κs. search needs)
+    (λ c. search needs)
+    (λ c κs. search needs)
+    (λ c κs. search needs)
+    (λ c κs. search needs)
     returns
-    order-requires
-    accepted-requires-2
-    fill-requires
-    same-length
+    (λ c κs. search needs)
+    (λ c κs. search needs)
+    (λ c κs. search needs)
+    (λ c. search needs)
     returns-2
     returns-3)

@@ -82,12 +82,6 @@ module _ (s : lts.Start (turn-reads.Asked, turn-reads.Learnt, round-near-reads.A
   total-fits : (b : ℕ) → b ≤ bandCount → SFits w64 (totalOf bands l X b)
   total-fits b h = below-fits (total-size bands l X frames b h) tt
 
-element-copy-out-x1 : tie.Need-element-copy-out-x1 Inv-loop μ-loop
-element-copy-out-x1 c = search needs
-
-element-copy-out-x2 : tie.Need-element-copy-out-x2 Inv-loop μ-loop
-element-copy-out-x2 c = search needs
-
 mul-total : tie.Need-mul-total Inv-loop μ-loop
 mul-total c = result-need product (Power (c .before .before)) (Input (c .before .before)) tt
 
@@ -187,12 +181,6 @@ module _ (c : lts.After-loop (turn-reads.Asked, turn-reads.Learnt, round-near-re
       all : c .before .loop .b ≡ bandCount
       all = omega (arith, c .before .loop .inv .most, c .loop-test .left)
 
-element-set-from-x1 : tie.Need-element-set-from-x1 Inv-loop μ-loop
-element-set-from-x1 c = search needs
-
-element-set-from-x : tie.Need-element-set-from-x Inv-loop μ-loop
-element-set-from-x c = search needs
-
 round-near-requires : tie.Need-round-near-requires Inv-loop μ-loop
 round-near-requires c κs =
     record {
@@ -231,8 +219,8 @@ channel-frame-spec =
     (tie.spec
     Inv-loop
     μ-loop
-    element-copy-out-x1
-    element-copy-out-x2
+    (λ c. search needs)
+    (λ c. search needs)
     mul-total
     loop-holds
     turn-requires
@@ -240,7 +228,7 @@ channel-frame-spec =
     add-b
     loop-less
     loop-again
-    element-set-from-x1
-    element-set-from-x
+    (λ c. search needs)
+    (λ c. search needs)
     round-near-requires
     returns)

@@ -26,9 +26,6 @@ kept v e = limit-inside wordLow wordHigh v (within-bounds wordLow wordHigh v e .
 word-is : (c : lts.After-in-range (in-range-reads.Asked, in-range-reads.Learnt, saturate-reads.Asked, saturate-reads.Learnt) reads.Pre reads.Post) → isWord (c .before .args .rounded) ≡ c .in-range .result
 word-is c = sym (c .in-range .ensures ∙ ap isWord (toZ-ofZ (c .before .fits .rounded)))
 
-in-range-requires : tie.Need-in-range-requires
-in-range-requires c κs = search needs
-
 returns : tie.Need-returns
 unfolding marked
 returns c = (
@@ -38,12 +35,6 @@ returns c = (
   where
     inside : isWord (c .before .before .args .rounded) ≡ true
     inside = word-is (c .before) ∙ c .if1 .taken
-
-element-set-of-channel : tie.Need-element-set-of-channel
-element-set-of-channel c = search needs
-
-saturate-requires : tie.Need-saturate-requires
-saturate-requires c κs = search needs
 
 returns-2 : tie.Need-returns-2
 unfolding marked
@@ -57,4 +48,4 @@ returns-2 c = (
 pub limit-word-spec : {M : Type 1} → statement M
 limit-word-spec =
     tie.close
-    (tie.spec in-range-requires returns element-set-of-channel saturate-requires returns-2)
+    (tie.spec (λ c κs. search needs) returns (λ c. search needs) (λ c κs. search needs) returns-2)

@@ -12,45 +12,6 @@ use Rattle.engine.proofs.put_section.Tie as tie
 use Rattle.engine.proofs.put_section.Reads as reads
 use Rattle.engine.proofs.put_section.Lts as lts
 
-mul-at : tie.Need-mul-at
-mul-at c = search needs
-
-add-at : tie.Need-add-at
-add-at c = search needs
-
-mul-y1 : tie.Need-mul-y1
-mul-y1 c = search needs
-
-element-set-from-y1 : tie.Need-element-set-from-y1
-element-set-from-y1 c = search needs
-
-add-y2 : tie.Need-add-y2
-add-y2 c = search needs
-
-mul-y2 : tie.Need-mul-y2
-mul-y2 c = search needs
-
-element-set-from-y2 : tie.Need-element-set-from-y2
-element-set-from-y2 c = search needs
-
-add-present : tie.Need-add-present
-add-present c = search needs
-
-mul-present : tie.Need-mul-present
-mul-present c = search needs
-
-element-set-from-present : tie.Need-element-set-from-present
-element-set-from-present c = search needs
-
-add-target : tie.Need-add-target
-add-target c = search needs
-
-mul-target : tie.Need-mul-target
-mul-target c = search needs
-
-element-set-from-target : tie.Need-element-set-from-target
-element-set-from-target c = search needs
-
 abbrev start : lts.After-struct-told4 reads.Pre reads.Post → lts.Start reads.Pre reads.Post
 start c = c .before .before .before .before
 
@@ -70,17 +31,17 @@ pub put-section-spec : {M : Type 1} → statement M
 put-section-spec =
     tie.close
     (tie.spec
-    mul-at
-    add-at
-    mul-y1
-    element-set-from-y1
-    add-y2
-    mul-y2
-    element-set-from-y2
-    add-present
-    mul-present
-    element-set-from-present
-    add-target
-    mul-target
-    element-set-from-target
+    (λ c. search needs)
+    (λ c. search needs)
+    (λ c. search needs)
+    (λ c. search needs)
+    (λ c. search needs)
+    (λ c. search needs)
+    (λ c. search needs)
+    (λ c. search needs)
+    (λ c. search needs)
+    (λ c. search needs)
+    (λ c. search needs)
+    (λ c. search needs)
+    (λ c. search needs)
     returns)

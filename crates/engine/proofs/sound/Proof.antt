@@ -40,9 +40,6 @@ round-near-requires c κs =
       small = subst (λ (z : ℤ). natAbs z ≤ 2 ^ 61) (sym (Loud c .held .reads)) (le-trans (Loud c .within) (lit≤ tt));
     }
 
-saturate-requires : tie.Need-saturate-requires
-saturate-requires c κs = search needs
-
 returns : tie.Need-returns
 unfolding output
 returns c =
@@ -54,4 +51,4 @@ returns c =
     ∙ ap (λ (z : ℤ). nearest z 31) (Loud (c .before .before) .held .reads))
 
 pub sound-spec : {M : Type 1} → statement M
-sound-spec = tie.close (tie.spec mul-round-near round-near-requires saturate-requires returns)
+sound-spec = tie.close (tie.spec mul-round-near round-near-requires (λ c κs. search needs) returns)

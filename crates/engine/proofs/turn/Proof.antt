@@ -185,45 +185,9 @@ module _ (c : lts.After-limit-word (section-at-reads.Asked, section-at-reads.Lea
   unfolding sectionFrame
   stored-is = λ i. record { y1 = y-reads i; y2 = y1-reads d i; gain = gain-is i }
 
-section-at-requires : tie.Need-section-at-requires
-section-at-requires c κs = search needs
-
 moved-requires : tie.Need-moved-requires
 moved-requires c κs =
     subst (λ (s : BandSection). Ramped (s .gain)) (sym (before-is (c .before .before .before))) (ramped (c .before .before .before))
-
-mul-alpha : tie.Need-mul-alpha
-mul-alpha c = search needs
-
-mul-alpha-2 : tie.Need-mul-alpha-2
-mul-alpha-2 c = search needs
-
-element-copy-out-alpha : tie.Need-element-copy-out-alpha
-element-copy-out-alpha c = search needs
-
-mul-gamma : tie.Need-mul-gamma
-mul-gamma c = search needs
-
-add-gamma : tie.Need-add-gamma
-add-gamma c = search needs
-
-mul-gamma-2 : tie.Need-mul-gamma-2
-mul-gamma-2 c = search needs
-
-element-copy-out-gamma : tie.Need-element-copy-out-gamma
-element-copy-out-gamma c = search needs
-
-mul-beta : tie.Need-mul-beta
-mul-beta c = search needs
-
-add-beta : tie.Need-add-beta
-add-beta c = search needs
-
-mul-beta-2 : tie.Need-mul-beta-2
-mul-beta-2 c = search needs
-
-element-copy-out-beta : tie.Need-element-copy-out-beta
-element-copy-out-beta c = search needs
 
 rounded-sum-requires : tie.Need-rounded-sum-requires
 rounded-sum-requires c κs =
@@ -236,12 +200,6 @@ rounded-sum-requires c κs =
       y1-size = size-read (y1-reads c) (y1-size (a c));
       y2-size = size-read (y2-reads c) (y2-size (a c));
     }
-
-limit-word-requires : tie.Need-limit-word-requires
-limit-word-requires c κs = search needs
-
-put-section-requires : tie.Need-put-section-requires
-put-section-requires c κs = search needs
 
 abbrev late : lts.After-struct-told3 (section-at-reads.Asked, section-at-reads.Learnt, moved-reads.Asked, moved-reads.Learnt, rounded-sum-reads.Asked, rounded-sum-reads.Learnt, limit-word-reads.Asked, limit-word-reads.Learnt, put-section-reads.Asked, put-section-reads.Learnt) reads.Pre reads.Post → lts.After-limit-word (section-at-reads.Asked, section-at-reads.Learnt, moved-reads.Asked, moved-reads.Learnt, rounded-sum-reads.Asked, rounded-sum-reads.Learnt, limit-word-reads.Asked, limit-word-reads.Learnt, put-section-reads.Asked, put-section-reads.Learnt) reads.Pre reads.Post
 late c = c .before .before .before .before
@@ -263,21 +221,21 @@ pub turn-spec : {M : Type 1} → statement M
 turn-spec =
     tie.close
     (tie.spec
-    section-at-requires
+    (λ c κs. search needs)
     moved-requires
-    mul-alpha
-    mul-alpha-2
-    element-copy-out-alpha
-    mul-gamma
-    add-gamma
-    mul-gamma-2
-    element-copy-out-gamma
-    mul-beta
-    add-beta
-    mul-beta-2
-    element-copy-out-beta
+    (λ c. search needs)
+    (λ c. search needs)
+    (λ c. search needs)
+    (λ c. search needs)
+    (λ c. search needs)
+    (λ c. search needs)
+    (λ c. search needs)
+    (λ c. search needs)
+    (λ c. search needs)
+    (λ c. search needs)
+    (λ c. search needs)
     rounded-sum-requires
-    limit-word-requires
-    put-section-requires
+    (λ c κs. search needs)
+    (λ c κs. search needs)
     mul-result
     returns)

@@ -7,12 +7,6 @@ use Rattle.exports.proofs.Laws.{band-reads}
 use Rattle.exports.proofs.fonddrys_band_refusal.Statement.{statement}
 use Rattle.exports.proofs.fonddrys_band_refusal.Tie as tie
 
-check-band-requires : tie.Need-check-band-requires
-check-band-requires c κs = search needs
-
-number-requires : tie.Need-number-requires
-number-requires c κs = search needs
-
 returns : tie.Need-returns
 returns c =
     c .number .ensures
@@ -21,4 +15,4 @@ returns c =
     ∙ ap bandVerdict (band-reads (c .before .before .fits .alpha) (c .before .before .fits .beta) (c .before .before .fits .gamma)))
 
 pub fonddrys-band-refusal-spec : {M : Type 1} → statement M
-fonddrys-band-refusal-spec = tie.close (tie.spec check-band-requires number-requires returns)
+fonddrys-band-refusal-spec = tie.close (tie.spec (λ c κs. search needs) (λ c κs. search needs) returns)

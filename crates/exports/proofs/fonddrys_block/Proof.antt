@@ -55,21 +55,12 @@ module _ (c : lts.After-play (unit-of-reads.Asked, unit-of-reads.Learnt, play-re
   unfolding blockPlayed
   answer-fit e = block-fit 2 (unitOf l) input (length room) (block-accepted 2 (unitOf l) (length input) (length room) e .fit)
 
-unit-of-requires : tie.Need-unit-of-requires
-unit-of-requires c κs = search needs
-
-play-requires : tie.Need-play-requires
-play-requires c κs = search needs
-
 store-requires : tie.Need-store-requires
 store-requires c κs =
     subst (λ (r : Played). isAccepted (r .verdict) ≡ true → Fit (r .unit)) (sym (answer-is p)) (answer-fit p)
   where
     p : lts.After-play (unit-of-reads.Asked, unit-of-reads.Learnt, play-reads.Asked, play-reads.Learnt, store-reads.Asked, store-reads.Learnt) reads.Pre reads.Post
     p = c .before .before .before .before
-
-same-length : tie.Need-same-length
-same-length c = search needs
 
 returns : tie.Need-returns
 returns c =
@@ -84,4 +75,4 @@ returns c =
 
 pub fonddrys-block-spec : {M : Type 1} → statement M
 fonddrys-block-spec =
-    tie.close (tie.spec unit-of-requires play-requires store-requires same-length returns)
+    tie.close (tie.spec (λ c κs. search needs) (λ c κs. search needs) store-requires (λ c. search needs) returns)

@@ -6,9 +6,6 @@ use Rattle.rounding.specs.Rounding.{limit}
 use Rattle.exports.proofs.fonddrys_limit.Statement.{statement}
 use Rattle.exports.proofs.fonddrys_limit.Tie as tie
 
-saturate-requires : tie.Need-saturate-requires
-saturate-requires c κs = search needs
-
 returns : tie.Need-returns
 returns c =
     toZ-ofZ (record { sfits = c .saturate .ok })
@@ -19,4 +16,4 @@ returns c =
     (toZ-ofZ (c .before .fits .v) i))
 
 pub fonddrys-limit-spec : {M : Type 1} → statement M
-fonddrys-limit-spec = tie.close (tie.spec saturate-requires returns)
+fonddrys-limit-spec = tie.close (tie.spec (λ c κs. search needs) returns)

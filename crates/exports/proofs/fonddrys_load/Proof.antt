@@ -10,15 +10,9 @@ use borrow.Author.Needs.{needs}
 use Rattle.exports.proofs.fonddrys_load.Statement.{statement}
 use Rattle.exports.proofs.fonddrys_load.Tie as tie
 
-load-requires : tie.Need-load-requires
-load-requires c κs = search needs
-
 numbers-of-requires : tie.Need-numbers-of-requires
 numbers-of-requires c κs =
     subst (λ (l : Loaded). Fit (l .unit)) (sym (c .before .load .ensures)) (loaded-fit (now (c .before .before .args .set)))
-
-number-requires : tie.Need-number-requires
-number-requires c κs = search needs
 
 returns : tie.Need-returns
 returns c = (
@@ -27,4 +21,4 @@ returns c = (
 )
 
 pub fonddrys-load-spec : {M : Type 1} → statement M
-fonddrys-load-spec = tie.close (tie.spec load-requires numbers-of-requires number-requires returns)
+fonddrys-load-spec = tie.close (tie.spec (λ c κs. search needs) numbers-of-requires (λ c κs. search needs) returns)

@@ -7,9 +7,6 @@ use Rattle.rounding.specs.Rounding.{nearest}
 use Rattle.exports.proofs.fonddrys_nearest.Statement.{statement}
 use Rattle.exports.proofs.fonddrys_nearest.Tie as tie
 
-round-shift-requires : tie.Need-round-shift-requires
-round-shift-requires c κs = search needs
-
 returns : tie.Need-returns
 returns c =
     toZ-ofZ (record { sfits = c .round-shift .ok })
@@ -17,4 +14,4 @@ returns c =
     ∙ ap (λ (z : ℤ). nearest z (c .before .args .k)) (toZ-ofZ (c .before .fits .v))
 
 pub fonddrys-nearest-spec : {M : Type 1} → statement M
-fonddrys-nearest-spec = tie.close (tie.spec round-shift-requires returns)
+fonddrys-nearest-spec = tie.close (tie.spec (λ c κs. search needs) returns)

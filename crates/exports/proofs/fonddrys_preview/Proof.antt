@@ -19,15 +19,6 @@ use Rattle.exports.proofs.fonddrys_preview.Lts as lts
 use Rattle.preview.proofs.fill.Reads as fill-reads
 use Rattle.refusals.proofs.number.Reads as number-reads
 
-fill-requires : tie.Need-fill-requires
-fill-requires c κs = search needs
-
-number-requires : tie.Need-number-requires
-number-requires c κs = search needs
-
-same-length : tie.Need-same-length
-same-length c = search needs
-
 returns : tie.Need-returns
 returns c =
     record {
@@ -51,4 +42,4 @@ returns c =
     band-is = band-reads (s .fits .alpha) (s .fits .beta) (s .fits .gamma)
 
 pub fonddrys-preview-spec : {M : Type 1} → statement M
-fonddrys-preview-spec = tie.close (tie.spec fill-requires number-requires same-length returns)
+fonddrys-preview-spec = tie.close (tie.spec (λ c κs. search needs) (λ c κs. search needs) (λ c. search needs) returns)

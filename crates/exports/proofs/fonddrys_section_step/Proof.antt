@@ -89,33 +89,6 @@ module _ (c : lts.After-struct-told (step-reads.Asked, step-reads.Learnt, pack-r
 
 -- ---- the needs
 
-element-copy-out-alpha : tie.Need-element-copy-out-alpha
-element-copy-out-alpha c = search needs
-
-element-copy-out-beta : tie.Need-element-copy-out-beta
-element-copy-out-beta c = search needs
-
-element-copy-out-gamma : tie.Need-element-copy-out-gamma
-element-copy-out-gamma c = search needs
-
-element-copy-out-x1 : tie.Need-element-copy-out-x1
-element-copy-out-x1 c = search needs
-
-element-copy-out-x2 : tie.Need-element-copy-out-x2
-element-copy-out-x2 c = search needs
-
-element-copy-out-y1 : tie.Need-element-copy-out-y1
-element-copy-out-y1 c = search needs
-
-element-copy-out-y2 : tie.Need-element-copy-out-y2
-element-copy-out-y2 c = search needs
-
-step-requires : tie.Need-step-requires
-step-requires c κs = search needs
-
-pack-requires : tie.Need-pack-requires
-pack-requires c κs = search needs
-
 returns : tie.Need-returns
 returns c = (
   toZ-ofZ (record { sfits = c .pack .ok }) ∙ c .pack .ensures ∙ ap packed answer,
@@ -129,13 +102,13 @@ pub fonddrys-section-step-spec : {M : Type 1} → statement M
 fonddrys-section-step-spec =
     tie.close
     (tie.spec
-    element-copy-out-alpha
-    element-copy-out-beta
-    element-copy-out-gamma
-    element-copy-out-x1
-    element-copy-out-x2
-    element-copy-out-y1
-    element-copy-out-y2
-    step-requires
-    pack-requires
+    (λ c. search needs)
+    (λ c. search needs)
+    (λ c. search needs)
+    (λ c. search needs)
+    (λ c. search needs)
+    (λ c. search needs)
+    (λ c. search needs)
+    (λ c κs. search needs)
+    (λ c κs. search needs)
     returns)

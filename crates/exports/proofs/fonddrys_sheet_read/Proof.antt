@@ -23,12 +23,6 @@ use Rattle.reading.proofs.read_numbers.Reads as read-numbers-reads
 use Rattle.refusals.proofs.accepted.Reads as accepted-reads
 use Rattle.refusals.proofs.number.Reads as number-reads
 
-read-numbers-requires : tie.Need-read-numbers-requires
-read-numbers-requires c κs = search needs
-
-accepted-requires : tie.Need-accepted-requires
-accepted-requires c κs = search needs
-
 -- ---- the sheet read
 
 module _ (c : lts.After-accepted (read-numbers-reads.Asked, read-numbers-reads.Learnt, accepted-reads.Asked, accepted-reads.Learnt, number-reads.Asked, number-reads.Learnt) reads.Pre reads.Post) where
@@ -58,9 +52,6 @@ module _ (c : lts.After-accepted (read-numbers-reads.Asked, read-numbers-reads.L
       sheet-numbers bytes (c .before .read-numbers .ensures) (length-replicate unitSize (pos 0)) (sym (c .accepted .ensures) ∙ e)
       ∙ sym (numbers-of-unit (numbersIn lines bytes) (numbers-in-length lines bytes))
 
-number-requires : tie.Need-number-requires
-number-requires c κs = search needs
-
 returns : tie.Need-returns
 unfolding sheetRead
 returns c =
@@ -69,9 +60,6 @@ returns c =
       number-is = c .number .ensures ∙ ap numberOf (verdict-is s);
       numbers-are = sym (ap (after s) (sym (sheet-test s) ∙ not-true _ (c .before .if1 .taken)));
     }
-
-number-requires-2 : tie.Need-number-requires-2
-number-requires-2 c κs = search needs
 
 returns-2 : tie.Need-returns-2
 unfolding sheetRead
@@ -87,9 +75,9 @@ pub fonddrys-sheet-read-spec : {M : Type 1} → statement M
 fonddrys-sheet-read-spec =
     tie.close
     (tie.spec
-    read-numbers-requires
-    accepted-requires
-    number-requires
+    (λ c κs. search needs)
+    (λ c κs. search needs)
+    (λ c κs. search needs)
     returns
-    number-requires-2
+    (λ c κs. search needs)
     returns-2)

@@ -12,17 +12,8 @@ flag-byte : (b : Bool) → boolByte b ≡ flag b
 flag-byte true = refl
 flag-byte false = refl
 
-unit-of-requires : tie.Need-unit-of-requires
-unit-of-requires c κs = search needs
-
-is-fit-requires : tie.Need-is-fit-requires
-is-fit-requires c κs = search needs
-
-cast-result : tie.Need-cast-result
-cast-result c = search needs
-
 returns : tie.Need-returns
 returns c = flag-byte (c .is-fit .result) ∙ ap flag (c .is-fit .ensures ∙ ap unitFits (c .before .unit-of .ensures))
 
 pub fonddrys-unit-fit-spec : {M : Type 1} → statement M
-fonddrys-unit-fit-spec = tie.close (tie.spec unit-of-requires is-fit-requires cast-result returns)
+fonddrys-unit-fit-spec = tie.close (tie.spec (λ c κs. search needs) (λ c κs. search needs) (λ c. search needs) returns)

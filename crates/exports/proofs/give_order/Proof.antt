@@ -43,12 +43,6 @@ module _ (c : lts.After-order (unit-of-reads.Asked, unit-of-reads.Learnt, order-
       order-fit (unitOf l) (s .args .side) (s .args .band) (s .args .setting)
       (accepted-fit (unitOf l) (s .args .side) (s .args .band) (s .args .setting) e)
 
-unit-of-requires : tie.Need-unit-of-requires
-unit-of-requires c κs = search needs
-
-order-requires : tie.Need-order-requires
-order-requires c κs = search needs
-
 store-requires : tie.Need-store-requires
 store-requires c κs =
     subst (λ (r : Ordered). isAccepted (r .verdict) ≡ true → Fit (r .unit)) (sym (answer-is o)) (answer-fit o)
@@ -67,4 +61,4 @@ returns c =
     o = c .before .before .before
 
 pub give-order-spec : {M : Type 1} → statement M
-give-order-spec = tie.close (tie.spec unit-of-requires order-requires store-requires returns)
+give-order-spec = tie.close (tie.spec (λ c κs. search needs) (λ c κs. search needs) store-requires returns)

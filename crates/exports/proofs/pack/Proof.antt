@@ -84,15 +84,6 @@ module _ (c : lts.After-struct-told (number-reads.Asked, number-reads.Learnt) re
   abbrev Y : Bounded w64
   Y = record { held = widened tt y y-fits; bound = 2 ^ 31; within = natAbs-le y (y-fits .sfits) }
 
-number-requires : tie.Need-number-requires
-number-requires c κs = search needs
-
-cast-number : tie.Need-cast-number
-cast-number c = search needs
-
-cast-limited : tie.Need-cast-limited
-cast-limited c = search needs
-
 mul-result : tie.Need-mul-result
 mul-result c = result-need product (Two (c .before)) (Number (c .before)) tt
 
@@ -115,9 +106,9 @@ pub pack-spec : {M : Type 1} → statement M
 pack-spec =
     tie.close
     (tie.spec
-    number-requires
-    cast-number
-    cast-limited
+    (λ c κs. search needs)
+    (λ c. search needs)
+    (λ c. search needs)
     mul-result
     add-result
     mul-result-2

@@ -15,12 +15,6 @@ use Rattle.numbers.proofs.numbers_of.Reads as numbers-of-reads
 use Rattle.refusals.proofs.accepted.Reads as accepted-reads
 use Rattle.refusals.proofs.number.Reads as number-reads
 
-accepted-requires : tie.Need-accepted-requires
-accepted-requires c κs = search needs
-
-number-requires : tie.Need-number-requires
-number-requires c κs = search needs
-
 returns : tie.Need-returns
 returns c = (
   c .number .ensures,
@@ -37,9 +31,6 @@ right c = sym (c .before .accepted .ensures) ∙ not-false _ (c .if1 .left)
 numbers-of-requires : tie.Need-numbers-of-requires
 numbers-of-requires c κs = c .before .before .pre (right c)
 
-number-requires-2 : tie.Need-number-requires-2
-number-requires-2 c κs = search needs
-
 returns-2 : tie.Need-returns-2
 returns-2 c = (
   c .number2 .ensures,
@@ -53,9 +44,9 @@ pub store-spec : {M : Type 1} → statement M
 store-spec =
     tie.close
     (tie.spec
-    accepted-requires
-    number-requires
+    (λ c κs. search needs)
+    (λ c κs. search needs)
     returns
     numbers-of-requires
-    number-requires-2
+    (λ c κs. search needs)
     returns-2)

@@ -28,18 +28,6 @@ abbrev μ-loop : tie.MeasureT-loop
 loop-holds : tie.Need-loop-holds Inv-loop μ-loop
 loop-holds c = (search needs, refl)
 
-mul-band : tie.Need-mul-band Inv-loop μ-loop
-mul-band c = search needs
-
-array-copy-out-band : tie.Need-array-copy-out-band Inv-loop μ-loop
-array-copy-out-band c = search needs
-
-check-band-requires : tie.Need-check-band-requires Inv-loop μ-loop
-check-band-requires c κs = search needs
-
-accepted-requires : tie.Need-accepted-requires Inv-loop μ-loop
-accepted-requires c κs = search needs
-
 -- the turn's test is that of the band at i
 module _ (c : lts.After-accepted (check-band-reads.Asked, check-band-reads.Learnt, accepted-reads.Asked, accepted-reads.Learnt) reads.Pre reads.Post Inv-loop μ-loop) where
   abbrev all : List Band
@@ -56,12 +44,6 @@ returns c =
     sym
     (every-fails bandFits (all (c .before)) zeroBand (at (c .before)) (c .before .before .before .before .before .loop .inv .1) (omega arith)
     (sym (band-test (c .before)) ∙ not-true _ (c .if1 .taken)))
-
-add-i : tie.Need-add-i Inv-loop μ-loop
-add-i c = search needs
-
-loop-less : tie.Need-loop-less Inv-loop μ-loop
-loop-less c = search needs
 
 loop-again : tie.Need-loop-again Inv-loop μ-loop
 loop-again c = (search needs, passes)
@@ -82,12 +64,12 @@ bands-fit-spec =
     Inv-loop
     μ-loop
     loop-holds
-    mul-band
-    array-copy-out-band
-    check-band-requires
-    accepted-requires
+    (λ c. search needs)
+    (λ c. search needs)
+    (λ c κs. search needs)
+    (λ c κs. search needs)
     returns
-    add-i
-    loop-less
+    (λ c. search needs)
+    (λ c. search needs)
     loop-again
     returns-2)

@@ -57,20 +57,11 @@ module _ (c : lts.After-sections-fit (input-fits-reads.Asked, input-fits-reads.L
 
 -- ---- the needs
 
-input-fits-requires : tie.Need-input-fits-requires
-input-fits-requires c κs = search needs
-
 returns : tie.Need-returns
 returns c = sym (simp (sym (x1-test (c .before)) ∙ not-true _ (c .if1 .taken)))
 
-input-fits-requires-2 : tie.Need-input-fits-requires-2
-input-fits-requires-2 c κs = search needs
-
 returns-2 : tie.Need-returns-2
 returns-2 c = sym (simp (x1-right (c .before), sym (x2-test (c .before)) ∙ not-true _ (c .if2 .taken)))
-
-in-range-requires : tie.Need-in-range-requires
-in-range-requires c κs = search needs
 
 returns-3 : tie.Need-returns-3
 returns-3 c =
@@ -81,9 +72,6 @@ returns-3 c =
       sym (flag-test (c .before)) ∙ not-true _ (c .if3 .taken),
     ))
 
-sections-fit-requires : tie.Need-sections-fit-requires
-sections-fit-requires c κs = search needs
-
 returns-4 : tie.Need-returns-4
 returns-4 c =
     sym (simp (x1-right (second (third c)), x2-right (third c), flag-right c) (sym (c .sections-fit .ensures)))
@@ -92,11 +80,11 @@ pub channel-fits-spec : {M : Type 1} → statement M
 channel-fits-spec =
     tie.close
     (tie.spec
-    input-fits-requires
+    (λ c κs. search needs)
     returns
-    input-fits-requires-2
+    (λ c κs. search needs)
     returns-2
-    in-range-requires
+    (λ c κs. search needs)
     returns-3
-    sections-fit-requires
+    (λ c κs. search needs)
     returns-4)

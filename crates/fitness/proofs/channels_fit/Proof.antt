@@ -26,15 +26,6 @@ abbrev μ-loop : tie.MeasureT-loop
 loop-holds : tie.Need-loop-holds Inv-loop μ-loop
 loop-holds c = (search needs, refl)
 
-mul-channel : tie.Need-mul-channel Inv-loop μ-loop
-mul-channel c = search needs
-
-array-copy-out-channel : tie.Need-array-copy-out-channel Inv-loop μ-loop
-array-copy-out-channel c = search needs
-
-channel-fits-requires : tie.Need-channel-fits-requires Inv-loop μ-loop
-channel-fits-requires c κs = search needs
-
 -- the turn's test is that of the channel at i
 module _ (c : lts.After-channel-fits (channel-fits-reads.Asked, channel-fits-reads.Learnt) reads.Pre reads.Post Inv-loop μ-loop) where
   abbrev all : List Channel
@@ -51,12 +42,6 @@ returns c =
     sym
     (every-fails channelFits (all (c .before)) zeroChannel (at (c .before)) (c .before .before .before .before .loop .inv .1) (omega arith)
     (sym (channel-test (c .before)) ∙ not-true _ (c .if1 .taken)))
-
-add-i : tie.Need-add-i Inv-loop μ-loop
-add-i c = search needs
-
-loop-less : tie.Need-loop-less Inv-loop μ-loop
-loop-less c = search needs
 
 loop-again : tie.Need-loop-again Inv-loop μ-loop
 loop-again c = (search needs, passes)
@@ -77,11 +62,11 @@ channels-fit-spec =
     Inv-loop
     μ-loop
     loop-holds
-    mul-channel
-    array-copy-out-channel
-    channel-fits-requires
+    (λ c. search needs)
+    (λ c. search needs)
+    (λ c κs. search needs)
     returns
-    add-i
-    loop-less
+    (λ c. search needs)
+    (λ c. search needs)
     loop-again
     returns-2)

@@ -46,9 +46,6 @@ module _ (c : lts.After-is-word (is-word-reads.Asked, is-word-reads.Learnt) read
   abbrev Multiple : Num w64
   Multiple = binary _*ℤ_ (literal 256) Below multiple-fits
 
-is-word-requires : tie.Need-is-word-requires
-is-word-requires c κs = search needs
-
 returns : tie.Need-returns
 unfolding isInput
 returns c = sym (simp (sym (word-test (c .before)) ∙ not-true _ (c .if1 .taken)))
@@ -66,4 +63,4 @@ returns-2 c =
     ∙ sym (simp (sym (word-test (c .before)) ∙ not-false _ (c .if1 .left)))
 
 pub input-fits-spec : {M : Type 1} → statement M
-input-fits-spec = tie.close (tie.spec is-word-requires returns mul-result sub-result returns-2)
+input-fits-spec = tie.close (tie.spec (λ c κs. search needs) returns mul-result sub-result returns-2)

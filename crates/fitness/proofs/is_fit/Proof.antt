@@ -20,23 +20,14 @@ volume-right c = sym (c .before .volume-fits .ensures) ∙ not-false _ (c .if1 .
 bands-right : (c : lts.Else2 (volume-fits-reads.Asked, volume-fits-reads.Learnt, bands-fit-reads.Asked, bands-fit-reads.Learnt, channels-fit-reads.Asked, channels-fit-reads.Learnt) reads.Pre reads.Post) → every bandFits (c .before .before .before .before .before .before .args .unit .bands) ≡ true
 bands-right c = sym (c .before .bands-fit .ensures) ∙ not-false _ (c .if2 .left)
 
-volume-fits-requires : tie.Need-volume-fits-requires
-volume-fits-requires c κs = search needs
-
 returns : tie.Need-returns
 unfolding unitFits
 returns c = sym (simp (sym (c .before .volume-fits .ensures) ∙ not-true _ (c .if1 .taken)))
-
-bands-fit-requires : tie.Need-bands-fit-requires
-bands-fit-requires c κs = search needs
 
 returns-2 : tie.Need-returns-2
 unfolding unitFits
 returns-2 c =
     sym (simp (volume-right (c .before .before .before), sym (c .before .bands-fit .ensures) ∙ not-true _ (c .if2 .taken)))
-
-channels-fit-requires : tie.Need-channels-fit-requires
-channels-fit-requires c κs = search needs
 
 returns-3 : tie.Need-returns-3
 unfolding unitFits
@@ -47,9 +38,9 @@ pub is-fit-spec : {M : Type 1} → statement M
 is-fit-spec =
     tie.close
     (tie.spec
-    volume-fits-requires
+    (λ c κs. search needs)
     returns
-    bands-fit-requires
+    (λ c κs. search needs)
     returns-2
-    channels-fit-requires
+    (λ c κs. search needs)
     returns-3)

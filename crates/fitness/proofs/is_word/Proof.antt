@@ -6,11 +6,8 @@ use borrow.Author.Needs.{needs}
 use Rattle.fitness.proofs.is_word.Statement.{statement}
 use Rattle.fitness.proofs.is_word.Tie as tie
 
-in-range-requires : tie.Need-in-range-requires
-in-range-requires c κs = search needs
-
 returns : tie.Need-returns
 returns c = c .in-range .ensures ∙ ap isWord (toZ-ofZ (c .before .fits .v))
 
 pub is-word-spec : {M : Type 1} → statement M
-is-word-spec = tie.close (tie.spec in-range-requires returns)
+is-word-spec = tie.close (tie.spec (λ c κs. search needs) returns)

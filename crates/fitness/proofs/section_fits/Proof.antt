@@ -55,20 +55,11 @@ module _ (c : lts.After-is-word4 (is-word-reads.Asked, is-word-reads.Learnt) rea
 
 -- ---- the needs
 
-is-word-requires : tie.Need-is-word-requires
-is-word-requires c κs = search needs
-
 returns : tie.Need-returns
 returns c = sym (simp (sym (y1-test (c .before)) ∙ not-true _ (c .if1 .taken)))
 
-is-word-requires-2 : tie.Need-is-word-requires-2
-is-word-requires-2 c κs = search needs
-
 returns-2 : tie.Need-returns-2
 returns-2 c = sym (simp (y1-word (c .before), sym (y2-test (c .before)) ∙ not-true _ (c .if2 .taken)))
-
-is-word-requires-3 : tie.Need-is-word-requires-3
-is-word-requires-3 c κs = search needs
 
 returns-3 : tie.Need-returns-3
 returns-3 c =
@@ -79,9 +70,6 @@ returns-3 c =
       sym (present-test (c .before)) ∙ not-true _ (c .if3 .taken),
     ))
 
-is-word-requires-4 : tie.Need-is-word-requires-4
-is-word-requires-4 c κs = search needs
-
 returns-4 : tie.Need-returns-4
 returns-4 c =
     sym (simp (y1-word (second (third c)), y2-word (third c), present-word c) (sym (target-test c)))
@@ -90,11 +78,11 @@ pub section-fits-spec : {M : Type 1} → statement M
 section-fits-spec =
     tie.close
     (tie.spec
-    is-word-requires
+    (λ c κs. search needs)
     returns
-    is-word-requires-2
+    (λ c κs. search needs)
     returns-2
-    is-word-requires-3
+    (λ c κs. search needs)
     returns-3
-    is-word-requires-4
+    (λ c κs. search needs)
     returns-4)

@@ -26,15 +26,6 @@ abbrev μ-loop : tie.MeasureT-loop
 loop-holds : tie.Need-loop-holds Inv-loop μ-loop
 loop-holds c = (search needs, refl)
 
-mul-section : tie.Need-mul-section Inv-loop μ-loop
-mul-section c = search needs
-
-array-copy-out-section : tie.Need-array-copy-out-section Inv-loop μ-loop
-array-copy-out-section c = search needs
-
-section-fits-requires : tie.Need-section-fits-requires Inv-loop μ-loop
-section-fits-requires c κs = search needs
-
 -- the turn's test is that of the section at i
 module _ (c : lts.After-section-fits (section-fits-reads.Asked, section-fits-reads.Learnt) reads.Pre reads.Post Inv-loop μ-loop) where
   abbrev all : List BandSection
@@ -51,12 +42,6 @@ returns c =
     sym
     (every-fails sectionFits (all (c .before)) clearedSection (at (c .before)) (c .before .before .before .before .loop .inv .1) (omega arith)
     (sym (section-test (c .before)) ∙ not-true _ (c .if1 .taken)))
-
-add-i : tie.Need-add-i Inv-loop μ-loop
-add-i c = search needs
-
-loop-less : tie.Need-loop-less Inv-loop μ-loop
-loop-less c = search needs
 
 loop-again : tie.Need-loop-again Inv-loop μ-loop
 loop-again c = (search needs, passes)
@@ -77,11 +62,11 @@ sections-fit-spec =
     Inv-loop
     μ-loop
     loop-holds
-    mul-section
-    array-copy-out-section
-    section-fits-requires
+    (λ c. search needs)
+    (λ c. search needs)
+    (λ c κs. search needs)
     returns
-    add-i
-    loop-less
+    (λ c. search needs)
+    (λ c. search needs)
     loop-again
     returns-2)

@@ -36,17 +36,11 @@ module _ (c : lts.After-in-range2 (in-range-reads.Asked, in-range-reads.Learnt) 
 
 -- ---- the needs
 
-in-range-requires : tie.Need-in-range-requires
-in-range-requires c κs = search needs
-
 returns : tie.Need-returns
 returns c = sym (simp (sym (present-test (c .before)) ∙ not-true _ (c .if1 .taken)))
-
-in-range-requires-2 : tie.Need-in-range-requires-2
-in-range-requires-2 c κs = search needs
 
 returns-2 : tie.Need-returns-2
 returns-2 c = sym (simp (present-right c) (sym (target-test c)))
 
 pub volume-fits-spec : {M : Type 1} → statement M
-volume-fits-spec = tie.close (tie.spec in-range-requires returns in-range-requires-2 returns-2)
+volume-fits-spec = tie.close (tie.spec (λ c κs. search needs) returns (λ c κs. search needs) returns-2)

@@ -14,36 +14,6 @@ use borrow.Author.Needs.{needs}
 use Rattle.numbers.proofs.band_at.Statement.{statement}
 use Rattle.numbers.proofs.band_at.Tie as tie
 
-mul-at : tie.Need-mul-at
-mul-at c = search needs
-
-add-at : tie.Need-add-at
-add-at c = search needs
-
-mul-t4 : tie.Need-mul-t4
-mul-t4 c = search needs
-
-element-copy-out-t7 : tie.Need-element-copy-out-t7
-element-copy-out-t7 c = search needs
-
-add-t8 : tie.Need-add-t8
-add-t8 c = search needs
-
-mul-t9 : tie.Need-mul-t9
-mul-t9 c = search needs
-
-element-copy-out-t12 : tie.Need-element-copy-out-t12
-element-copy-out-t12 c = search needs
-
-add-t13 : tie.Need-add-t13
-add-t13 c = search needs
-
-mul-t14 : tie.Need-mul-t14
-mul-t14 c = search needs
-
-element-copy-out-t17 : tie.Need-element-copy-out-t17
-element-copy-out-t17 c = search needs
-
 returns : tie.Need-returns
 returns c =
     λ i.
@@ -66,14 +36,14 @@ pub band-at-spec : {M : Type 1} → statement M
 band-at-spec =
     tie.close
     (tie.spec
-    mul-at
-    add-at
-    mul-t4
-    element-copy-out-t7
-    add-t8
-    mul-t9
-    element-copy-out-t12
-    add-t13
-    mul-t14
-    element-copy-out-t17
+    (λ c. search needs)
+    (λ c. search needs)
+    (λ c. search needs)
+    (λ c. search needs)
+    (λ c. search needs)
+    (λ c. search needs)
+    (λ c. search needs)
+    (λ c. search needs)
+    (λ c. search needs)
+    (λ c. search needs)
     returns)

@@ -22,21 +22,6 @@ abbrev μ-loop : tie.MeasureT-loop
 loop-holds : tie.Need-loop-holds Inv-loop μ-loop
 loop-holds c = (search needs, refl, refl)
 
-band-at-requires : tie.Need-band-at-requires Inv-loop μ-loop
-band-at-requires c κs = search needs
-
-mul-bands : tie.Need-mul-bands Inv-loop μ-loop
-mul-bands c = search needs
-
-array-set-from-bands : tie.Need-array-set-from-bands Inv-loop μ-loop
-array-set-from-bands c = search needs
-
-add-b : tie.Need-add-b Inv-loop μ-loop
-add-b c = search needs
-
-loop-less : tie.Need-loop-less Inv-loop μ-loop
-loop-less c = search needs
-
 loop-again : tie.Need-loop-again Inv-loop μ-loop
 loop-again c = (search needs, simp length-set (c .before .before .loop .inv .1), stored)
   where
@@ -66,10 +51,10 @@ bands-of-spec =
     Inv-loop
     μ-loop
     loop-holds
-    band-at-requires
-    mul-bands
-    array-set-from-bands
-    add-b
-    loop-less
+    (λ c κs. search needs)
+    (λ c. search needs)
+    (λ c. search needs)
+    (λ c. search needs)
+    (λ c. search needs)
     loop-again
     returns)

@@ -12,24 +12,6 @@ use borrow.Author.Needs.{needs}
 use Rattle.numbers.proofs.channel_of.Statement.{statement}
 use Rattle.numbers.proofs.channel_of.Tie as tie
 
-number-at-requires : tie.Need-number-at-requires
-number-at-requires c κs = search needs
-
-add-number-at : tie.Need-add-number-at
-add-number-at c = search needs
-
-number-at-requires-2 : tie.Need-number-at-requires-2
-number-at-requires-2 c κs = search needs
-
-add-number-at-2 : tie.Need-add-number-at-2
-add-number-at-2 c = search needs
-
-number-at-requires-3 : tie.Need-number-at-requires-3
-number-at-requires-3 c κs = search needs
-
-sections-of-requires : tie.Need-sections-of-requires
-sections-of-requires c κs = search needs
-
 returns : tie.Need-returns
 returns c =
     λ i.
@@ -50,10 +32,10 @@ pub channel-of-spec : {M : Type 1} → statement M
 channel-of-spec =
     tie.close
     (tie.spec
-    number-at-requires
-    add-number-at
-    number-at-requires-2
-    add-number-at-2
-    number-at-requires-3
-    sections-of-requires
+    (λ c κs. search needs)
+    (λ c. search needs)
+    (λ c κs. search needs)
+    (λ c. search needs)
+    (λ c κs. search needs)
+    (λ c κs. search needs)
     returns)

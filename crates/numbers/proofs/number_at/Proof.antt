@@ -15,12 +15,6 @@ use Rattle.numbers.proofs.number_at.Lts as lts
 fits : (c : lts.After-result reads.Pre reads.Post) → SFits w32 (getD (now (c .before .args .numbers)) (c .before .args .at) (pos 0))
 fits c = record { sfits = omega arith }
 
-mul-result : tie.Need-mul-result
-mul-result c = search needs
-
-element-copy-out-result : tie.Need-element-copy-out-result
-element-copy-out-result c = search needs
-
 cast-result : tie.Need-cast-result
 cast-result c = widen-need tt (getD (now (c .before .args .numbers)) (c .before .args .at) (pos 0)) (fits c)
 
@@ -28,4 +22,4 @@ returns : tie.Need-returns
 returns c = widened tt (getD (now (c .before .args .numbers)) (c .before .args .at) (pos 0)) (fits c) .reads
 
 pub number-at-spec : {M : Type 1} → statement M
-number-at-spec = tie.close (tie.spec mul-result element-copy-out-result cast-result returns)
+number-at-spec = tie.close (tie.spec (λ c. search needs) (λ c. search needs) cast-result returns)

@@ -5,15 +5,6 @@ use borrow.Author.Needs.{needs}
 use Rattle.numbers.proofs.numbers_of.Statement.{statement}
 use Rattle.numbers.proofs.numbers_of.Tie as tie
 
-put-volume-requires : tie.Need-put-volume-requires
-put-volume-requires c κs = search needs
-
-put-bands-requires : tie.Need-put-bands-requires
-put-bands-requires c κs = search needs
-
-put-channels-requires : tie.Need-put-channels-requires
-put-channels-requires c κs = search needs
-
 returns : tie.Need-returns
 unfolding numbersOf
 returns c =
@@ -22,4 +13,4 @@ returns c =
 
 pub numbers-of-spec : {M : Type 1} → statement M
 numbers-of-spec =
-    tie.close (tie.spec put-volume-requires put-bands-requires put-channels-requires returns)
+    tie.close (tie.spec (λ c κs. search needs) (λ c κs. search needs) (λ c κs. search needs) returns)

@@ -13,30 +13,6 @@ use Rattle.numbers.proofs.put_band.Lts as lts
 abbrev start : lts.After-struct-told3 reads.Pre reads.Post → lts.Start reads.Pre reads.Post
 start c = c .before .before .before
 
-mul-alpha : tie.Need-mul-alpha
-mul-alpha c = search needs
-
-element-set-from-alpha : tie.Need-element-set-from-alpha
-element-set-from-alpha c = search needs
-
-add-beta : tie.Need-add-beta
-add-beta c = search needs
-
-mul-beta : tie.Need-mul-beta
-mul-beta c = search needs
-
-element-set-from-beta : tie.Need-element-set-from-beta
-element-set-from-beta c = search needs
-
-add-gamma : tie.Need-add-gamma
-add-gamma c = search needs
-
-mul-gamma : tie.Need-mul-gamma
-mul-gamma c = search needs
-
-element-set-from-gamma : tie.Need-element-set-from-gamma
-element-set-from-gamma c = search needs
-
 returns : tie.Need-returns
 returns c =
     put-three (now (start c .args .out)) (start c .args .at) (start c .pre .0) (start c .pre .1)
@@ -48,12 +24,12 @@ pub put-band-spec : {M : Type 1} → statement M
 put-band-spec =
     tie.close
     (tie.spec
-    mul-alpha
-    element-set-from-alpha
-    add-beta
-    mul-beta
-    element-set-from-beta
-    add-gamma
-    mul-gamma
-    element-set-from-gamma
+    (λ c. search needs)
+    (λ c. search needs)
+    (λ c. search needs)
+    (λ c. search needs)
+    (λ c. search needs)
+    (λ c. search needs)
+    (λ c. search needs)
+    (λ c. search needs)
     returns)

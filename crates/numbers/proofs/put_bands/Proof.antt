@@ -20,26 +20,8 @@ abbrev μ-loop : tie.MeasureT-loop
 loop-holds : tie.Need-loop-holds Inv-loop μ-loop
 loop-holds c = (search needs, put-none (now (c .args .out)) bandsPlace (c .pre))
 
-mul-band : tie.Need-mul-band Inv-loop μ-loop
-mul-band c = search needs
-
-array-copy-out-band : tie.Need-array-copy-out-band Inv-loop μ-loop
-array-copy-out-band c = search needs
-
-mul-put-band : tie.Need-mul-put-band Inv-loop μ-loop
-mul-put-band c = search needs
-
-add-put-band : tie.Need-add-put-band Inv-loop μ-loop
-add-put-band c = search needs
-
 put-band-requires : tie.Need-put-band-requires Inv-loop μ-loop
 put-band-requires c κs = (c .before .before .before .loop .inv .1 .size, omega arith)
-
-add-b : tie.Need-add-b Inv-loop μ-loop
-add-b c = search needs
-
-loop-less : tie.Need-loop-less Inv-loop μ-loop
-loop-less c = search needs
 
 loop-again : tie.Need-loop-again Inv-loop μ-loop
 loop-again c = (
@@ -60,12 +42,12 @@ put-bands-spec =
     Inv-loop
     μ-loop
     loop-holds
-    mul-band
-    array-copy-out-band
-    mul-put-band
-    add-put-band
+    (λ c. search needs)
+    (λ c. search needs)
+    (λ c. search needs)
+    (λ c. search needs)
     put-band-requires
-    add-b
-    loop-less
+    (λ c. search needs)
+    (λ c. search needs)
     loop-again
     returns)

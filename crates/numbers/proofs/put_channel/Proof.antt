@@ -73,33 +73,6 @@ cast-x2 c = narrow-need (c .before .before .before .before .args .channel .x2) (
 cast-flag : tie.Need-cast-flag
 cast-flag c = narrow-need (c .before .before .before .before .before .before .args .channel .flag) (the-flag-size (c .before .before .before .before .before .before))
 
-mul-x1 : tie.Need-mul-x1
-mul-x1 c = search needs
-
-element-set-from-x1 : tie.Need-element-set-from-x1
-element-set-from-x1 c = search needs
-
-add-x2 : tie.Need-add-x2
-add-x2 c = search needs
-
-mul-x2 : tie.Need-mul-x2
-mul-x2 c = search needs
-
-element-set-from-x2 : tie.Need-element-set-from-x2
-element-set-from-x2 c = search needs
-
-add-flag : tie.Need-add-flag
-add-flag c = search needs
-
-mul-flag : tie.Need-mul-flag
-mul-flag c = search needs
-
-element-set-from-flag : tie.Need-element-set-from-flag
-element-set-from-flag c = search needs
-
-add-put-sections : tie.Need-add-put-sections
-add-put-sections c = search needs
-
 put-sections-requires : tie.Need-put-sections-requires
 put-sections-requires c κs = (ahead (c .before) .size, omega (arith, start (c .before) .pre .1), start (c .before) .pre .2 .sections)
 
@@ -121,14 +94,14 @@ put-channel-spec =
     cast-x1
     cast-x2
     cast-flag
-    mul-x1
-    element-set-from-x1
-    add-x2
-    mul-x2
-    element-set-from-x2
-    add-flag
-    mul-flag
-    element-set-from-flag
-    add-put-sections
+    (λ c. search needs)
+    (λ c. search needs)
+    (λ c. search needs)
+    (λ c. search needs)
+    (λ c. search needs)
+    (λ c. search needs)
+    (λ c. search needs)
+    (λ c. search needs)
+    (λ c. search needs)
     put-sections-requires
     returns)

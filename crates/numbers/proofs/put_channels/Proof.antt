@@ -13,12 +13,6 @@ use borrow.Author.Needs.{needs}
 use Rattle.numbers.proofs.put_channels.Statement.{statement}
 use Rattle.numbers.proofs.put_channels.Tie as tie
 
-array-copy-out-left : tie.Need-array-copy-out-left
-array-copy-out-left c = search needs
-
-array-copy-out-right : tie.Need-array-copy-out-right
-array-copy-out-right c = search needs
-
 put-channel-requires : tie.Need-put-channel-requires
 put-channel-requires c κs = (
   c .before .before .before .pre .0,
@@ -43,8 +37,8 @@ pub put-channels-spec : {M : Type 1} → statement M
 put-channels-spec =
     tie.close
     (tie.spec
-    array-copy-out-left
-    array-copy-out-right
+    (λ c. search needs)
+    (λ c. search needs)
     put-channel-requires
     put-channel-requires-2
     returns)

@@ -47,39 +47,6 @@ cast-present c = narrow-need (c .before .before .before .before .before .before 
 cast-target : tie.Need-cast-target
 cast-target c = narrow-need (start c .args .section .gain .target) (target-size (start c))
 
-mul-y1 : tie.Need-mul-y1
-mul-y1 c = search needs
-
-element-set-from-y1 : tie.Need-element-set-from-y1
-element-set-from-y1 c = search needs
-
-add-y2 : tie.Need-add-y2
-add-y2 c = search needs
-
-mul-y2 : tie.Need-mul-y2
-mul-y2 c = search needs
-
-element-set-from-y2 : tie.Need-element-set-from-y2
-element-set-from-y2 c = search needs
-
-add-present : tie.Need-add-present
-add-present c = search needs
-
-mul-present : tie.Need-mul-present
-mul-present c = search needs
-
-element-set-from-present : tie.Need-element-set-from-present
-element-set-from-present c = search needs
-
-add-target : tie.Need-add-target
-add-target c = search needs
-
-mul-target : tie.Need-mul-target
-mul-target c = search needs
-
-element-set-from-target : tie.Need-element-set-from-target
-element-set-from-target c = search needs
-
 returns : tie.Need-returns
 returns c =
     put-four (now (start c .args .out)) (start c .args .at) (start c .pre .0) (start c .pre .1)
@@ -96,15 +63,15 @@ put-section-spec =
     cast-y2
     cast-present
     cast-target
-    mul-y1
-    element-set-from-y1
-    add-y2
-    mul-y2
-    element-set-from-y2
-    add-present
-    mul-present
-    element-set-from-present
-    add-target
-    mul-target
-    element-set-from-target
+    (λ c. search needs)
+    (λ c. search needs)
+    (λ c. search needs)
+    (λ c. search needs)
+    (λ c. search needs)
+    (λ c. search needs)
+    (λ c. search needs)
+    (λ c. search needs)
+    (λ c. search needs)
+    (λ c. search needs)
+    (λ c. search needs)
     returns)

@@ -25,30 +25,12 @@ loop-holds c = (search needs, subst (λ (n : ℕ). Put (now (c .args .out)) (c .
     none : c .args .start ≡ c .args .start + 4 * 0
     none = omega arith
 
-mul-section : tie.Need-mul-section Inv-loop μ-loop
-mul-section c = search needs
-
-array-copy-out-section : tie.Need-array-copy-out-section Inv-loop μ-loop
-array-copy-out-section c = search needs
-
-mul-put-section : tie.Need-mul-put-section Inv-loop μ-loop
-mul-put-section c = search needs
-
-add-put-section : tie.Need-add-put-section Inv-loop μ-loop
-add-put-section c = search needs
-
 put-section-requires : tie.Need-put-section-requires Inv-loop μ-loop
 put-section-requires c κs = (
   c .before .before .before .loop .inv .1 .size,
   omega (arith, c .before .before .before .before .pre .1),
   each-getD SectionFit (c .before .before .before .before .args .t3) clearedSection (c .before .before .before .before .pre .2) (c .before .before .before .loop .b) (omega arith),
 )
-
-add-b : tie.Need-add-b Inv-loop μ-loop
-add-b c = search needs
-
-loop-less : tie.Need-loop-less Inv-loop μ-loop
-loop-less c = search needs
 
 loop-again : tie.Need-loop-again Inv-loop μ-loop
 loop-again c = (
@@ -69,12 +51,12 @@ put-sections-spec =
     Inv-loop
     μ-loop
     loop-holds
-    mul-section
-    array-copy-out-section
-    mul-put-section
-    add-put-section
+    (λ c. search needs)
+    (λ c. search needs)
+    (λ c. search needs)
+    (λ c. search needs)
     put-section-requires
-    add-b
-    loop-less
+    (λ c. search needs)
+    (λ c. search needs)
     loop-again
     returns)

@@ -32,12 +32,6 @@ cast-present c = narrow-need (c .before .before .args .volume .present) (present
 cast-target : tie.Need-cast-target
 cast-target c = narrow-need (start c .args .volume .target) (target-size (start c))
 
-element-set-from-present : tie.Need-element-set-from-present
-element-set-from-present c = search needs
-
-element-set-from-target : tie.Need-element-set-from-target
-element-set-from-target c = search needs
-
 returns : tie.Need-returns
 returns c =
     put-two (now (start c .args .out)) 0 (start c .pre .0) (lit≤ tt)
@@ -47,4 +41,4 @@ returns c =
 pub put-volume-spec : {M : Type 1} → statement M
 put-volume-spec =
     tie.close
-    (tie.spec cast-present cast-target element-set-from-present element-set-from-target returns)
+    (tie.spec cast-present cast-target (λ c. search needs) (λ c. search needs) returns)

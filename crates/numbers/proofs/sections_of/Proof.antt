@@ -21,21 +21,6 @@ abbrev μ-loop : tie.MeasureT-loop
 loop-holds : tie.Need-loop-holds Inv-loop μ-loop
 loop-holds c = (search needs, refl, refl)
 
-section-at-requires : tie.Need-section-at-requires Inv-loop μ-loop
-section-at-requires c κs = search needs
-
-mul-sections : tie.Need-mul-sections Inv-loop μ-loop
-mul-sections c = search needs
-
-array-set-from-sections : tie.Need-array-set-from-sections Inv-loop μ-loop
-array-set-from-sections c = search needs
-
-add-b : tie.Need-add-b Inv-loop μ-loop
-add-b c = search needs
-
-loop-less : tie.Need-loop-less Inv-loop μ-loop
-loop-less c = search needs
-
 loop-again : tie.Need-loop-again Inv-loop μ-loop
 loop-again c = (search needs, simp length-set (c .before .before .loop .inv .1), stored)
   where
@@ -65,10 +50,10 @@ sections-of-spec =
     Inv-loop
     μ-loop
     loop-holds
-    section-at-requires
-    mul-sections
-    array-set-from-sections
-    add-b
-    loop-less
+    (λ c κs. search needs)
+    (λ c. search needs)
+    (λ c. search needs)
+    (λ c. search needs)
+    (λ c. search needs)
     loop-again
     returns)

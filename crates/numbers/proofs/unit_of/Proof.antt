@@ -8,21 +8,6 @@ use borrow.Author.Needs.{needs}
 use Rattle.numbers.proofs.unit_of.Statement.{statement}
 use Rattle.numbers.proofs.unit_of.Tie as tie
 
-number-at-requires : tie.Need-number-at-requires
-number-at-requires c κs = search needs
-
-number-at-requires-2 : tie.Need-number-at-requires-2
-number-at-requires-2 c κs = search needs
-
-bands-of-requires : tie.Need-bands-of-requires
-bands-of-requires c κs = search needs
-
-channel-of-requires : tie.Need-channel-of-requires
-channel-of-requires c κs = search needs
-
-channel-of-requires-2 : tie.Need-channel-of-requires-2
-channel-of-requires-2 c κs = search needs
-
 returns : tie.Need-returns
 unfolding unitOf
 returns c =
@@ -41,9 +26,9 @@ pub unit-of-spec : {M : Type 1} → statement M
 unit-of-spec =
     tie.close
     (tie.spec
-    number-at-requires
-    number-at-requires-2
-    bands-of-requires
-    channel-of-requires
-    channel-of-requires-2
+    (λ c κs. search needs)
+    (λ c κs. search needs)
+    (λ c κs. search needs)
+    (λ c κs. search needs)
+    (λ c κs. search needs)
     returns)

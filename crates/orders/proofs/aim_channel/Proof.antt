@@ -16,9 +16,6 @@ use Rattle.orders.proofs.aim_channel.Reads as reads
 use Rattle.orders.proofs.aim_channel.Lts as lts
 use Rattle.orders.proofs.aim_sections.Reads as aim-sections-reads
 
-aim-sections-requires : tie.Need-aim-sections-requires
-aim-sections-requires c κs = search needs
-
 returns : tie.Need-returns
 returns c =
     λ i.
@@ -38,4 +35,4 @@ returns c =
     channel = s .args .channel
 
 pub aim-channel-spec : {M : Type 1} → statement M
-aim-channel-spec = tie.close (tie.spec aim-sections-requires returns)
+aim-channel-spec = tie.close (tie.spec (λ c κs. search needs) returns)

@@ -17,18 +17,6 @@ use Rattle.orders.proofs.aim_channels.Reads as reads
 use Rattle.orders.proofs.aim_channels.Lts as lts
 use Rattle.orders.proofs.aim_named.Reads as aim-named-reads
 
-array-copy-out-first : tie.Need-array-copy-out-first
-array-copy-out-first c = search needs
-
-array-copy-out-second : tie.Need-array-copy-out-second
-array-copy-out-second c = search needs
-
-aim-named-requires : tie.Need-aim-named-requires
-aim-named-requires c κs = search needs
-
-aim-named-requires-2 : tie.Need-aim-named-requires-2
-aim-named-requires-2 c κs = search needs
-
 returns : tie.Need-returns
 returns c =
     (λ i. c .before .aim-named .ensures i ∷ c .aim-named2 .ensures i ∷ [])
@@ -42,8 +30,8 @@ pub aim-channels-spec : {M : Type 1} → statement M
 aim-channels-spec =
     tie.close
     (tie.spec
-    array-copy-out-first
-    array-copy-out-second
-    aim-named-requires
-    aim-named-requires-2
+    (λ c. search needs)
+    (λ c. search needs)
+    (λ c κs. search needs)
+    (λ c κs. search needs)
     returns)

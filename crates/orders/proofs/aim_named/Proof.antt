@@ -26,16 +26,10 @@ module _ (s : lts.Start (aim-channel-reads.Asked, aim-channel-reads.Learnt) read
       e ∙ ap aimed-is (toZ-ofZ {w = w64} (s .fits .target))
       ∙ passed (names (s .args .side) (s .args .place)) (aimed-is (s .args .target)) (s .args .channel) n
 
-aim-channel-requires : tie.Need-aim-channel-requires
-aim-channel-requires c κs = search needs
-
 returns : tie.Need-returns
 unfolding names
 returns c =
     named (c .before .before) (c .aim-channel .result) (simp (eq-eqb (c .before .before .args .side) bothSides (c .before .if1 .taken))) (c .aim-channel .ensures)
-
-aim-channel-requires-2 : tie.Need-aim-channel-requires-2
-aim-channel-requires-2 c κs = search needs
 
 returns-2 : tie.Need-returns-2
 unfolding names
@@ -58,4 +52,4 @@ returns-3 c =
 
 pub aim-named-spec : {M : Type 1} → statement M
 aim-named-spec =
-    tie.close (tie.spec aim-channel-requires returns aim-channel-requires-2 returns-2 returns-3)
+    tie.close (tie.spec (λ c κs. search needs) returns (λ c κs. search needs) returns-2 returns-3)

@@ -19,21 +19,6 @@ use Rattle.orders.proofs.aim_sections.Reads as reads
 use Rattle.orders.proofs.aim_sections.Lts as lts
 use Rattle.orders.proofs.aim.Reads as aim-reads
 
-mul-section : tie.Need-mul-section
-mul-section c = search needs
-
-array-copy-out-section : tie.Need-array-copy-out-section
-array-copy-out-section c = search needs
-
-aim-requires : tie.Need-aim-requires
-aim-requires c κs = search needs
-
-mul-after : tie.Need-mul-after
-mul-after c = search needs
-
-array-set-from-after : tie.Need-array-set-from-after
-array-set-from-after c = search needs
-
 module _ (c : lts.After-struct-told (aim-reads.Asked, aim-reads.Learnt) reads.Pre reads.Post) where
   abbrev s : lts.Start (aim-reads.Asked, aim-reads.Learnt) reads.Pre reads.Post
   s = c .before .before .before .before
@@ -58,9 +43,9 @@ pub aim-sections-spec : {M : Type 1} → statement M
 aim-sections-spec =
     tie.close
     (tie.spec
-    mul-section
-    array-copy-out-section
-    aim-requires
-    mul-after
-    array-set-from-after
+    (λ c. search needs)
+    (λ c. search needs)
+    (λ c κs. search needs)
+    (λ c. search needs)
+    (λ c. search needs)
     returns)

@@ -16,9 +16,6 @@ use Rattle.orders.proofs.aim_unit.Lts as lts
 use Rattle.orders.proofs.aim.Reads as aim-reads
 use Rattle.orders.proofs.aim_channels.Reads as aim-channels-reads
 
-aim-requires : tie.Need-aim-requires
-aim-requires c κs = search needs
-
 returns : tie.Need-returns
 unfolding aimedUnit
 returns c =
@@ -43,4 +40,4 @@ returns-2 c =
     s = c .before .before .before .before .before
 
 pub aim-unit-spec : {M : Type 1} → statement M
-aim-unit-spec = tie.close (tie.spec aim-requires returns aim-channels-requires returns-2)
+aim-unit-spec = tie.close (tie.spec (λ c κs. search needs) returns aim-channels-requires returns-2)

@@ -23,15 +23,9 @@ module _ (c : lts.After-is-factor (is-finite-reads.Asked, is-finite-reads.Learnt
   range-test : c .is-factor .result ≡ inRange (lowest (s .args .band)) (s .args .factor)
   range-test = c .is-factor .ensures ∙ simp finite
 
-is-finite-requires : tie.Need-is-finite-requires
-is-finite-requires c κs = search needs
-
 returns : tie.Need-returns
 unfolding levelVerdict
 returns c = sym (simp (sym (c .before .is-finite .ensures) ∙ not-true _ (c .if1 .taken)))
-
-is-factor-requires : tie.Need-is-factor-requires
-is-factor-requires c κs = search needs
 
 returns-2 : tie.Need-returns-2
 unfolding levelVerdict
@@ -44,4 +38,4 @@ returns-3 c = sym (simp (finite (c .before), sym (range-test (c .before)) ∙ no
 pub check-factor-spec : {M : Type 1} → statement M
 check-factor-spec =
     tie.close
-    (tie.spec is-finite-requires returns is-factor-requires returns-2 returns-3)
+    (tie.spec (λ c κs. search needs) returns (λ c κs. search needs) returns-2 returns-3)

@@ -5,21 +5,6 @@ use borrow.Author.Needs.{needs}
 use Rattle.orders.proofs.check_level.Statement.{statement}
 use Rattle.orders.proofs.check_level.Tie as tie
 
-enum-known-setting : tie.Need-enum-known-setting
-enum-known-setting c = search needs
-
-check-position-requires : tie.Need-check-position-requires
-check-position-requires c κs = search needs
-
-enum-known-setting-2 : tie.Need-enum-known-setting-2
-enum-known-setting-2 c = search needs
-
-check-factor-requires : tie.Need-check-factor-requires
-check-factor-requires c κs = search needs
-
-enum-told : tie.Need-enum-told
-enum-told c = search needs
-
 returns : tie.Need-returns
 unfolding levelVerdict
 returns c =
@@ -40,11 +25,11 @@ pub check-level-spec : {M : Type 1} → statement M
 check-level-spec =
     tie.close
     (tie.spec
-    enum-known-setting
-    check-position-requires
-    enum-known-setting-2
-    check-factor-requires
-    enum-told
+    (λ c. search needs)
+    (λ c κs. search needs)
+    (λ c. search needs)
+    (λ c κs. search needs)
+    (λ c. search needs)
     returns
     returns-2
     returns-3)

@@ -5,14 +5,8 @@ use borrow.Author.Needs.{needs}
 use Rattle.orders.proofs.check_order.Statement.{statement}
 use Rattle.orders.proofs.check_order.Tie as tie
 
-is-place-requires : tie.Need-is-place-requires
-is-place-requires c κs = search needs
-
 returns : tie.Need-returns
 returns c = sym (simp (sym (c .before .is-place .ensures) ∙ not-true _ (c .if1 .taken)))
-
-check-level-requires : tie.Need-check-level-requires
-check-level-requires c κs = search needs
 
 returns-2 : tie.Need-returns-2
 returns-2 c =
@@ -20,4 +14,4 @@ returns-2 c =
     ∙ sym (simp (sym (c .before .before .is-place .ensures) ∙ not-false _ (c .before .if1 .left)))
 
 pub check-order-spec : {M : Type 1} → statement M
-check-order-spec = tie.close (tie.spec is-place-requires returns check-level-requires returns-2)
+check-order-spec = tie.close (tie.spec (λ c κs. search needs) returns (λ c κs. search needs) returns-2)

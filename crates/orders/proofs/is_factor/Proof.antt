@@ -10,17 +10,11 @@ use borrow.Author.Needs.{needs}
 use Rattle.orders.proofs.is_factor.Statement.{statement}
 use Rattle.orders.proofs.is_factor.Tie as tie
 
-is-volume-factor-requires : tie.Need-is-volume-factor-requires
-is-volume-factor-requires c κs = search needs
-
 returns : tie.Need-returns
 returns c =
     c .is-volume-factor .ensures
     ∙ ap (λ (low : ℤ). isFactor low (c .before .before .args .factor))
     (passed (eqb (c .before .before .args .band) volumeBand) volumeLowest bandLowest (eq-eqb (c .before .before .args .band) volumeBand (c .before .if1 .taken)))
-
-is-band-factor-requires : tie.Need-is-band-factor-requires
-is-band-factor-requires c κs = search needs
 
 returns-2 : tie.Need-returns-2
 returns-2 c =
@@ -31,4 +25,4 @@ returns-2 c =
 pub is-factor-spec : {M : Type 1} → statement M
 is-factor-spec =
     tie.close
-    (tie.spec is-volume-factor-requires returns is-band-factor-requires returns-2)
+    (tie.spec (λ c κs. search needs) returns (λ c κs. search needs) returns-2)

@@ -38,20 +38,11 @@ module _ (c : lts.After-accepted (is-fit-reads.Asked, is-fit-reads.Learnt, check
 arguments-right : (c : lts.Else2 (is-fit-reads.Asked, is-fit-reads.Learnt, check-order-reads.Asked, check-order-reads.Learnt, accepted-reads.Asked, accepted-reads.Learnt, target-of-reads.Asked, target-of-reads.Learnt, aim-unit-reads.Asked, aim-unit-reads.Learnt) reads.Pre reads.Post) → isAccepted (verdict (c .before)) ≡ true
 arguments-right c = sym (arguments-test (c .before)) ∙ not-false _ (c .if2 .left)
 
-is-fit-requires : tie.Need-is-fit-requires
-is-fit-requires c κs = search needs
-
 returns : tie.Need-returns
 returns c =
     sym
     (ordered-unfit (c .before .before .args .unit) (c .before .before .args .side) (c .before .before .args .band) (c .before .before .args .setting)
     (sym (c .before .is-fit .ensures) ∙ not-true _ (c .if1 .taken)))
-
-check-order-requires : tie.Need-check-order-requires
-check-order-requires c κs = search needs
-
-accepted-requires : tie.Need-accepted-requires
-accepted-requires c κs = search needs
 
 returns-2 : tie.Need-returns-2
 returns-2 c =
@@ -89,10 +80,10 @@ pub order-spec : {M : Type 1} → statement M
 order-spec =
     tie.close
     (tie.spec
-    is-fit-requires
+    (λ c κs. search needs)
     returns
-    check-order-requires
-    accepted-requires
+    (λ c κs. search needs)
+    (λ c κs. search needs)
     returns-2
     target-of-requires
     aim-unit-requires

@@ -55,9 +55,6 @@ module _ (c : lts.After-band-step (band-step-reads.Asked, band-step-reads.Learnt
         within = subst (λ (z : ℤ). natAbs z ≤ 558681) (sym (c .band-step .ensures)) (step-size (s .args .position));
       }
 
-cast-p : tie.Need-cast-p
-cast-p c = search needs
-
 mul-result : tie.Need-mul-result
 mul-result c = result-need product (position-of (c .before .args .position) (omega arith)) VolumeStep tt
 
@@ -66,12 +63,6 @@ unfolding targetOf volumePosition
 returns c =
     result product (position-of (c .before .args .position) (omega arith)) VolumeStep tt .held .reads
     ∙ passed (eqb (c .before .args .band) volumeBand) _ _ (eq-eqb (c .before .args .band) volumeBand (c .if1 .taken))
-
-band-step-requires : tie.Need-band-step-requires
-band-step-requires c κs = search needs
-
-cast-result : tie.Need-cast-result
-cast-result c = search needs
 
 sub-result : tie.Need-sub-result
 sub-result c = result-need difference (P c) Middle tt
@@ -90,11 +81,11 @@ pub position-target-spec : {M : Type 1} → statement M
 position-target-spec =
     tie.close
     (tie.spec
-    cast-p
+    (λ c. search needs)
     mul-result
     returns
-    band-step-requires
-    cast-result
+    (λ c κs. search needs)
+    (λ c. search needs)
     sub-result
     mul-result-2
     returns-2)

@@ -11,22 +11,10 @@ use borrow.Author.Needs.{needs}
 use Rattle.orders.proofs.target_of.Statement.{statement}
 use Rattle.orders.proofs.target_of.Tie as tie
 
-enum-known-setting : tie.Need-enum-known-setting
-enum-known-setting c = search needs
-
-position-target-requires : tie.Need-position-target-requires
-position-target-requires c κs = search needs
-
-enum-known-setting-2 : tie.Need-enum-known-setting-2
-enum-known-setting-2 c = search needs
-
 factor-target-requires : tie.Need-factor-target-requires
 factor-target-requires c κs =
     factor-fits (c .before .before .before .args .band) (c .before .setting2 .given .0 .0)
     (subst (λ (s : Setting). isAccepted (levelVerdict (c .before .before .before .args .band) s) ≡ true) (c .before .setting2 .given .1) (c .before .before .before .pre))
-
-enum-told : tie.Need-enum-told
-enum-told c = search needs
 
 returns : tie.Need-returns
 returns c =
@@ -49,11 +37,11 @@ pub target-of-spec : {M : Type 1} → statement M
 target-of-spec =
     tie.close
     (tie.spec
-    enum-known-setting
-    position-target-requires
-    enum-known-setting-2
+    (λ c. search needs)
+    (λ c κs. search needs)
+    (λ c. search needs)
     factor-target-requires
-    enum-told
+    (λ c. search needs)
     returns
     returns-2
     returns-3)

@@ -96,12 +96,6 @@ abbrev μ-loop : tie.MeasureT-loop
 loop-holds : tie.Need-loop-holds Inv-loop μ-loop
 loop-holds c = record { most = search needs; size = refl; done = λ k j. absurd (omega arith) }
 
-mul-band : tie.Need-mul-band Inv-loop μ-loop
-mul-band c = search needs
-
-array-copy-out-band : tie.Need-array-copy-out-band Inv-loop μ-loop
-array-copy-out-band c = search needs
-
 -- band b as it is copied out
 abbrev band-of : lts.After-band reads.Pre reads.Post Inv-loop μ-loop → Band
 band-of c = getD (c .before .before .before .args .t1) (c .before .before .loop .b) noBand
@@ -114,45 +108,6 @@ cast-beta c = widen-need tt (band-of (c .before .before .before .before) .beta) 
 
 cast-gamma : tie.Need-cast-gamma Inv-loop μ-loop
 cast-gamma c = widen-need tt (band-of (c .before .before .before .before .before .before) .gamma) (record { sfits = omega arith })
-
-mul-numbers : tie.Need-mul-numbers Inv-loop μ-loop
-mul-numbers c = search needs
-
-mul-numbers-2 : tie.Need-mul-numbers-2 Inv-loop μ-loop
-mul-numbers-2 c = search needs
-
-array-set-from-numbers : tie.Need-array-set-from-numbers Inv-loop μ-loop
-array-set-from-numbers c = search needs
-
-mul-numbers-3 : tie.Need-mul-numbers-3 Inv-loop μ-loop
-mul-numbers-3 c = search needs
-
-add-numbers : tie.Need-add-numbers Inv-loop μ-loop
-add-numbers c = search needs
-
-mul-numbers-4 : tie.Need-mul-numbers-4 Inv-loop μ-loop
-mul-numbers-4 c = search needs
-
-array-set-from-numbers-2 : tie.Need-array-set-from-numbers-2 Inv-loop μ-loop
-array-set-from-numbers-2 c = search needs
-
-mul-numbers-5 : tie.Need-mul-numbers-5 Inv-loop μ-loop
-mul-numbers-5 c = search needs
-
-add-numbers-2 : tie.Need-add-numbers-2 Inv-loop μ-loop
-add-numbers-2 c = search needs
-
-mul-numbers-6 : tie.Need-mul-numbers-6 Inv-loop μ-loop
-mul-numbers-6 c = search needs
-
-array-set-from-numbers-3 : tie.Need-array-set-from-numbers-3 Inv-loop μ-loop
-array-set-from-numbers-3 c = search needs
-
-add-b : tie.Need-add-b Inv-loop μ-loop
-add-b c = search needs
-
-loop-less : tie.Need-loop-less Inv-loop μ-loop
-loop-less c = search needs
 
 loop-again : tie.Need-loop-again Inv-loop μ-loop
 loop-again c =
@@ -188,23 +143,23 @@ band-numbers-spec =
     Inv-loop
     μ-loop
     loop-holds
-    mul-band
-    array-copy-out-band
+    (λ c. search needs)
+    (λ c. search needs)
     cast-alpha
     cast-beta
     cast-gamma
-    mul-numbers
-    mul-numbers-2
-    array-set-from-numbers
-    mul-numbers-3
-    add-numbers
-    mul-numbers-4
-    array-set-from-numbers-2
-    mul-numbers-5
-    add-numbers-2
-    mul-numbers-6
-    array-set-from-numbers-3
-    add-b
-    loop-less
+    (λ c. search needs)
+    (λ c. search needs)
+    (λ c. search needs)
+    (λ c. search needs)
+    (λ c. search needs)
+    (λ c. search needs)
+    (λ c. search needs)
+    (λ c. search needs)
+    (λ c. search needs)
+    (λ c. search needs)
+    (λ c. search needs)
+    (λ c. search needs)
+    (λ c. search needs)
     loop-again
     returns)

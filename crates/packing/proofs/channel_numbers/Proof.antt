@@ -9,18 +9,6 @@ use Rattle.unit.specs.declared.Channel.{Channel}
 use Rattle.packing.proofs.channel_numbers.Statement.{statement}
 use Rattle.packing.proofs.channel_numbers.Tie as tie
 
-array-set-from-numbers : tie.Need-array-set-from-numbers
-array-set-from-numbers c = search needs
-
-array-set-from-numbers-2 : tie.Need-array-set-from-numbers-2
-array-set-from-numbers-2 c = search needs
-
-array-set-from-numbers-3 : tie.Need-array-set-from-numbers-3
-array-set-from-numbers-3 c = search needs
-
-put-sections-requires : tie.Need-put-sections-requires
-put-sections-requires c κs = search needs
-
 returns : tie.Need-returns
 returns c =
     record {
@@ -42,8 +30,8 @@ pub channel-numbers-spec : {M : Type 1} → statement M
 channel-numbers-spec =
     tie.close
     (tie.spec
-    array-set-from-numbers
-    array-set-from-numbers-2
-    array-set-from-numbers-3
-    put-sections-requires
+    (λ c. search needs)
+    (λ c. search needs)
+    (λ c. search needs)
+    (λ c κs. search needs)
     returns)

@@ -25,27 +25,6 @@ Inv-loop numbers sections₀ b₀ sections b = (b ≤ 10) × (length sections �
 abbrev μ-loop : tie.MeasureT-loop
 μ-loop numbers sections₀ b₀ sections b = 10 - b
 
-section-at-requires : tie.Need-section-at-requires Inv-loop μ-loop
-section-at-requires c κs = search needs
-
-loop-holds : tie.Need-loop-holds Inv-loop μ-loop
-loop-holds c = search needs
-
-section-at-requires-2 : tie.Need-section-at-requires-2 Inv-loop μ-loop
-section-at-requires-2 c κs = search needs
-
-mul-sections : tie.Need-mul-sections Inv-loop μ-loop
-mul-sections c = search needs
-
-array-set-from-sections : tie.Need-array-set-from-sections Inv-loop μ-loop
-array-set-from-sections c = search needs
-
-add-b : tie.Need-add-b Inv-loop μ-loop
-add-b c = search needs
-
-loop-less : tie.Need-loop-less Inv-loop μ-loop
-loop-less c = search needs
-
 loop-again : tie.Need-loop-again Inv-loop μ-loop
 loop-again c = (search needs, simp length-set (c .before .before .loop .inv .1), stored)
   where
@@ -56,15 +35,6 @@ loop-again c = (search needs, simp length-set (c .before .before .loop .inv .1),
         (omega arith)
         (c .before .before .loop .inv .2)
         (c .section-at2 .ensures)
-
-element-copy-out-t12 : tie.Need-element-copy-out-t12 Inv-loop μ-loop
-element-copy-out-t12 c = search needs
-
-element-copy-out-t15 : tie.Need-element-copy-out-t15 Inv-loop μ-loop
-element-copy-out-t15 c = search needs
-
-element-copy-out-t18 : tie.Need-element-copy-out-t18 Inv-loop μ-loop
-element-copy-out-t18 c = search needs
 
 abbrev l : lts.After-t18 (section-at-reads.Asked, section-at-reads.Learnt) reads.Pre reads.Post Inv-loop μ-loop → List ℤ
 l c = now (c .before .before .before .before .before .before .args .numbers)
@@ -93,15 +63,15 @@ channel-of-spec =
     (tie.spec
     Inv-loop
     μ-loop
-    section-at-requires
-    loop-holds
-    section-at-requires-2
-    mul-sections
-    array-set-from-sections
-    add-b
-    loop-less
+    (λ c κs. search needs)
+    (λ c. search needs)
+    (λ c κs. search needs)
+    (λ c. search needs)
+    (λ c. search needs)
+    (λ c. search needs)
+    (λ c. search needs)
     loop-again
-    element-copy-out-t12
-    element-copy-out-t15
-    element-copy-out-t18
+    (λ c. search needs)
+    (λ c. search needs)
+    (λ c. search needs)
     returns)

@@ -56,21 +56,6 @@ loop-holds : tie.Need-loop-holds Inv-loop μ-loop
 loop-holds c =
     record { most = search needs; size = c .pre; front = λ j i. refl; done = λ k j. absurd (omega arith) }
 
-mul-section : tie.Need-mul-section Inv-loop μ-loop
-mul-section c = search needs
-
-array-copy-out-section : tie.Need-array-copy-out-section Inv-loop μ-loop
-array-copy-out-section c = search needs
-
-put-section-requires : tie.Need-put-section-requires Inv-loop μ-loop
-put-section-requires c κs = search needs
-
-add-b : tie.Need-add-b Inv-loop μ-loop
-add-b c = search needs
-
-loop-less : tie.Need-loop-less Inv-loop μ-loop
-loop-less c = search needs
-
 loop-again : tie.Need-loop-again Inv-loop μ-loop
 loop-again c =
     subst (λ (n : List ℤ). Filled (now (s .args .numbers)) (s .args .t2) (c .before .before .before .before .loop .b + 1) n) (sym (c .put-section .ensures))
@@ -103,10 +88,10 @@ put-sections-spec =
     Inv-loop
     μ-loop
     loop-holds
-    mul-section
-    array-copy-out-section
-    put-section-requires
-    add-b
-    loop-less
+    (λ c. search needs)
+    (λ c. search needs)
+    (λ c κs. search needs)
+    (λ c. search needs)
+    (λ c. search needs)
     loop-again
     returns)

@@ -17,33 +17,6 @@ use Rattle.play.proofs.saving.can_save.Reads as can-save-reads
 use Rattle.reading.proofs.read.Reads as read-reads
 use Rattle.refusals.proofs.accepted.Reads as accepted-reads
 
-house-set-requires : tie.Need-house-set-requires
-house-set-requires c κs = search needs
-
-slice-aggregate-load : tie.Need-slice-aggregate-load
-slice-aggregate-load c = search needs
-
-load-requires : tie.Need-load-requires
-load-requires c κs = search needs
-
-read-requires : tie.Need-read-requires
-read-requires c κs = search needs
-
-accepted-requires : tie.Need-accepted-requires
-accepted-requires c κs = search needs
-
-refuse-requires : tie.Need-refuse-requires
-refuse-requires c κs = search needs
-
-returns : tie.Need-returns
-returns c = search needs
-
-can-save-requires : tie.Need-can-save-requires
-can-save-requires c κs = search needs
-
-returns-2 : tie.Need-returns-2
-returns-2 c = search needs
-
 play-requires : tie.Need-play-requires
 play-requires c κs =
     sheet-ready (now (r .before .before .before .before .before .before .args .bytes)) _ (r .read .result) (r .read .ensures) (sym (c .before .before .before .before .accepted .ensures) ∙ not-false (c .before .before .before .before .accepted .result) (c .before .before .before .if1 .left))
@@ -54,22 +27,19 @@ play-requires c κs =
 finish-requires : tie.Need-finish-requires
 finish-requires c κs = c .play .ensures .fit
 
-returns-3 : tie.Need-returns-3
-returns-3 c = search needs
-
 pub start-spec : {M : Type 1} → statement M
 start-spec =
     tie.close
     (tie.spec
-    house-set-requires
-    slice-aggregate-load
-    load-requires
-    read-requires
-    accepted-requires
-    refuse-requires
-    returns
-    can-save-requires
-    returns-2
+    (λ c κs. search needs)
+    (λ c. search needs)
+    (λ c κs. search needs)
+    (λ c κs. search needs)
+    (λ c κs. search needs)
+    (λ c κs. search needs)
+    (λ c. search needs)
+    (λ c κs. search needs)
+    (λ c. search needs)
     play-requires
     finish-requires
-    returns-3)
+    (λ c. search needs))

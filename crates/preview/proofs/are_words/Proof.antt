@@ -48,23 +48,8 @@ module _ (c : lts.After-is-word (is-word-reads.Asked, is-word-reads.Learnt) read
 loop-holds : tie.Need-loop-holds Inv-loop μ-loop
 loop-holds c = (search needs, refl)
 
-mul-is-word : tie.Need-mul-is-word Inv-loop μ-loop
-mul-is-word c = search needs
-
-shared-slice-copy-out-is-word : tie.Need-shared-slice-copy-out-is-word Inv-loop μ-loop
-shared-slice-copy-out-is-word c = search needs
-
-is-word-requires : tie.Need-is-word-requires Inv-loop μ-loop
-is-word-requires c κs = search needs
-
 returns : tie.Need-returns Inv-loop μ-loop
 returns c = sym (decides (c .before) _ (not-true _ (c .if1 .taken)))
-
-add-i : tie.Need-add-i Inv-loop μ-loop
-add-i c = search needs
-
-loop-less : tie.Need-loop-less Inv-loop μ-loop
-loop-less c = search needs
 
 loop-again : tie.Need-loop-again Inv-loop μ-loop
 loop-again c = (search needs, rw add-one (decides (c .before) _ (not-false _ (c .if1 .left))))
@@ -80,11 +65,11 @@ are-words-spec =
     Inv-loop
     μ-loop
     loop-holds
-    mul-is-word
-    shared-slice-copy-out-is-word
-    is-word-requires
+    (λ c. search needs)
+    (λ c. search needs)
+    (λ c κs. search needs)
     returns
-    add-i
-    loop-less
+    (λ c. search needs)
+    (λ c. search needs)
     loop-again
     returns-2)

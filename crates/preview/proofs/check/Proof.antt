@@ -17,12 +17,6 @@ use Rattle.refusals.proofs.accepted.Reads as accepted-reads
 band-test : (c : lts.After-accepted (check-band-reads.Asked, check-band-reads.Learnt, accepted-reads.Asked, accepted-reads.Learnt, are-words-reads.Asked, are-words-reads.Learnt) reads.Pre reads.Post) → isAccepted (bandVerdict (c .before .before .args .band)) ≡ c .accepted .result
 band-test c = sym (c .accepted .ensures ∙ ap isAccepted (c .before .check-band .ensures))
 
-check-band-requires : tie.Need-check-band-requires
-check-band-requires c κs = search needs
-
-accepted-requires : tie.Need-accepted-requires
-accepted-requires c κs = search needs
-
 returns : tie.Need-returns
 unfolding previewVerdict
 returns c = c .before .before .check-band .ensures ∙ sym (simp (band-test (c .before) ∙ not-true _ (c .if1 .taken)))
@@ -30,9 +24,6 @@ returns c = c .before .before .check-band .ensures ∙ sym (simp (band-test (c .
 returns-2 : tie.Need-returns-2
 unfolding previewVerdict
 returns-2 c = sym (simp (band-test (c .before .before) ∙ not-false _ (c .before .if1 .left), lt-leb _ _ (c .if2 .taken)))
-
-are-words-requires : tie.Need-are-words-requires
-are-words-requires c κs = search needs
 
 returns-3 : tie.Need-returns-3
 unfolding previewVerdict
@@ -57,4 +48,4 @@ returns-4 c =
 pub check-spec : {M : Type 1} → statement M
 check-spec =
     tie.close
-    (tie.spec check-band-requires accepted-requires returns returns-2 are-words-requires returns-3 returns-4)
+    (tie.spec (λ c κs. search needs) (λ c κs. search needs) returns returns-2 (λ c κs. search needs) returns-3 returns-4)

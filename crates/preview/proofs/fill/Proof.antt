@@ -36,17 +36,8 @@ module _ (c : lts.After-accepted (check-reads.Asked, check-reads.Learnt, accepte
   accepted-is : isAccepted verdict ≡ c .accepted .result
   accepted-is = sym (c .accepted .ensures ∙ ap isAccepted verdict-is)
 
-check-requires : tie.Need-check-requires
-check-requires c κs = search needs
-
-accepted-requires : tie.Need-accepted-requires
-accepted-requires c κs = search needs
-
 run-requires : tie.Need-run-requires
 run-requires c κs = accepted-is (c .before .before) ∙ c .before .if1 .taken
-
-same-length : tie.Need-same-length
-same-length c = search needs
 
 returns : tie.Need-returns
 unfolding previewed
@@ -65,4 +56,4 @@ returns-2 c = (verdict-is a, failed (isAccepted (verdict a)) (sectionResults (s 
 pub fill-spec : {M : Type 1} → statement M
 fill-spec =
     tie.close
-    (tie.spec check-requires accepted-requires run-requires same-length returns returns-2)
+    (tie.spec (λ c κs. search needs) (λ c κs. search needs) run-requires (λ c. search needs) returns returns-2)

@@ -53,9 +53,6 @@ Inv-loop words results₀ preview₀ i₀ results preview i = Inv preview₀ wor
 abbrev μ-loop : tie.MeasureT-loop
 μ-loop words results₀ preview₀ i₀ results preview i = length words - i
 
-cleared-requires : tie.Need-cleared-requires Inv-loop μ-loop
-cleared-requires c κs = search needs
-
 -- ---- before the loop
 
 module _ (c : lts.After-cleared (cleared-reads.Asked, cleared-reads.Learnt, step-reads.Asked, step-reads.Learnt) reads.Pre reads.Post Inv-loop μ-loop) where
@@ -97,12 +94,6 @@ loop-holds c =
       stored = refl;
       given = ap (λ (s : Section). resultsOver s (words c)) (first-back c);
     }
-
-mul-step : tie.Need-mul-step Inv-loop μ-loop
-mul-step c = search needs
-
-shared-slice-copy-out-step : tie.Need-shared-slice-copy-out-step Inv-loop μ-loop
-shared-slice-copy-out-step c = search needs
 
 -- ---- a word read
 
@@ -177,17 +168,8 @@ float-to-int-results : tie.Need-float-to-int-results Inv-loop μ-loop
 float-to-int-results c =
     subst (λ (p : Preview). T (inSigned binary64 31 (p .y1))) (sym (next-is (c .before))) (back (c .before) .0)
 
-mul-t6 : tie.Need-mul-t6 Inv-loop μ-loop
-mul-t6 c = search needs
-
 slice-set-from-results : tie.Need-slice-set-from-results Inv-loop μ-loop
 slice-set-from-results c = omega (arith, fewer (c .before), length-now (c .before))
-
-add-i : tie.Need-add-i Inv-loop μ-loop
-add-i c = search needs
-
-loop-less : tie.Need-loop-less Inv-loop μ-loop
-loop-less c = search needs
 
 loop-again : tie.Need-loop-again Inv-loop μ-loop
 loop-again c =
@@ -253,16 +235,16 @@ run-spec =
     (tie.spec
     Inv-loop
     μ-loop
-    cleared-requires
+    (λ c κs. search needs)
     loop-holds
-    mul-step
-    shared-slice-copy-out-step
+    (λ c. search needs)
+    (λ c. search needs)
     step-requires
     float-to-int-results
-    mul-t6
+    (λ c. search needs)
     slice-set-from-results
-    add-i
-    loop-less
+    (λ c. search needs)
+    (λ c. search needs)
     loop-again
     same-length
     returns)

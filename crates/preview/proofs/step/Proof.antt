@@ -74,9 +74,6 @@ module _ (s : lts.Start (result-of-reads.Asked, result-of-reads.Learnt) reads.Pr
   total-whole : wholeOf total ≡ S
   total-whole = ap wholeOf total-is ∙ whole-back S (le-of-lt S-size)
 
-int-to-float-input : tie.Need-int-to-float-input
-int-to-float-input c = search needs
-
 result-of-requires : tie.Need-result-of-requires
 result-of-requires c κs =
     record {
@@ -105,4 +102,4 @@ returns c =
     s = c .before .before .before .before
 
 pub step-spec : {M : Type 1} → statement M
-step-spec = tie.close (tie.spec int-to-float-input result-of-requires returns)
+step-spec = tie.close (tie.spec (λ c. search needs) result-of-requires returns)

@@ -15,33 +15,6 @@ use borrow.Author.Needs.{needs}
 use Rattle.reading.proofs.check_band_at.Statement.{statement}
 use Rattle.reading.proofs.check_band_at.Tie as tie
 
-mul-t4 : tie.Need-mul-t4
-mul-t4 c = search needs
-
-element-copy-out-t7 : tie.Need-element-copy-out-t7
-element-copy-out-t7 c = search needs
-
-add-t8 : tie.Need-add-t8
-add-t8 c = search needs
-
-mul-t9 : tie.Need-mul-t9
-mul-t9 c = search needs
-
-element-copy-out-t12 : tie.Need-element-copy-out-t12
-element-copy-out-t12 c = search needs
-
-add-t13 : tie.Need-add-t13
-add-t13 c = search needs
-
-mul-t14 : tie.Need-mul-t14
-mul-t14 c = search needs
-
-element-copy-out-t17 : tie.Need-element-copy-out-t17
-element-copy-out-t17 c = search needs
-
-check-band-requires : tie.Need-check-band-requires
-check-band-requires c κs = search needs
-
 returns : tie.Need-returns
 returns c =
     c .check-band .ensures
@@ -66,13 +39,13 @@ pub check-band-at-spec : {M : Type 1} → statement M
 check-band-at-spec =
     tie.close
     (tie.spec
-    mul-t4
-    element-copy-out-t7
-    add-t8
-    mul-t9
-    element-copy-out-t12
-    add-t13
-    mul-t14
-    element-copy-out-t17
-    check-band-requires
+    (λ c. search needs)
+    (λ c. search needs)
+    (λ c. search needs)
+    (λ c. search needs)
+    (λ c. search needs)
+    (λ c. search needs)
+    (λ c. search needs)
+    (λ c. search needs)
+    (λ c κs. search needs)
     returns)

@@ -20,15 +20,6 @@ use Rattle.numbers.proofs.unit_of.Reads as unit-of-reads
 use Rattle.reading.proofs.read_numbers.Reads as read-numbers-reads
 use Rattle.refusals.proofs.accepted.Reads as accepted-reads
 
-read-numbers-requires : tie.Need-read-numbers-requires
-read-numbers-requires c κs = search needs
-
-accepted-requires : tie.Need-accepted-requires
-accepted-requires c κs = search needs
-
-unit-of-requires : tie.Need-unit-of-requires
-unit-of-requires c κs = search needs
-
 -- ---- the sheet read
 
 module _ (c : lts.After-accepted (read-numbers-reads.Asked, read-numbers-reads.Learnt, accepted-reads.Asked, accepted-reads.Learnt, unit-of-reads.Asked, unit-of-reads.Learnt) reads.Pre reads.Post) where
@@ -67,4 +58,4 @@ returns-2 c =
 
 pub read-spec : {M : Type 1} → statement M
 read-spec =
-    tie.close (tie.spec read-numbers-requires accepted-requires unit-of-requires returns returns-2)
+    tie.close (tie.spec (λ c κs. search needs) (λ c κs. search needs) (λ c κs. search needs) returns returns-2)

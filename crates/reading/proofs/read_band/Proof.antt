@@ -38,26 +38,11 @@ module _ (c : lts.Start (check-mark-reads.Asked, check-mark-reads.Learnt, accept
   abbrev end : Part
   end = endPart 3 (drop (c .args .at) bytes)
 
-shared-slice-read-check-mark : tie.Need-shared-slice-read-check-mark
-shared-slice-read-check-mark c = search needs
-
-check-mark-requires : tie.Need-check-mark-requires
-check-mark-requires c κs = search needs
-
-accepted-requires : tie.Need-accepted-requires
-accepted-requires c κs = search needs
-
 returns : tie.Need-returns
 returns c =
     let s = c .before .before .before .before .before in
     letter-refused 67 (rangesOf Band) (andThen (test (joint s)) (end s)) (bytes s) (s .args .at) (now (s .args .numbers)) (s .args .place) (c .before .before .check-mark .ensures)
     (sym (c .before .accepted .ensures) ∙ not-true _ (c .if1 .taken))
-
-add-read-fields : tie.Need-add-read-fields
-add-read-fields c = search needs
-
-read-fields-requires : tie.Need-read-fields-requires
-read-fields-requires c κs = search needs
 
 -- ---- the fields read
 
@@ -89,9 +74,6 @@ module _ (c : lts.After-read-fields (check-mark-reads.Asked, check-mark-reads.Le
         fields-passed 67 (rangesOf Band) (andThen (test (joint start)) (end start)) (bytes start) (start .args .at) (now (start .args .numbers)) (start .args .place) (c .before .before .before .before .check-mark .ensures)
         passed fields-stored e
 
-accepted-requires-2 : tie.Need-accepted-requires-2
-accepted-requires-2 c κs = search needs
-
 returns-2 : tie.Need-returns-2
 returns-2 c =
     let o = c .before .before in
@@ -104,23 +86,11 @@ check-band-at-requires c κs =
     let o = c .before .before .before in
     (stored-length (fields-stored o) ∙ start o .pre .1, start o .pre .2)
 
-accepted-requires-3 : tie.Need-accepted-requires-3
-accepted-requires-3 c κs = search needs
-
 returns-3 : tie.Need-returns-3
 returns-3 c =
     let o = c .before .before .before .before .before .before in
     let e = sym (c .before .before .before .before .before .accepted2 .ensures) ∙ not-false _ (c .before .before .before .before .if2 .left) in
     off (test (joint (start o))) (end (start o)) (leads o e) (tested (c .before .before .check-band-at .ensures ∙ band-is o e)) (sym (c .before .accepted3 .ensures) ∙ not-true _ (c .if3 .taken))
-
-add-check-mark : tie.Need-add-check-mark
-add-check-mark c = search needs
-
-shared-slice-read-check-mark-2 : tie.Need-shared-slice-read-check-mark-2
-shared-slice-read-check-mark-2 c = search needs
-
-check-mark-requires-2 : tie.Need-check-mark-requires-2
-check-mark-requires-2 c κs = search needs
 
 returns-4 : tie.Need-returns-4
 returns-4 c =
@@ -135,18 +105,18 @@ pub read-band-spec : {M : Type 1} → statement M
 read-band-spec =
     tie.close
     (tie.spec
-    shared-slice-read-check-mark
-    check-mark-requires
-    accepted-requires
+    (λ c. search needs)
+    (λ c κs. search needs)
+    (λ c κs. search needs)
     returns
-    add-read-fields
-    read-fields-requires
-    accepted-requires-2
+    (λ c. search needs)
+    (λ c κs. search needs)
+    (λ c κs. search needs)
     returns-2
     check-band-at-requires
-    accepted-requires-3
+    (λ c κs. search needs)
     returns-3
-    add-check-mark
-    shared-slice-read-check-mark-2
-    check-mark-requires-2
+    (λ c. search needs)
+    (λ c. search needs)
+    (λ c κs. search needs)
     returns-4)

@@ -47,25 +47,10 @@ loop-holds c = (
   left-all (linePart Band) 29 3 bandCount (bytes (c .before)) 20 (now (c .before .args .numbers)) 2,
 )
 
-mul-at : tie.Need-mul-at Inv-loop μ-loop
-mul-at c = search needs
-
-add-at : tie.Need-add-at Inv-loop μ-loop
-add-at c = search needs
-
-mul-read-band : tie.Need-mul-read-band Inv-loop μ-loop
-mul-read-band c = search needs
-
-add-read-band : tie.Need-add-read-band Inv-loop μ-loop
-add-read-band c = search needs
-
 read-band-requires : tie.Need-read-band-requires Inv-loop μ-loop
 read-band-requires c κs =
     let s = c .before .before .before .before in
     (omega (arith, s .pre .0), c .before .before .loop .inv .1 ∙ s .pre .1, omega (arith, s .pre .1))
-
-accepted-requires : tie.Need-accepted-requires Inv-loop μ-loop
-accepted-requires c κs = search needs
 
 -- ---- the ith line read
 
@@ -89,12 +74,6 @@ returns c =
     in-words s
     (left-off (linePart Band) 29 3 bandCount (bytes s) 20 (now (s .args .numbers)) 2 (i o) (left o) (below o) (29 * i o + 20) (3 * i o + 2) (omega arith) (omega arith)
     (o .read-band .ensures) (sym (c .before .accepted .ensures) ∙ not-true _ (c .if1 .taken)))
-
-add-i : tie.Need-add-i Inv-loop μ-loop
-add-i c = search needs
-
-loop-less : tie.Need-loop-less Inv-loop μ-loop
-loop-less c = search needs
 
 loop-again : tie.Need-loop-again Inv-loop μ-loop
 loop-again c = (
@@ -126,14 +105,14 @@ read-bands-spec =
     Inv-loop
     μ-loop
     loop-holds
-    mul-at
-    add-at
-    mul-read-band
-    add-read-band
+    (λ c. search needs)
+    (λ c. search needs)
+    (λ c. search needs)
+    (λ c. search needs)
     read-band-requires
-    accepted-requires
+    (λ c κs. search needs)
     returns
-    add-i
-    loop-less
+    (λ c. search needs)
+    (λ c. search needs)
     loop-again
     returns-2)

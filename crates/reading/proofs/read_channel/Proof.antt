@@ -33,22 +33,10 @@ module _ (c : lts.Start (read-head-reads.Asked, read-head-reads.Learnt, accepted
   abbrev sections : Part
   sections = linesPart (replicate bandCount Section) (drop 29 bytes)
 
-read-head-requires : tie.Need-read-head-requires
-read-head-requires c κs = search needs
-
-accepted-requires : tie.Need-accepted-requires
-accepted-requires c κs = search needs
-
 returns : tie.Need-returns
 returns c =
     let s = c .before .before .before .before .before in
     off (head s) (sections s) (λ v m t. t) (c .before .before .read-head .ensures) (sym (c .before .accepted .ensures) ∙ not-true _ (c .if1 .taken))
-
-add-read-sections : tie.Need-add-read-sections
-add-read-sections c = search needs
-
-add-read-sections-2 : tie.Need-add-read-sections-2
-add-read-sections-2 c = search needs
 
 read-sections-requires : tie.Need-read-sections-requires
 read-sections-requires c κs =
@@ -69,10 +57,10 @@ pub read-channel-spec : {M : Type 1} → statement M
 read-channel-spec =
     tie.close
     (tie.spec
-    read-head-requires
-    accepted-requires
+    (λ c κs. search needs)
+    (λ c κs. search needs)
     returns
-    add-read-sections
-    add-read-sections-2
+    (λ c. search needs)
+    (λ c. search needs)
     read-sections-requires
     returns-2)

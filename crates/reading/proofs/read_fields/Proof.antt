@@ -60,15 +60,6 @@ loop-holds c = (
   left-all (fieldIn (range (c .before))) fieldSize 1 (c .before .args .count) (now (c .before .args .bytes)) (c .before .args .at) (now (c .before .args .numbers)) (c .before .args .place),
 )
 
-mul-read-field : tie.Need-mul-read-field Inv-loop μ-loop
-mul-read-field c = search needs
-
-add-read-field : tie.Need-add-read-field Inv-loop μ-loop
-add-read-field c = search needs
-
-read-field-requires : tie.Need-read-field-requires Inv-loop μ-loop
-read-field-requires c κs = search needs
-
 -- ---- the ith field read
 
 module _ (c : lts.After-read-field (read-field-reads.Asked, read-field-reads.Learnt, in-range-reads.Asked, in-range-reads.Learnt) reads.Pre reads.Post Inv-loop μ-loop) where
@@ -114,9 +105,6 @@ returns c =
 cast-in-range : tie.Need-cast-in-range Inv-loop μ-loop
 cast-in-range c = widen-need tt (c .before .read-field .result) (record { sfits = c .before .read-field .ok })
 
-in-range-requires : tie.Need-in-range-requires Inv-loop μ-loop
-in-range-requires c κs = search needs
-
 -- ---- its number tested
 
 module _ (c : lts.After-in-range (read-field-reads.Asked, read-field-reads.Learnt, in-range-reads.Asked, in-range-reads.Learnt) reads.Pre reads.Post Inv-loop μ-loop) where
@@ -133,21 +121,6 @@ returns-2 c =
     (field-outside (range (start (o t))) (bytes (o t)) (here (o t)) (long (o t)) (number (o t)) (o t .read-field .ok) (o t .read-field .ensures) (t .before .if1 .left)
     (sym (test-is t) ∙ not-true _ (c .if2 .taken)))
     refl
-
-add-number : tie.Need-add-number Inv-loop μ-loop
-add-number c = search needs
-
-mul-number : tie.Need-mul-number Inv-loop μ-loop
-mul-number c = search needs
-
-element-set-from-number : tie.Need-element-set-from-number Inv-loop μ-loop
-element-set-from-number c = search needs
-
-add-i : tie.Need-add-i Inv-loop μ-loop
-add-i c = search needs
-
-loop-less : tie.Need-loop-less Inv-loop μ-loop
-loop-less c = search needs
 
 loop-again : tie.Need-loop-again Inv-loop μ-loop
 loop-again c = (
@@ -181,17 +154,17 @@ read-fields-spec =
     Inv-loop
     μ-loop
     loop-holds
-    mul-read-field
-    add-read-field
-    read-field-requires
+    (λ c. search needs)
+    (λ c. search needs)
+    (λ c κs. search needs)
     returns
     cast-in-range
-    in-range-requires
+    (λ c κs. search needs)
     returns-2
-    add-number
-    mul-number
-    element-set-from-number
-    add-i
-    loop-less
+    (λ c. search needs)
+    (λ c. search needs)
+    (λ c. search needs)
+    (λ c. search needs)
+    (λ c. search needs)
     loop-again
     returns-3)

@@ -27,26 +27,11 @@ module _ (c : lts.Start (check-mark-reads.Asked, check-mark-reads.Learnt, accept
   abbrev end : Part
   end = endPart 3 (drop (c .args .at) bytes)
 
-shared-slice-read-check-mark : tie.Need-shared-slice-read-check-mark
-shared-slice-read-check-mark c = search needs
-
-check-mark-requires : tie.Need-check-mark-requires
-check-mark-requires c κs = search needs
-
-accepted-requires : tie.Need-accepted-requires
-accepted-requires c κs = search needs
-
 returns : tie.Need-returns
 returns c =
     let s = c .before .before .before .before .before in
     letter-refused (s .args .letter) channelRanges (end s) (bytes s) (s .args .at) (now (s .args .numbers)) (s .args .place) (c .before .before .check-mark .ensures)
     (sym (c .before .accepted .ensures) ∙ not-true _ (c .if1 .taken))
-
-add-read-state : tie.Need-add-read-state
-add-read-state c = search needs
-
-read-state-requires : tie.Need-read-state-requires
-read-state-requires c κs = search needs
 
 -- ---- the fields read
 
@@ -58,24 +43,12 @@ module _ (c : lts.After-read-state (check-mark-reads.Asked, check-mark-reads.Lea
   passed : isAccepted (c .before .before .before .before .check-mark .result) ≡ true
   passed = sym (c .before .before .before .accepted .ensures) ∙ not-false _ (c .before .before .if1 .left)
 
-accepted-requires-2 : tie.Need-accepted-requires-2
-accepted-requires-2 c κs = search needs
-
 returns-2 : tie.Need-returns-2
 returns-2 c =
     let o = c .before .before in
     let s = start o in
     fields-refused (s .args .letter) channelRanges (end s) (bytes s) (s .args .at) (now (s .args .numbers)) (s .args .place) (o .before .before .before .before .check-mark .ensures)
     (passed o) (o .read-state .ensures) (sym (c .before .accepted2 .ensures) ∙ not-true _ (c .if2 .taken))
-
-add-check-mark : tie.Need-add-check-mark
-add-check-mark c = search needs
-
-shared-slice-read-check-mark-2 : tie.Need-shared-slice-read-check-mark-2
-shared-slice-read-check-mark-2 c = search needs
-
-check-mark-requires-2 : tie.Need-check-mark-requires-2
-check-mark-requires-2 c κs = search needs
 
 returns-3 : tie.Need-returns-3
 returns-3 c =
@@ -90,15 +63,15 @@ pub read-head-spec : {M : Type 1} → statement M
 read-head-spec =
     tie.close
     (tie.spec
-    shared-slice-read-check-mark
-    check-mark-requires
-    accepted-requires
+    (λ c. search needs)
+    (λ c κs. search needs)
+    (λ c κs. search needs)
     returns
-    add-read-state
-    read-state-requires
-    accepted-requires-2
+    (λ c. search needs)
+    (λ c κs. search needs)
+    (λ c κs. search needs)
     returns-2
-    add-check-mark
-    shared-slice-read-check-mark-2
-    check-mark-requires-2
+    (λ c. search needs)
+    (λ c. search needs)
+    (λ c κs. search needs)
     returns-3)

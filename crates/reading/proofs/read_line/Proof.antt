@@ -43,27 +43,12 @@ module _ (c : lts.Start (check-mark-reads.Asked, check-mark-reads.Learnt, accept
   in-words s =
       restored (ap₂ (λ (a b : ℤ). plainPart (c .args .letter) (replicate (c .args .count) (within a b)) (drop (c .args .at) bytes)) (toZ-ofZ (c .fits .low)) (toZ-ofZ (c .fits .high))) refl s
 
-shared-slice-read-check-mark : tie.Need-shared-slice-read-check-mark
-shared-slice-read-check-mark c = search needs
-
-check-mark-requires : tie.Need-check-mark-requires
-check-mark-requires c κs = search needs
-
-accepted-requires : tie.Need-accepted-requires
-accepted-requires c κs = search needs
-
 returns : tie.Need-returns
 returns c =
     let s = c .before .before .before .before .before in
     in-words s
     (letter-refused (s .args .letter) (ranges s) (end s) (bytes s) (s .args .at) (now (s .args .numbers)) (s .args .place) (c .before .before .check-mark .ensures)
     (sym (c .before .accepted .ensures) ∙ not-true _ (c .if1 .taken)))
-
-add-read-fields : tie.Need-add-read-fields
-add-read-fields c = search needs
-
-read-fields-requires : tie.Need-read-fields-requires
-read-fields-requires c κs = search needs
 
 -- ---- the fields read
 
@@ -75,9 +60,6 @@ module _ (c : lts.After-read-fields (check-mark-reads.Asked, check-mark-reads.Le
   passed : isAccepted (c .before .before .before .before .check-mark .result) ≡ true
   passed = sym (c .before .before .before .accepted .ensures) ∙ not-false _ (c .before .before .if1 .left)
 
-accepted-requires-2 : tie.Need-accepted-requires-2
-accepted-requires-2 c κs = search needs
-
 returns-2 : tie.Need-returns-2
 returns-2 c =
     let o = c .before .before in
@@ -85,21 +67,6 @@ returns-2 c =
     in-words s
     (fields-refused (s .args .letter) (ranges s) (end s) (bytes s) (s .args .at) (now (s .args .numbers)) (s .args .place) (o .before .before .before .before .check-mark .ensures)
     (passed o) (o .read-fields .ensures) (sym (c .before .accepted2 .ensures) ∙ not-true _ (c .if2 .taken)))
-
-mul-check-mark : tie.Need-mul-check-mark
-mul-check-mark c = search needs
-
-add-check-mark : tie.Need-add-check-mark
-add-check-mark c = search needs
-
-add-check-mark-2 : tie.Need-add-check-mark-2
-add-check-mark-2 c = search needs
-
-shared-slice-read-check-mark-2 : tie.Need-shared-slice-read-check-mark-2
-shared-slice-read-check-mark-2 c = search needs
-
-check-mark-requires-2 : tie.Need-check-mark-requires-2
-check-mark-requires-2 c κs = search needs
 
 returns-3 : tie.Need-returns-3
 returns-3 c =
@@ -115,17 +82,17 @@ pub read-line-spec : {M : Type 1} → statement M
 read-line-spec =
     tie.close
     (tie.spec
-    shared-slice-read-check-mark
-    check-mark-requires
-    accepted-requires
+    (λ c. search needs)
+    (λ c κs. search needs)
+    (λ c κs. search needs)
     returns
-    add-read-fields
-    read-fields-requires
-    accepted-requires-2
+    (λ c. search needs)
+    (λ c κs. search needs)
+    (λ c κs. search needs)
     returns-2
-    mul-check-mark
-    add-check-mark
-    add-check-mark-2
-    shared-slice-read-check-mark-2
-    check-mark-requires-2
+    (λ c. search needs)
+    (λ c. search needs)
+    (λ c. search needs)
+    (λ c. search needs)
+    (λ c κs. search needs)
     returns-3)

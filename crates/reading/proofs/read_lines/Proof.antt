@@ -66,12 +66,6 @@ module _ (c : lts.After-read-line (read-line-reads.Asked, read-line-reads.Learnt
         on (linePart Volume (bytes start)) (andThen (bands start) (andThen (left start) (right start))) (leads-all start) volume e 2
         (line-long Volume (bytes start) (ap isAccepted (sym (volume .verdict-is)) ∙ e))
 
-read-line-requires : tie.Need-read-line-requires
-read-line-requires c κs = search needs
-
-accepted-requires : tie.Need-accepted-requires
-accepted-requires c κs = search needs
-
 returns : tie.Need-returns
 returns c =
     let o = c .before .before in
@@ -91,9 +85,6 @@ read-bands-requires : tie.Need-read-bands-requires
 read-bands-requires c κs =
     let o = first (c .before) in
     (start o .pre .0, stored-length (volume o) ∙ start o .pre .1)
-
-accepted-requires-2 : tie.Need-accepted-requires-2
-accepted-requires-2 c κs = search needs
 
 returns-2 : tie.Need-returns-2
 returns-2 c =
@@ -126,9 +117,6 @@ read-channel-requires c κs =
       omega arith,
     )
 
-accepted-requires-3 : tie.Need-accepted-requires-3
-accepted-requires-3 c κs = search needs
-
 returns-3 : tie.Need-returns-3
 returns-3 c =
     let t = c .before .before .before .before in
@@ -155,14 +143,14 @@ pub read-lines-spec : {M : Type 1} → statement M
 read-lines-spec =
     tie.close
     (tie.spec
-    read-line-requires
-    accepted-requires
+    (λ c κs. search needs)
+    (λ c κs. search needs)
     returns
     read-bands-requires
-    accepted-requires-2
+    (λ c κs. search needs)
     returns-2
     read-channel-requires
-    accepted-requires-3
+    (λ c κs. search needs)
     returns-3
     read-channel-requires-2
     returns-4)

@@ -9,11 +9,8 @@ use Rattle.reading.proofs.read_numbers.Tie as tie
 returns : tie.Need-returns
 returns c = short-sheet (now (c .before .before .args .bytes)) (c .if1 .taken)
 
-read-lines-requires : tie.Need-read-lines-requires
-read-lines-requires c κs = search needs
-
 returns-2 : tie.Need-returns-2
 returns-2 c = full-sheet (now (c .before .before .before .before .args .bytes)) (omega arith) (c .read-lines .ensures)
 
 pub read-numbers-spec : {M : Type 1} → statement M
-read-numbers-spec = tie.close (tie.spec returns read-lines-requires returns-2)
+read-numbers-spec = tie.close (tie.spec returns (λ c κs. search needs) returns-2)

@@ -47,25 +47,10 @@ loop-holds c = (
   left-all (linePart Section) 38 4 bandCount (bytes (c .before)) (c .before .args .at) (now (c .before .args .numbers)) (c .before .args .place),
 )
 
-mul-start : tie.Need-mul-start Inv-loop μ-loop
-mul-start c = search needs
-
-add-start : tie.Need-add-start Inv-loop μ-loop
-add-start c = search needs
-
-mul-read-words : tie.Need-mul-read-words Inv-loop μ-loop
-mul-read-words c = search needs
-
-add-read-words : tie.Need-add-read-words Inv-loop μ-loop
-add-read-words c = search needs
-
 read-words-requires : tie.Need-read-words-requires Inv-loop μ-loop
 read-words-requires c κs =
     let s = c .before .before .before .before in
     (omega (arith, s .pre .0), c .before .before .loop .inv .1 ∙ s .pre .1, omega (arith, s .pre .1))
-
-accepted-requires : tie.Need-accepted-requires Inv-loop μ-loop
-accepted-requires c κs = search needs
 
 -- ---- the ith line read
 
@@ -89,12 +74,6 @@ returns c =
     in-words s
     (left-off (linePart Section) 38 4 bandCount (bytes s) (s .args .at) (now (s .args .numbers)) (s .args .place) (i o) (left o) (below o) (38 * i o + s .args .at) (4 * i o + s .args .place) (omega arith) (omega arith)
     (o .read-words .ensures) (sym (c .before .accepted .ensures) ∙ not-true _ (c .if1 .taken)))
-
-add-i : tie.Need-add-i Inv-loop μ-loop
-add-i c = search needs
-
-loop-less : tie.Need-loop-less Inv-loop μ-loop
-loop-less c = search needs
 
 loop-again : tie.Need-loop-again Inv-loop μ-loop
 loop-again c = (
@@ -126,14 +105,14 @@ read-sections-spec =
     Inv-loop
     μ-loop
     loop-holds
-    mul-start
-    add-start
-    mul-read-words
-    add-read-words
+    (λ c. search needs)
+    (λ c. search needs)
+    (λ c. search needs)
+    (λ c. search needs)
     read-words-requires
-    accepted-requires
+    (λ c κs. search needs)
     returns
-    add-i
-    loop-less
+    (λ c. search needs)
+    (λ c. search needs)
     loop-again
     returns-2)

@@ -22,12 +22,6 @@ use Rattle.reading.proofs.read_fields.Reads as read-fields-reads
 use Rattle.reading.proofs.read_input.Reads as read-input-reads
 use Rattle.refusals.proofs.accepted.Reads as accepted-reads
 
-read-input-requires : tie.Need-read-input-requires
-read-input-requires c κs = search needs
-
-accepted-requires : tie.Need-accepted-requires
-accepted-requires c κs = search needs
-
 module _ (c : lts.Start (read-input-reads.Asked, read-input-reads.Learnt, accepted-reads.Asked, accepted-reads.Learnt, read-fields-reads.Asked, read-fields-reads.Learnt) reads.Pre reads.Post) where
   abbrev bytes : List ℕ
   bytes = now (c .args .bytes)
@@ -55,19 +49,10 @@ module _ (c : lts.Else1 (read-input-reads.Asked, read-input-reads.Learnt, accept
       next-field isInput (isInput ∷ isFlag ∷ []) (bytes start) (at start) (λ v m t. t) (c .before .before .read-input .ensures)
       (sym (c .before .accepted .ensures) ∙ not-false _ (c .if1 .left))
 
-add-read-input : tie.Need-add-read-input
-add-read-input c = search needs
-
-add-read-input-2 : tie.Need-add-read-input-2
-add-read-input-2 c = search needs
-
 read-input-requires-2 : tie.Need-read-input-requires-2
 read-input-requires-2 c κs =
     let s = start (c .before) in
     (omega (arith, s .pre .0), stored-length (c .before .before .before .read-input .ensures) ∙ s .pre .1, omega (arith, s .pre .2))
-
-accepted-requires-2 : tie.Need-accepted-requires-2
-accepted-requires-2 c κs = search needs
 
 returns-2 : tie.Need-returns-2
 returns-2 c =
@@ -75,12 +60,6 @@ returns-2 c =
     let s = start o in
     off (fieldPart isInput (fieldAt (bytes s) (at s + fieldSize))) (fieldsPart (isFlag ∷ []) (drop fieldSize (drop (at s + fieldSize) (bytes s)))) (leads o) (c .before .before .read-input2 .ensures)
     (sym (c .before .accepted2 .ensures) ∙ not-true _ (c .if2 .taken))
-
-add-read-fields : tie.Need-add-read-fields
-add-read-fields c = search needs
-
-add-read-fields-2 : tie.Need-add-read-fields-2
-add-read-fields-2 c = search needs
 
 read-fields-requires : tie.Need-read-fields-requires
 read-fields-requires c κs =
@@ -104,15 +83,15 @@ pub read-state-spec : {M : Type 1} → statement M
 read-state-spec =
     tie.close
     (tie.spec
-    read-input-requires
-    accepted-requires
+    (λ c κs. search needs)
+    (λ c κs. search needs)
     returns
-    add-read-input
-    add-read-input-2
+    (λ c. search needs)
+    (λ c. search needs)
     read-input-requires-2
-    accepted-requires-2
+    (λ c κs. search needs)
     returns-2
-    add-read-fields
-    add-read-fields-2
+    (λ c. search needs)
+    (λ c. search needs)
     read-fields-requires
     returns-3)

@@ -22,29 +22,8 @@ use Rattle.blocks.proofs.play.Reads as play-reads
 use Rattle.refusals.proofs.accepted.Reads as accepted-reads
 use Rattle.stream.proofs.keep_tail.Reads as keep-tail-reads
 
-sub-whole : tie.Need-sub-whole
-sub-whole c = search needs
-
-slice-reshare-prefix-play : tie.Need-slice-reshare-prefix-play
-slice-reshare-prefix-play c = search needs
-
 slice-aggregate-play : tie.Need-slice-aggregate-play
 slice-aggregate-play c = simp length-take (omega arith)
-
-play-requires : tie.Need-play-requires
-play-requires c κs = search needs
-
-accepted-requires : tie.Need-accepted-requires
-accepted-requires c κs = search needs
-
-keep-tail-requires : tie.Need-keep-tail-requires
-keep-tail-requires c κs = search needs
-
-same-length : tie.Need-same-length
-same-length c = search needs
-
-same-length-2 : tie.Need-same-length-2
-same-length-2 c = search needs
 
 -- the block of the whole frames
 module _ (c : lts.After-accepted (play-reads.Asked, play-reads.Learnt, accepted-reads.Asked, accepted-reads.Learnt, keep-tail-reads.Asked, keep-tail-reads.Learnt) reads.Pre reads.Post) where
@@ -93,12 +72,6 @@ returns c = (
     a : lts.After-accepted (play-reads.Asked, play-reads.Learnt, accepted-reads.Asked, accepted-reads.Learnt, keep-tail-reads.Asked, keep-tail-reads.Learnt) reads.Pre reads.Post
     a = c .before .before .before .before .before
 
-same-length-3 : tie.Need-same-length-3
-same-length-3 c = search needs
-
-same-length-4 : tie.Need-same-length-4
-same-length-4 c = search needs
-
 returns-2 : tie.Need-returns-2
 unfolding advancedInput
 returns-2 c = (answer-is (c .before), output-is (c .before), failed (test (c .before)) (kept (c .before)) (input (c .before)) (sym (test-is (c .before)) ∙ c .if1 .left))
@@ -107,15 +80,15 @@ pub advance-spec : {M : Type 1} → statement M
 advance-spec =
     tie.close
     (tie.spec
-    sub-whole
-    slice-reshare-prefix-play
+    (λ c. search needs)
+    (λ c. search needs)
     slice-aggregate-play
-    play-requires
-    accepted-requires
-    keep-tail-requires
-    same-length
-    same-length-2
+    (λ c κs. search needs)
+    (λ c κs. search needs)
+    (λ c κs. search needs)
+    (λ c. search needs)
+    (λ c. search needs)
     returns
-    same-length-3
-    same-length-4
+    (λ c. search needs)
+    (λ c. search needs)
     returns-2)

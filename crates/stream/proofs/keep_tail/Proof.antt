@@ -14,24 +14,6 @@ use Rattle.stream.proofs.keep_tail.Reads as reads
 use Rattle.stream.proofs.keep_tail.Lts as lts
 use Rattle.bytes.proofs.copy.Reads as copy-reads
 
-sub-copy : tie.Need-sub-copy
-sub-copy c = search needs
-
-part-copy-start : tie.Need-part-copy-start
-part-copy-start c = search needs
-
-part-copy-end : tie.Need-part-copy-end
-part-copy-end c = search needs
-
-slice-aggregate-copy : tie.Need-slice-aggregate-copy
-slice-aggregate-copy c = search needs
-
-copy-requires : tie.Need-copy-requires
-copy-requires c κs = search needs
-
-array-share-prefix-tail : tie.Need-array-share-prefix-tail
-array-share-prefix-tail c = search needs
-
 -- what was copied out is the tail
 module _ (c : lts.After-copy (copy-reads.Asked, copy-reads.Learnt) reads.Pre reads.Post) where
   abbrev start : lts.Start (copy-reads.Asked, copy-reads.Learnt) reads.Pre reads.Post
@@ -57,9 +39,6 @@ slice-aggregate-copy-2 c = omega (arith, c .before .before .copy .ensures .0, ap
 copy-requires-2 : tie.Need-copy-requires-2
 copy-requires-2 c κs = omega (arith, ap length (tail-is (c .before .before .before)), tail-length (c .before .before .before))
 
-same-length : tie.Need-same-length
-same-length c = search needs
-
 returns : tie.Need-returns
 returns c =
     c .before .before .copy2 .ensures .1
@@ -73,13 +52,13 @@ pub keep-tail-spec : {M : Type 1} → statement M
 keep-tail-spec =
     tie.close
     (tie.spec
-    sub-copy
-    part-copy-start
-    part-copy-end
-    slice-aggregate-copy
-    copy-requires
-    array-share-prefix-tail
+    (λ c. search needs)
+    (λ c. search needs)
+    (λ c. search needs)
+    (λ c. search needs)
+    (λ c κs. search needs)
+    (λ c. search needs)
     slice-aggregate-copy-2
     copy-requires-2
-    same-length
+    (λ c. search needs)
     returns)

@@ -17,9 +17,6 @@ use Rattle.writing.proofs.put_lines.Reads as put-lines-reads
 returns : tie.Need-returns
 returns c = short-filled (c .before .before .args .unit) (now (c .before .before .args .out)) (omega arith)
 
-is-fit-requires : tie.Need-is-fit-requires
-is-fit-requires c κs = search needs
-
 returns-2 : tie.Need-returns-2
 returns-2 c =
     unfit-filled (c .before .before .before .before .args .unit) (now (c .before .before .before .before .args .out)) (omega arith) (c .before .is-fit .ensures) (not-true _ (c .if2 .taken))
@@ -27,12 +24,6 @@ returns-2 c =
 numbers-of-requires : tie.Need-numbers-of-requires
 numbers-of-requires c κs =
     fit-of-test (c .before .before .before .before .args .unit) (sym (c .before .is-fit .ensures) ∙ not-false _ (c .if2 .left))
-
-put-lines-requires : tie.Need-put-lines-requires
-put-lines-requires c κs = search needs
-
-same-length : tie.Need-same-length
-same-length c = search needs
 
 returns-3 : tie.Need-returns-3
 returns-3 c =
@@ -47,9 +38,9 @@ fill-spec =
     tie.close
     (tie.spec
     returns
-    is-fit-requires
+    (λ c κs. search needs)
     returns-2
     numbers-of-requires
-    put-lines-requires
-    same-length
+    (λ c κs. search needs)
+    (λ c. search needs)
     returns-3)

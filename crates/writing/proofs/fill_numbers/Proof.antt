@@ -19,12 +19,6 @@ use Rattle.writing.proofs.put_lines.Reads as put-lines-reads
 returns : tie.Need-returns
 returns c = short-filled (unitOf (now (c .before .before .args .numbers))) (now (c .before .before .args .buffer)) (omega arith)
 
-unit-of-requires : tie.Need-unit-of-requires
-unit-of-requires c κs = search needs
-
-is-fit-requires : tie.Need-is-fit-requires
-is-fit-requires c κs = search needs
-
 -- the test is of the unit that the numbers stand for
 test-is : (c : lts.After-is-fit (unit-of-reads.Asked, unit-of-reads.Learnt, is-fit-reads.Asked, is-fit-reads.Learnt, put-lines-reads.Asked, put-lines-reads.Learnt) reads.Pre reads.Post) → c .is-fit .result ≡ unitFits (unitOf (now (c .before .before .before .before .args .numbers)))
 test-is c = c .is-fit .ensures ∙ ap unitFits (c .before .unit-of .ensures)
@@ -32,12 +26,6 @@ test-is c = c .is-fit .ensures ∙ ap unitFits (c .before .unit-of .ensures)
 returns-2 : tie.Need-returns-2
 returns-2 c =
     unfit-filled (unitOf (now (c .before .before .before .before .before .args .numbers))) (now (c .before .before .before .before .before .args .buffer)) (omega arith) (test-is (c .before)) (not-true _ (c .if2 .taken))
-
-put-lines-requires : tie.Need-put-lines-requires
-put-lines-requires c κs = search needs
-
-same-length : tie.Need-same-length
-same-length c = search needs
 
 returns-3 : tie.Need-returns-3
 returns-3 c =
@@ -52,9 +40,9 @@ fill-numbers-spec =
     tie.close
     (tie.spec
     returns
-    unit-of-requires
-    is-fit-requires
+    (λ c κs. search needs)
+    (λ c κs. search needs)
     returns-2
-    put-lines-requires
-    same-length
+    (λ c κs. search needs)
+    (λ c. search needs)
     returns-3)

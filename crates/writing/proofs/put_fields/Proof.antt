@@ -26,32 +26,8 @@ Inv-loop out₀ at numbers place count i₀ out i = (i ≤ count) × (out ≡ se
 abbrev μ-loop : tie.MeasureT-loop
 μ-loop out₀ at numbers place count i₀ out i = count - i
 
-loop-holds : tie.Need-loop-holds Inv-loop μ-loop
-loop-holds c = search needs
-
-mul-put-field : tie.Need-mul-put-field Inv-loop μ-loop
-mul-put-field c = search needs
-
-add-put-field : tie.Need-add-put-field Inv-loop μ-loop
-add-put-field c = search needs
-
-add-put-field-2 : tie.Need-add-put-field-2 Inv-loop μ-loop
-add-put-field-2 c = search needs
-
-mul-put-field-2 : tie.Need-mul-put-field-2 Inv-loop μ-loop
-mul-put-field-2 c = search needs
-
-element-copy-out-put-field : tie.Need-element-copy-out-put-field Inv-loop μ-loop
-element-copy-out-put-field c = search needs
-
 put-field-requires : tie.Need-put-field-requires Inv-loop μ-loop
 put-field-requires c κs = omega (arith, simp length-sets at (ap length (c .before .before .before .loop .inv .1)))
-
-add-i : tie.Need-add-i Inv-loop μ-loop
-add-i c = search needs
-
-loop-less : tie.Need-loop-less Inv-loop μ-loop
-loop-less c = search needs
 
 -- a turn writes field i
 module _ (c : lts.After-slice-known2 (put-field-reads.Asked, put-field-reads.Learnt) reads.Pre reads.Post Inv-loop μ-loop) where
@@ -94,15 +70,15 @@ put-fields-spec =
     (tie.spec
     Inv-loop
     μ-loop
-    loop-holds
-    mul-put-field
-    add-put-field
-    add-put-field-2
-    mul-put-field-2
-    element-copy-out-put-field
+    (λ c. search needs)
+    (λ c. search needs)
+    (λ c. search needs)
+    (λ c. search needs)
+    (λ c. search needs)
+    (λ c. search needs)
     put-field-requires
-    add-i
-    loop-less
+    (λ c. search needs)
+    (λ c. search needs)
     loop-again
     same-length
     returns)

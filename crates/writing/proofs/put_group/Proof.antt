@@ -20,15 +20,6 @@ Inv-loop out₀ at letter numbers place count i₀ out i = (i ≤ 10) × (onward
 abbrev μ-loop : tie.MeasureT-loop
 μ-loop out₀ at letter numbers place count i₀ out i = 10 - i
 
-loop-holds : tie.Need-loop-holds Inv-loop μ-loop
-loop-holds c = search needs
-
-mul-put-line : tie.Need-mul-put-line Inv-loop μ-loop
-mul-put-line c = search needs
-
-add-put-line : tie.Need-add-put-line Inv-loop μ-loop
-add-put-line c = search needs
-
 -- the room that is left for line i
 module _ (c : lts.After-put-line-arg (put-line-reads.Asked, put-line-reads.Learnt) reads.Pre reads.Post Inv-loop μ-loop) where
   abbrev i : ℕ
@@ -62,12 +53,6 @@ put-line-requires c κs = (
   omega (arith, fields c),
 )
 
-add-i : tie.Need-add-i Inv-loop μ-loop
-add-i c = search needs
-
-loop-less : tie.Need-loop-less Inv-loop μ-loop
-loop-less c = search needs
-
 loop-again : tie.Need-loop-again Inv-loop μ-loop
 loop-again c = (
   search needs,
@@ -96,16 +81,16 @@ put-group-spec =
     (tie.spec
     Inv-loop
     μ-loop
-    loop-holds
-    mul-put-line
-    add-put-line
+    (λ c. search needs)
+    (λ c. search needs)
+    (λ c. search needs)
     mul-put-line-2
     add-put-line-2
     mul-put-line-3
     add-put-line-3
     put-line-requires
-    add-i
-    loop-less
+    (λ c. search needs)
+    (λ c. search needs)
     loop-again
     same-length
     returns)

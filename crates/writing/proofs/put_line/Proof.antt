@@ -19,23 +19,8 @@ use Rattle.writing.proofs.put_line.Reads as reads
 use Rattle.writing.proofs.put_line.Lts as lts
 use Rattle.writing.proofs.put_fields.Reads as put-fields-reads
 
-slice-write-out : tie.Need-slice-write-out
-slice-write-out c = search needs
-
-add-put-fields : tie.Need-add-put-fields
-add-put-fields c = search needs
-
 put-fields-requires : tie.Need-put-fields-requires
 put-fields-requires c κs = (simp length-set (omega arith), c .before .before .pre .1, omega arith)
-
-add-out : tie.Need-add-out
-add-out c = search needs
-
-mul-out : tie.Need-mul-out
-mul-out c = search needs
-
-add-out-2 : tie.Need-add-out-2
-add-out-2 c = search needs
 
 slice-write-out-2 : tie.Need-slice-write-out-2
 slice-write-out-2 c = omega (arith, simp length-set at (c .before .before .put-fields .kept .0))
@@ -80,12 +65,12 @@ pub put-line-spec : {M : Type 1} → statement M
 put-line-spec =
     tie.close
     (tie.spec
-    slice-write-out
-    add-put-fields
+    (λ c. search needs)
+    (λ c. search needs)
     put-fields-requires
-    add-out
-    mul-out
-    add-out-2
+    (λ c. search needs)
+    (λ c. search needs)
+    (λ c. search needs)
     slice-write-out-2
     same-length
     returns)

@@ -15,9 +15,6 @@ use Rattle.writing.proofs.write.Reads as reads
 use Rattle.writing.proofs.write.Lts as lts
 use Rattle.writing.proofs.fill.Reads as fill-reads
 
-fill-requires : tie.Need-fill-requires
-fill-requires c κs = search needs
-
 -- what is filled is as long as the buffer, so that its front can be handed back
 module _ (c : lts.After-fill (fill-reads.Asked, fill-reads.Learnt) reads.Pre reads.Post) where
   abbrev unit : Unit
@@ -39,4 +36,4 @@ returns : tie.Need-returns
 returns c = (part (c .before .before .before) .1, refl)
 
 pub write-spec : {M : Type 1} → statement M
-write-spec = tie.close (tie.spec fill-requires slice-aggregate-result returns)
+write-spec = tie.close (tie.spec (λ c κs. search needs) slice-aggregate-result returns)

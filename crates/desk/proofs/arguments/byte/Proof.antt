@@ -18,9 +18,6 @@ returns c = ap (λ (t : Bool). cond t n 255) (sym (lt-leb n 255 (omega arith)))
     n : ℕ
     n = c .before .args .number
 
-cast-result : tie.Need-cast-result
-cast-result c = search needs
-
 returns-2 : tie.Need-returns-2
 unfolding byteOf
 returns-2 c = ap (λ (t : Bool). cond t n 255) (sym (le-leb n 255 (omega arith)))
@@ -29,4 +26,4 @@ returns-2 c = ap (λ (t : Bool). cond t n 255) (sym (le-leb n 255 (omega arith))
     n = c .before .args .number
 
 pub byte-spec : {M : Type 1} → statement M
-byte-spec = tie.close (tie.spec returns cast-result returns-2)
+byte-spec = tie.close (tie.spec returns (λ c. search needs) returns-2)

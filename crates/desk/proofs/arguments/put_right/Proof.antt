@@ -8,24 +8,6 @@ use Rattle.desk.proofs.arguments.put_right.Reads as reads
 use Rattle.desk.proofs.arguments.put_right.Lts as lts
 use Rattle.bytes.proofs.copy.Reads as copy-reads
 
-sub-start : tie.Need-sub-start
-sub-start c = search needs
-
-sub-copy : tie.Need-sub-copy
-sub-copy c = search needs
-
-part-copy-start : tie.Need-part-copy-start
-part-copy-start c = search needs
-
-part-copy-end : tie.Need-part-copy-end
-part-copy-end c = search needs
-
-copy-requires : tie.Need-copy-requires
-copy-requires c κs = search needs
-
-same-length : tie.Need-same-length
-same-length c = search needs
-
 returns : tie.Need-returns
 returns c = at-right (now (s .args .text)) (now (s .args .columns)) (c .before .before .copy .last .1 .0) (s .pre) (c .before .before .copy .ensures .1)
   where
@@ -35,4 +17,4 @@ returns c = at-right (now (s .args .text)) (now (s .args .columns)) (c .before .
 pub put-right-spec : {M : Type 1} → statement M
 put-right-spec =
     tie.close
-    (tie.spec sub-start sub-copy part-copy-start part-copy-end copy-requires same-length returns)
+    (tie.spec (λ c. search needs) (λ c. search needs) (λ c. search needs) (λ c. search needs) (λ c κs. search needs) (λ c. search needs) returns)

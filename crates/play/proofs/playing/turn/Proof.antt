@@ -17,20 +17,8 @@ use Rattle.play.proofs.playing.send.Reads as send-reads
 use Rattle.console.proofs.receive.Reads as receive-reads
 use Rattle.stream.proofs.advance.Reads as advance-reads
 
-slice-aggregate-receive : tie.Need-slice-aggregate-receive
-slice-aggregate-receive c = search needs
-
-receive-requires : tie.Need-receive-requires
-receive-requires c κs = search needs
-
-slice-relend-prefix-advance : tie.Need-slice-relend-prefix-advance
-slice-relend-prefix-advance c = search needs
-
 slice-aggregate-advance : tie.Need-slice-aggregate-advance
 slice-aggregate-advance c = sym (length-take-le (c .before .before .before .before .receive .result .count) (c .before .before .before .before .receive .last .1 .1 .0) (c .before .before .before .before .receive .ensures .count-fits))
-
-advance-requires : tie.Need-advance-requires
-advance-requires c κs = search needs
 
 -- what is played fits the output
 module _ (a : lts.After-advance (receive-reads.Asked, receive-reads.Learnt, advance-reads.Asked, advance-reads.Learnt, send-reads.Asked, send-reads.Learnt) reads.Pre reads.Post) where
@@ -69,12 +57,6 @@ send-requires c κs =
     sounded (s .args .stream) (now (s .args .input)) (g .receive .last .1 .1 .0) (now (s .args .output)) (g .receive .result) (s .pre) (g .receive .ensures)
     (a .advance .result) (a .advance .last .1 .1 .0) (a .advance .ensures .0) (a .advance .ensures .1)
 
-same-length : tie.Need-same-length
-same-length c = search needs
-
-same-length-2 : tie.Need-same-length-2
-same-length-2 c = search needs
-
 returns : tie.Need-returns
 returns c =
     turned (s .args .stream) (now (s .args .input)) (g .receive .last .1 .1 .0) (now (s .args .output)) (g .receive .result) (s .pre) (g .receive .ensures)
@@ -93,14 +75,14 @@ pub turn-spec : {M : Type 1} → statement M
 turn-spec =
     tie.close
     (tie.spec
-    slice-aggregate-receive
-    receive-requires
-    slice-relend-prefix-advance
+    (λ c. search needs)
+    (λ c κs. search needs)
+    (λ c. search needs)
     slice-aggregate-advance
-    advance-requires
+    (λ c κs. search needs)
     slice-reshare-prefix-send
     slice-aggregate-send
     send-requires
-    same-length
-    same-length-2
+    (λ c. search needs)
+    (λ c. search needs)
     returns)
