@@ -17,7 +17,7 @@ use Rattle.unit.specs.Fit.{Fit}
 use Rattle.unit.proofs.Fitness.{test-of-fit}
 use Rattle.blocks.specs.Bytes.{sampleAt, wordsAt, frameSize, frameCount, bytesOf}
 use Rattle.blocks.specs.Block.{blockVerdict, played, sound, blockPlayed, blockOutput}
-use Rattle.blocks.proofs.Block.{Accepts, played-fit, four-a-frame}
+use Rattle.blocks.proofs.Block.{BlockAccepts, played-fit, four-a-frame}
 
 -- ---- the input words of a ++ b
 
@@ -100,18 +100,18 @@ module _ (channels : ℕ) (u : Unit) (a b : List ℕ) where
 
 -- ---- the blocks themselves
 
-pub accepts-block : (channels : ℕ) (u : Unit) (given room : ℕ) → Accepts channels u given room → isAccepted (blockVerdict channels u given room) ≡ true
+pub accepts-block : (channels : ℕ) (u : Unit) (given room : ℕ) → BlockAccepts channels u given room → isAccepted (blockVerdict channels u given room) ≡ true
 unfolding blockVerdict
 accepts-block channels u given room c =
     simp (test-of-fit u (c .fit), eq-eqb (given % frameSize channels) 0 (c .frames), le-leb given room (c .enough))
 
 -- an accepted block's unit and output
 module _ (channels : ℕ) (u : Unit) (input : List ℕ) where
-  pub accepted-unit : (room : ℕ) → Accepts channels u (length input) room → blockPlayed channels u input room .unit ≡ played channels u input (frameCount channels input)
+  pub accepted-unit : (room : ℕ) → BlockAccepts channels u (length input) room → blockPlayed channels u input room .unit ≡ played channels u input (frameCount channels input)
   unfolding blockPlayed
   accepted-unit room c = ap (λ (t : Bool). cond t (played channels u input (frameCount channels input)) u) (accepts-block channels u (length input) room c)
 
-  pub accepted-output : (room : List ℕ) → Accepts channels u (length input) (length room) → blockOutput channels u input room ≡ sound channels u input (frameCount channels input) ++ drop (length input) room
+  pub accepted-output : (room : List ℕ) → BlockAccepts channels u (length input) (length room) → blockOutput channels u input room ≡ sound channels u input (frameCount channels input) ++ drop (length input) room
   unfolding blockOutput
   accepted-output room c =
       ap (λ (t : Bool). cond t (sound channels u input (frameCount channels input) ++ drop (length input) room) room) (accepts-block channels u (length input) (length room) c)
@@ -131,16 +131,16 @@ module _ (u : Unit) (a b p q : List ℕ) (fit : Fit u) (fa : length a % 4 ≡ 0)
   abbrev half : Unit
   half = blockPlayed 2 u a (length p) .unit
 
-  first : Accepts 2 u (length a) (length p)
+  first : BlockAccepts 2 u (length a) (length p)
   first = record { fit = fit; frames = fa; enough = omega (arith, ha) }
 
   half-is : half ≡ played 2 u a (length a / 4)
   half-is = accepted-unit 2 u a (length p) first
 
-  second : Accepts 2 half (length b) (length q)
+  second : BlockAccepts 2 half (length b) (length q)
   second = record { fit = block-fit 2 u a (length p) fit; frames = fb; enough = hb }
 
-  both : Accepts 2 u (length (a ++ b)) (length (p ++ q))
+  both : BlockAccepts 2 u (length (a ++ b)) (length (p ++ q))
   both =
       record {
         fit = fit;

@@ -131,12 +131,12 @@ module _ (u : Unit) (input room : List ℕ) (n : ℕ) where
 
 -- ---- what an accepted block tells
 
-pub record Accepts (channels : ℕ) (u : Unit) (given room : ℕ) : Type 0 where
+pub record BlockAccepts (channels : ℕ) (u : Unit) (given room : ℕ) : Type 0 where
   pub fit : Fit u
   pub frames : given % frameSize channels ≡ 0
   pub enough : given ≤ room
 
-pub block-accepted : (channels : ℕ) (u : Unit) (given room : ℕ) → isAccepted (blockVerdict channels u given room) ≡ true → Accepts channels u given room
+pub block-accepted : (channels : ℕ) (u : Unit) (given room : ℕ) → isAccepted (blockVerdict channels u given room) ≡ true → BlockAccepts channels u given room
 unfolding blockVerdict
 block-accepted channels u given room e =
     record {

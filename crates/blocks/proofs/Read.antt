@@ -18,9 +18,9 @@ use Rattle.unit.specs.declared.Channel.{Channel}
 use Rattle.unit.specs.declared.Unit.{Unit}
 use Rattle.unit.specs.Lists.{Each}
 use Rattle.unit.specs.Frame.{channelFrame, channelsFrame, unitFrame, mix, sampleLow, sampleHigh, output, heard}
-use Rattle.blocks.specs.Bytes.{signed, sampleAt, wordAt, wordsAt, frameSize, frameCount, bitsOf, lowByte, highByte, bytesOf}
+use Rattle.blocks.specs.Bytes.{sampleOf, sampleAt, wordAt, wordsAt, frameSize, frameCount, bitsOf, lowByte, highByte, bytesOf}
 use Rattle.blocks.specs.Block.{played, sound, blockOutput}
-use Rattle.blocks.proofs.Block.{Accepts, words-length, played-channels, sound-length}
+use Rattle.blocks.proofs.Block.{BlockAccepts, words-length, played-channels, sound-length}
 use Rattle.blocks.proofs.Append.{sample-front, sample-behind, accepted-output}
 
 -- ---- what a channel takes in
@@ -63,8 +63,8 @@ module _ (s : ℤ) (low : sampleLow ≤ℤ s) (high : s ≤ℤ sampleHigh) where
   low-bits : (b : ℕ) → 65536 * (b / 256 / 256) + (b % 256 + 256 * (b / 256 % 256)) ≡ b
   low-bits b = omega (arith, div-add-mod' b 256, div-add-mod' (b / 256) 256)
 
-  read-back : signed ((lowByte s + 256 * highByte s) % 65536) ≡ s
-  unfolding signed
+  read-back : sampleOf ((lowByte s + 256 * highByte s) % 65536) ≡ s
+  unfolding sampleOf
   read-back = ap (λ (m : ℕ). cond (ltb m 32768) (pos m) (pos m -ℤ pos 65536)) (mod-eq-of-lt small) ∙ go (ltb n 32768) refl
     where
       n : ℕ
@@ -152,7 +152,7 @@ module _ (channels : ℕ) (u : Unit) (input : List ℕ) (width : length (u .chan
           room = omega (arith, sound-length channels u input n width, mul-le-mul-left (frameSize channels) before)
 
   -- and in the output of an accepted block
-  pub output-sample : (room : List ℕ) → Accepts channels u (length input) (length room) → (k : ℕ) → k < frameCount channels input → sampleAt (blockOutput channels u input room) (frameSize channels * k + 2 * c) ≡ sampleAfter (suc k)
+  pub output-sample : (room : List ℕ) → BlockAccepts channels u (length input) (length room) → (k : ℕ) → k < frameCount channels input → sampleAt (blockOutput channels u input room) (frameSize channels * k + 2 * c) ≡ sampleAfter (suc k)
   output-sample room a k l =
       ap (λ (bytes : List ℕ). sampleAt bytes (frameSize channels * k + 2 * c)) (accepted-output channels u input room a)
       ∙ sample-front (sound channels u input n) (drop (length input) room) (frameSize channels * k + 2 * c) inside

@@ -23,14 +23,14 @@ putSample bytes at s = set (set bytes at (lowByte s)) (at + 1) (highByte s)
 -- ---- one channel's part in a frame
 
 -- what it asks
-pub record Mixes (bands l : List ℤ) (input : List ℕ) (at : ℕ) : Type 0 where
+pub record ChannelMixAsks (bands l : List ℤ) (input : List ℕ) (at : ℕ) : Type 0 where
   pub bands-fit : Each BandFit (bandsOf bands)
   pub size : length l ≡ channelSize
   pub channel-fit : ChannelFit (channelOf l)
   pub input-has : at + 1 < length input
 
 -- what it gives: the numbers of the channel after the frame, and its m
-pub record Mixed (bands l : List ℤ) (input : List ℕ) (at : ℕ) (after : List ℤ) (m : ℤ) : Type 0 where
+pub record ChannelMixGives (bands l : List ℤ) (input : List ℕ) (at : ℕ) (after : List ℤ) (m : ℤ) : Type 0 where
   pub size : length after ≡ channelSize
   pub channel : channelOf after ≡ channelFrame (bandsOf bands) (wordAt input at) (channelOf l)
   pub mixed : m ≡ mix (channelFrame (bandsOf bands) (wordAt input at) (channelOf l))
@@ -44,7 +44,7 @@ unitWith volume bands left right =
     record { volume = volume; bands = bandsOf bands; channels = channelOf left ∷ channelOf right ∷ [] }
 
 -- what playing so many frames asks: a fit unit, and bytes enough
-pub record Plays (volume : Level) (bands left right : List ℤ) (frames : ℕ) (input room : List ℕ) : Type 0 where
+pub record FramesAsks (volume : Level) (bands left right : List ℤ) (frames : ℕ) (input room : List ℕ) : Type 0 where
   pub left-size : length left ≡ channelSize
   pub right-size : length right ≡ channelSize
   pub fit : Fit (unitWith volume bands left right)
@@ -52,17 +52,17 @@ pub record Plays (volume : Level) (bands left right : List ℤ) (frames : ℕ) (
   pub room-has : 4 * frames ≤ length room
 
 -- what it gives: the numbers of the unit after them, and their sound, with the bytes beyond as they were
-pub record Ran (volume : Level) (bands left right : List ℤ) (frames : ℕ) (input room : List ℕ) (volume' : Level) (left' right' : List ℤ) (filled : List ℕ) : Type 0 where
+pub record FramesGives (volume : Level) (bands left right : List ℤ) (frames : ℕ) (input room : List ℕ) (volume' : Level) (left' right' : List ℤ) (filled : List ℕ) : Type 0 where
   pub unit : unitWith volume' bands left' right' ≡ played 2 (unitWith volume bands left right) input frames
   pub bytes : filled ≡ sound 2 (unitWith volume bands left right) input frames ++ drop (4 * frames) room
 
 -- ---- an accepted block
 
 -- a unit by its parts
-abbrev pub unitOf : Level → List Band → List Channel → Unit
-unitOf volume bands channels = record { volume = volume; bands = bands; channels = channels }
+abbrev pub unitOfParts : Level → List Band → List Channel → Unit
+unitOfParts volume bands channels = record { volume = volume; bands = bands; channels = channels }
 
 -- the unit after all frames, and the output
-pub record AllPlayed (u : Unit) (input room : List ℕ) (after : Unit) (filled : List ℕ) : Type 0 where
+pub record RunGives (u : Unit) (input room : List ℕ) (after : Unit) (filled : List ℕ) : Type 0 where
   pub unit : after ≡ played 2 u input (frameCount 2 input)
   pub bytes : filled ≡ sound 2 u input (frameCount 2 input) ++ drop (length input) room

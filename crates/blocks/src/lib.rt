@@ -7,10 +7,10 @@ ghost use lib.ListN.{length};
 ghost use lib.Signed.{_≤ℤ_};
 ghost use Rattle.refusals.specs.Numbers.{isAccepted};
 ghost use Rattle.unit.specs.Frame.{sampleLow, sampleHigh, output as outputOf};
-ghost use Rattle.engine.specs.Numbers.{Sounds};
+ghost use Rattle.engine.specs.Numbers.{OutputAsks};
 ghost use Rattle.blocks.specs.Bytes.{sampleAt};
 ghost use Rattle.blocks.specs.Block.{blockVerdict, blockPlayed, blockOutput};
-ghost use Rattle.blocks.specs.Run.{putSample, Mixes, Mixed, Plays, Ran, unitOf, AllPlayed};
+ghost use Rattle.blocks.specs.Run.{putSample, ChannelMixAsks, ChannelMixGives, FramesAsks, FramesGives, unitOfParts, RunGives};
 use bands::Band;
 use levels::Level;
 use refusals::Verdict;
@@ -23,7 +23,7 @@ pub struct Played {
     pub unit: Unit,
 }
 
-// Plays a block of frames: 14 for an unfit unit ahead of all, then 5 and 6. Refused, unit and output are unchanged. Accepted, the
+// FramesAsks a block of frames: 14 for an unfit unit ahead of all, then 5 and 6. Refused, unit and output are unchanged. Accepted, the
 // output begins with the frames, and the bytes beyond them keep their contents.
 pub fn play(unit: Unit, input: &[u8], output: &mut [u8]) -> Played
     ensures { λ r. ⌜ (r ≡ blockPlayed 2 unit (now (input .entry)) (length (now (output .entry)))) × (now (output .exit) ≡ blockOutput 2 unit (now (input .entry)) (now (output .entry))) ⌝ }
@@ -66,8 +66,8 @@ fn run(
     input: &[u8],
     output: &mut [u8],
 ) -> Unit
-    requires { ⌜ isAccepted (blockVerdict 2 (unitOf volume bands channels) (length (now input)) (length (now output))) ≡ true ⌝ }
-    ensures { λ r. ⌜ AllPlayed (unitOf volume bands channels) (now (input .entry)) (now (output .entry)) r (now (output .exit)) ⌝ }
+    requires { ⌜ isAccepted (blockVerdict 2 (unitOfParts volume bands channels) (length (now input)) (length (now output))) ≡ true ⌝ }
+    ensures { λ r. ⌜ RunGives (unitOfParts volume bands channels) (now (input .entry)) (now (output .entry)) r (now (output .exit)) ⌝ }
 {
     let count = input.len() / 4;
     let numbers = packing::band_numbers(bands);
@@ -103,8 +103,8 @@ fn frames(
     input: &[u8],
     output: &mut [u8],
 ) -> Level
-    requires { ⌜ Plays volume (now bands) (now left) (now right) count (now input) (now output) ⌝ }
-    ensures { λ r. ⌜ Ran volume (now (bands .entry)) (now (left .entry)) (now (right .entry)) count (now (input .entry)) (now (output .entry)) r (now (left .exit)) (now (right .exit)) (now (output .exit)) ⌝ }
+    requires { ⌜ FramesAsks volume (now bands) (now left) (now right) count (now input) (now output) ⌝ }
+    ensures { λ r. ⌜ FramesGives volume (now (bands .entry)) (now (left .entry)) (now (right .entry)) count (now (input .entry)) (now (output .entry)) r (now (left .exit)) (now (right .exit)) (now (output .exit)) ⌝ }
 {
     let mut level = volume;
     let mut i = 0;
@@ -122,8 +122,8 @@ fn frames(
 
 // A channel's frame on its sample at `at` of the input. Gives m.
 fn channel_mix(bands: &[i64; 30], channel: &mut [i64; 43], input: &[u8], at: usize) -> i64
-    requires { ⌜ Mixes (now bands) (now channel) (now input) at ⌝ }
-    ensures { λ r. ⌜ Mixed (now (bands .entry)) (now (channel .entry)) (now (input .entry)) at (now (channel .exit)) r ⌝ }
+    requires { ⌜ ChannelMixAsks (now bands) (now channel) (now input) at ⌝ }
+    ensures { λ r. ⌜ ChannelMixGives (now (bands .entry)) (now (channel .entry)) (now (input .entry)) at (now (channel .exit)) r ⌝ }
 {
     let x = 256 * sample(input, at);
     engine::channel_frame(bands, channel, x)
@@ -131,10 +131,10 @@ fn channel_mix(bands: &[i64; 30], channel: &mut [i64; 43], input: &[u8], at: usi
 
 // What is heard of m at this volume, stored at `at` of the output.
 fn put_sound(output: &mut [u8], at: usize, volume: i64, m: i64)
-    requires { ⌜ Sounds volume m × (at + 1 < length (now output)) ⌝ }
+    requires { ⌜ OutputAsks volume m × (at + 1 < length (now output)) ⌝ }
     ensures { λ r. ⌜ now (output .exit) ≡ putSample (now (output .entry)) at (outputOf volume m) ⌝ }
 {
-    let heard = engine::sound(volume, m);
+    let heard = engine::output(volume, m);
     put_sample(output, at, heard);
 }
 

@@ -9,7 +9,7 @@ use Rattle.integers.proofs.Abs.{abs-sum, abs-product}
 use Rattle.integers.proofs.Normal.{at, con, _:+_, _:-_, _:*_, solve}
 use Rattle.bands.specs.declared.Band.{Band}
 use Rattle.section.specs.Equation.{exactSum}
-use Rattle.closeness.specs.Claim.{divisor, Results, silentResults, rescaled, exactResults, response, summed}
+use Rattle.closeness.specs.Claim.{divisor, Results, silentResults, rescaled, exactResults, response, responseSum}
 use Rattle.closeness.proofs.Recursion.{Bounded, bounded-start, bounded-step, scaledSum, scaledSize, weight-now}
 
 -- ---- the recursion of a band
@@ -162,9 +162,9 @@ module _ (band : Band) where
             )
 
   -- the error is at most half the sum of the response
-  pub near-sum : (n : ℕ) (y1 y2 : ℤ) (r : Results) → Near n y1 y2 r → 2 * natAbs (pos (scaleAt n) *ℤ y1 -ℤ r .y1) ≤ summed band n
+  pub near-sum : (n : ℕ) (y1 y2 : ℤ) (r : Results) → Near n y1 y2 r → 2 * natAbs (pos (scaleAt n) *ℤ y1 -ℤ r .y1) ≤ responseSum band n
   near-sum n y1 y2 r near = subst (λ (v : ℕ). 2 * natAbs (pos (scaleAt n) *ℤ y1 -ℤ r .y1) ≤ v) (weight-now divisor sizes n ∙ sum-is n) (near .bound 0)
     where
-      sum-is : (m : ℕ) → scaledSum divisor sizes m ≡ summed band m
+      sum-is : (m : ℕ) → scaledSum divisor sizes m ≡ responseSum band m
       sum-is zero = refl
       sum-is (suc m) = ap (λ (v : ℕ). divisor * (v + sizes m)) (sum-is m)

@@ -17,7 +17,7 @@ use Rattle.section.specs.Equation.{exactSum, flag}
 use Rattle.section.proofs.Laws.{worked-near}
 use Rattle.unit.specs.declared.BandSection.{BandSection}
 use Rattle.unit.specs.declared.Channel.{Channel}
-use Rattle.unit.specs.Frame.{workOf, sectionFrame, sectionsFrame, anyLimits, raised, channelFrame, share, sumOf, exactMix, mix, output}
+use Rattle.unit.specs.Frame.{sectionWork, sectionFrame, sectionsFrame, anyLimits, raised, channelFrame, share, sumOf, exactMix, mix, output}
 use Rattle.closeness.specs.Claim.{divisor, Results, Exact, rescaled, allResults, exactFrame, gained, exactMixed, outputScale, exactOutput, gainedSums, bound, Close}
 use Rattle.closeness.proofs.Band.{Near, near-step, near-sum}
 use Rattle.closeness.proofs.Output.{scaled-small, output-near}
@@ -49,12 +49,12 @@ all-step n x x2 [] (s ∷ ss) rs e near = absurd near
 all-step n x x2 (band ∷ bands) [] rs e near = absurd near
 all-step n x x2 (band ∷ bands) (s ∷ ss) [] e near = absurd near
 all-step n x x2 (band ∷ bands) (s ∷ ss) (r ∷ rs) e near = (
-  near-step band n x x2 (s .y1) (s .y2) (workOf band x x2 s .y) r (worked-near (exactSum band x x2 (s .y1) (s .y2)) (none .0)) (near .0),
+  near-step band n x x2 (s .y1) (s .y2) (sectionWork band x x2 s .y) r (worked-near (exactSum band x x2 (s .y1) (s .y2)) (none .0)) (near .0),
   all-step n x x2 bands ss rs (none .1) (near .1),
 )
   where
-    none : (workOf band x x2 s .limited ≡ false) × (anyLimits bands x x2 ss ≡ false)
-    none = neither (workOf band x x2 s .limited) (anyLimits bands x x2 ss) e
+    none : (sectionWork band x x2 s .limited ≡ false) × (anyLimits bands x x2 ss ≡ false)
+    none = neither (sectionWork band x x2 s .limited) (anyLimits bands x x2 ss) e
 
 -- the sum of g × y is then as near as the gains allow
 sum-near : (n : ℕ) (bands : List Band) (ss : List BandSection) (rs : List Results) → NearAll n bands ss rs → 2 * natAbs (pos (divisor ^ n) *ℤ sumOf (map share ss) -ℤ gained (map gainOf ss) rs) ≤ gainedSums n (map gainOf ss) bands

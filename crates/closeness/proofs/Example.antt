@@ -19,7 +19,7 @@ use Rattle.unit.specs.Frame.{sectionFrame, channelFrame, exactMix, mix, output,
 use Rattle.unit.specs.Fit.{isVolume, isInput, isFlag, unitFits}
 use Rattle.loading.specs.Loading.{setVerdict}
 use Rattle.orders.specs.Orders.{isPlace, names, bandPosition, volumePosition, targetOf, levelVerdict, orderVerdict, aimedUnit, ordered}
-use Rattle.blocks.specs.Bytes.{signed, sampleAt, bitsOf}
+use Rattle.blocks.specs.Bytes.{sampleOf, sampleAt, bitsOf}
 use Rattle.blocks.specs.Block.{blockVerdict, played, sound, blockPlayed, blockOutput}
 use Rattle.closeness.specs.Claim.{exactFrame, exactMixed, exactOutput, exactPlayed, bound, Close, allSamples, allLimits}
 use Rattle.closeness.specs.Example.{exampleCalls, leftSamples, leftLimits, second, secondOutput, secondBound, loudSet, loudCalls}
@@ -27,12 +27,12 @@ use Rattle.closeness.proofs.Holds.{demand3}
 
 -- the definitions give the figures: what the unit hands back
 pub heard-hold : (allSamples 2 0 houseSet exampleCalls ≡ leftSamples) × (allLimits 2 0 houseSet exampleCalls ≡ leftLimits) × (allLimits 2 0 (loudSet bandCount) loudCalls ≡ true ∷ [])
-unfolding houseSet ordered orderVerdict aimedUnit targetOf levelVerdict isPlace names bandPosition volumePosition factorTarget inUnits inRange unitFits isVolume isInput isFlag bandVerdict alphaAccepted betaAccepted gammaAccepted blockPlayed blockOutput blockVerdict played sound sampleAt signed bitsOf unitFrame channelFrame sectionFrame exactMix mix output exactSum worked nearest taken goesUp odd rest floor limit within ramp
+unfolding houseSet ordered orderVerdict aimedUnit targetOf levelVerdict isPlace names bandPosition volumePosition factorTarget inUnits inRange unitFits isVolume isInput isFlag bandVerdict alphaAccepted betaAccepted gammaAccepted blockPlayed blockOutput blockVerdict played sound sampleAt sampleOf bitsOf unitFrame channelFrame sectionFrame exactMix mix output exactSum worked nearest taken goesUp odd rest floor limit within ramp
 heard-hold = (refl, refl, refl)
 
 -- and the exact reckoning
 pub exact-hold : (exactOutput second ≡ secondOutput) × (bound (bandsOf houseSet) 2 second ≡ secondBound)
-unfolding houseSet targetOf levelVerdict isPlace names bandPosition volumePosition factorTarget inUnits inRange sampleAt signed exactFrame exactMixed exactOutput exactPlayed exactSum nearest goesUp odd rest floor limit ramp
+unfolding houseSet targetOf levelVerdict isPlace names bandPosition volumePosition factorTarget inUnits inRange sampleAt sampleOf exactFrame exactMixed exactOutput exactPlayed exactSum nearest goesUp odd rest floor limit ramp
 exact-hold = (refl, refl)
 
 -- the house set is accepted

@@ -10,12 +10,12 @@ use Rattle.refusals.specs.Numbers.{isAccepted}
 use Rattle.bands.specs.declared.Band.{Band}
 use Rattle.unit.specs.declared.Channel.{Channel}
 use Rattle.unit.specs.Lists.{anyOf}
-use Rattle.unit.specs.Cleared.{clearedLevel, clearedSection, clearedChannel, bandsOf}
+use Rattle.unit.specs.Cleared.{clearedLevel, clearedBandSection, clearedChannel, bandsOf}
 use Rattle.unit.proofs.Fitness.{cleared-fit}
 use Rattle.loading.specs.Loading.{setVerdict}
 use Rattle.loading.specs.declared.Loaded.{Loaded}
 use Rattle.loading.proofs.Laws.{accepted-set, loaded-accepted}
-use Rattle.closeness.specs.Claim.{Call, silentResults, silent, Close, begun, allSamples, allLimits, allExacts, CloseAt, ended, Agreeing, Demand3}
+use Rattle.closeness.specs.Claim.{Call, silentResults, silent, Close, startingUnit, allSamples, allLimits, allExacts, CloseAt, ended, Agreeing, Demand3}
 use Rattle.closeness.proofs.Band.{near-start}
 use Rattle.closeness.proofs.Channel.{NearAll, Tied}
 use Rattle.closeness.proofs.Follows.{Follows, follows-at, follows-length}
@@ -24,7 +24,7 @@ use Rattle.closeness.proofs.Run.{TiedUnit, Ended, list-follows, list-en
 -- ---- where a list begins
 
 -- n sections that hold nothing, and as many results of the exact reckoning
-silent-near : (bands : List Band) → NearAll 0 bands (replicate (length bands) clearedSection) (replicate (length bands) silentResults)
+silent-near : (bands : List Band) → NearAll 0 bands (replicate (length bands) clearedBandSection) (replicate (length bands) silentResults)
 silent-near [] = tt
 silent-near (band ∷ bands) = (near-start band, silent-near bands)
 
@@ -43,7 +43,7 @@ module _ (channels channel : ℕ) (inside : channel < channels) (set : List ℤ)
         near = λ h. silent-near (bandsOf set);
       }
 
-  begun-tied : TiedUnit channels channel inside (bandsOf set) 0 false (begun channels set) silent
+  begun-tied : TiedUnit channels channel inside (bandsOf set) 0 false (startingUnit channels set) silent
   begun-tied =
       record {
         fit = cleared-fit channels (bandsOf set) (accepted-set set accepted .bands);
@@ -58,7 +58,7 @@ module _ (channels channel : ℕ) (inside : channel < channels) (set : List ℤ)
 
   module _ (calls : List Call) where
     all-follow : Follows (bandsOf set) 0 false (allSamples channels channel set calls) (allLimits channels channel set calls) (allExacts channels channel set calls)
-    all-follow = list-follows channels channel inside (bandsOf set) calls 0 false (begun channels set) silent begun-tied
+    all-follow = list-follows channels channel inside (bandsOf set) calls 0 false (startingUnit channels set) silent begun-tied
 
     close-at : (i : ℕ) → CloseAt channels channel set calls i
     close-at i h q =
@@ -75,7 +75,7 @@ module _ (channels channel : ℕ) (inside : channel < channels) (set : List ℤ)
         }
       where
         after : Ended channels channel inside (bandsOf set) (anyOf (allLimits channels channel set calls)) (ended channels channel set calls)
-        after = list-ended channels channel inside (bandsOf set) calls 0 false (begun channels set) silent begun-tied
+        after = list-ended channels channel inside (bandsOf set) calls 0 false (startingUnit channels set) silent begun-tied
 
         lengths : (length (allExacts channels channel set calls) ≡ length (allSamples channels channel set calls)) × (length (allLimits channels channel set calls) ≡ length (allSamples channels channel set calls))
         lengths =

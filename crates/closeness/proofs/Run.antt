@@ -27,9 +27,9 @@ use Rattle.orders.specs.Orders.{volumeBand, names, targetOf, orderArguments, ai
 use Rattle.orders.proofs.Laws.{aimed-fit, order-accepts}
 use Rattle.blocks.specs.Bytes.{sampleAt, wordAt, frameCount}
 use Rattle.blocks.specs.Block.{blockArguments, blockVerdict, played, blockPlayed, blockOutput}
-use Rattle.blocks.proofs.Block.{Accepts, played-fit, played-channels, block-accepted}
+use Rattle.blocks.proofs.Block.{BlockAccepts, played-fit, played-channels, block-accepted}
 use Rattle.blocks.proofs.Read.{played-channel, output-sample}
-use Rattle.closeness.specs.Claim.{Call, order, block, placeOf, unitAfter, samplesOf, samples, channelOf, limitsOn, limitsOf, limits, handedBack, Results, Exact, exactFrame, exactAimed, exactPlayed, exactAfter, exactsOf, exacts, Close}
+use Rattle.closeness.specs.Claim.{Call, order, block, placeOf, unitAfter, samplesOf, samples, channelIn, limitsOn, limitsOf, limits, handedBack, Results, Exact, exactFrame, exactAimed, exactPlayed, exactAfter, exactsOf, exacts, Close}
 use Rattle.closeness.proofs.Band.{Near}
 use Rattle.closeness.proofs.Channel.{gainOf, NearAll, Tied, frame-tied, tied-close}
 use Rattle.closeness.proofs.Follows.{Follows, follows-append}
@@ -40,7 +40,7 @@ module _ (channels channel : ℕ) (inside : channel < channels) (bands : List Ba
     pub fit : Fit u
     pub width : length (u .channels) ≡ channels
     pub bands-are : u .bands ≡ bands
-    pub tied : Tied bands n limited (u .volume) (channelOf channels channel u) e
+    pub tied : Tied bands n limited (u .volume) (channelIn channels channel u) e
 
   -- counted in another way
   tied-from : {n m : ℕ} {a b : Bool} (u : Unit) (e : Exact) → n ≡ m → a ≡ b → TiedUnit n a u e → TiedUnit m b u e
@@ -74,7 +74,7 @@ module _ (channels channel : ℕ) (inside : channel < channels) (bands : List Ba
 
     module _ (n : ℕ) (limited : Bool) (u : Unit) (e : Exact) (t : TiedUnit n limited u e) where
       abbrev c : Channel
-      c = channelOf channels channel u
+      c = channelIn channels channel u
 
       -- the channel of a band's order, where the side names it and where not
       abbrev gainsThen : Bool → List Level
@@ -157,7 +157,7 @@ module _ (channels channel : ℕ) (inside : channel < channels) (bands : List Ba
         v = played channels u input k
 
         a : Channel
-        a = channelOf channels channel v
+        a = channelIn channels channel v
 
         x : ℤ
         x = wordAt input (placeOf channels channel k)
@@ -175,7 +175,7 @@ module _ (channels channel : ℕ) (inside : channel < channels) (bands : List Ba
         tied-from (played channels u input (suc k)) (exactBy (suc k)) (omega arith) (limited-more k) (played-next k (played-tied k))
 
     -- the claim holds of them
-    module _ (room : List ℕ) (accepts : Accepts channels u (length input) (length room)) where
+    module _ (room : List ℕ) (accepts : BlockAccepts channels u (length input) (length room)) where
       abbrev sampleIn : ℕ → ℤ
       sampleIn k = sampleAt (blockOutput channels u input room) (placeOf channels channel k)
 
@@ -189,7 +189,7 @@ module _ (channels channel : ℕ) (inside : channel < channels) (bands : List Ba
           last : limitedBy k || limitsIn k ≡ false → Close bands (suc (n + k)) (sampleIn k) (exactBy (suc k))
           last q =
               subst (λ (s : ℤ). Close bands (suc (n + k)) s (exactBy (suc k))) (sym (output-sample channels u input (t .width) channel clearedChannel inside room accepts k (omega arith)))
-              (tied-close bands (suc (n + k)) (limitedBy k || limitsIn k) (played channels u input (suc k) .volume) (channelOf channels channel (played channels u input (suc k))) (exactBy (suc k)) (played-next k (played-tied k) .tied) q)
+              (tied-close bands (suc (n + k)) (limitedBy k || limitsIn k) (played channels u input (suc k) .volume) (channelIn channels channel (played channels u input (suc k))) (exactBy (suc k)) (played-next k (played-tied k) .tied) q)
 
   -- ---- a call
 
@@ -269,7 +269,7 @@ module _ (channels channel : ℕ) (inside : channel < channels) (bands : List Ba
 
   -- the unit after it: its flag says whether a section has limited, and it is fit
   pub record Ended (limited : Bool) (u : Unit) : Type 0 where
-    pub flag-agrees : channelOf channels channel u .flag ≡ pos (flag limited)
+    pub flag-agrees : channelIn channels channel u .flag ≡ pos (flag limited)
     pub stays-fit : Fit u
 
   pub list-ended : (calls : List Call) (n : ℕ) (limited : Bool) (u : Unit) (e : Exact) → TiedUnit n limited u e → Ended (limited || anyOf (limits channels channel u calls)) (handedBack channels u calls)

@@ -76,11 +76,11 @@ module _ (channels channel : ℕ) where
 
   -- "Whether a section has limited is worked from the list by the rounding and limiting under Words and the section, and not read from
   -- the flag": one of the channel's sections limits in the frame that this unit plays on x
-  abbrev pub channelOf : Unit → Channel
-  channelOf u = getD (u .channels) channel clearedChannel
+  abbrev pub channelIn : Unit → Channel
+  channelIn u = getD (u .channels) channel clearedChannel
 
   abbrev pub limitsOn : ℤ → Unit → Bool
-  limitsOn x u = anyLimits (u .bands) x (channelOf u .x2) (channelOf u .sections)
+  limitsOn x u = anyLimits (u .bands) x (channelIn u .x2) (channelIn u .sections)
 
   abbrev pub limitsOf : Unit → Call → List Bool
   limitsOf u call =
@@ -218,15 +218,15 @@ response band (suc zero) = band .gamma
 response band (suc (suc k)) = band .gamma *ℤ response band (suc k) -ℤ band .beta *ℤ rescaled (response band k)
 
 -- "H is the sum of the first n absolute values of that band's impulse response": (2^22)^n × H
-abbrev pub summed : Band → ℕ → ℕ
-summed band zero = 0
-summed band (suc n) = divisor * (summed band n + natAbs (response band n))
+abbrev pub responseSum : Band → ℕ → ℕ
+responseSum band zero = 0
+responseSum band (suc n) = divisor * (responseSum band n + natAbs (response band n))
 
 -- "sum over the bands of |g| × H", on the scale of frame n
 abbrev pub gainedSums : ℕ → List Level → List Band → ℕ
 gainedSums n [] bands = 0
 gainedSums n (g ∷ gs) [] = 0
-gainedSums n (g ∷ gs) (band ∷ bands) = natAbs (g .present) * summed band n + gainedSums n gs bands
+gainedSums n (g ∷ gs) (band ∷ bands) = natAbs (g .present) * responseSum band n + gainedSums n gs bands
 
 -- ---- the claim
 
@@ -240,17 +240,17 @@ pub record Close (bands : List Band) (n : ℕ) (s : ℤ) (e : Exact) : Type 0 wh
   pub distance : 2 * natAbs (pos (outputScale e) *ℤ s -ℤ exactOutput e) ≤ bound bands n e
 
 -- "It begins with a cleared unit with an accepted band set": what `loading::load` hands back, by `Demand3 .begins`
-abbrev pub begun : ℕ → List ℤ → Unit
-begun channels set = clearedUnit channels (bandsOf set)
+abbrev pub startingUnit : ℕ → List ℤ → Unit
+startingUnit channels set = clearedUnit channels (bandsOf set)
 
--- a list begun so, and one of its channels
+-- a list startingUnit so, and one of its channels
 module _ (channels channel : ℕ) (set : List ℤ) (calls : List Call) where
   -- all frames of the list: the samples, whether a section limits, and the exact reckoning
   abbrev pub allSamples : List ℤ
-  allSamples = samples channels channel (begun channels set) calls
+  allSamples = samples channels channel (startingUnit channels set) calls
 
   abbrev pub allLimits : List Bool
-  allLimits = limits channels channel (begun channels set) calls
+  allLimits = limits channels channel (startingUnit channels set) calls
 
   abbrev pub allExacts : List Exact
   allExacts = exacts channels channel (bandsOf set) silent calls
@@ -262,18 +262,18 @@ module _ (channels channel : ℕ) (set : List ℤ) (calls : List Call) where
 
   -- the unit that the list hands back
   abbrev pub ended : Unit
-  ended = handedBack channels (begun channels set) calls
+  ended = handedBack channels (startingUnit channels set) calls
 
   -- beside it: the three lists speak of the same frames; the flag tells the same as `limits`; and the unit stays fit, so that "14 can't
   -- arise in the list"
   pub record Agreeing : Type 0 where
     pub exact-frames : length allExacts ≡ length allSamples
     pub limits-frames : length allLimits ≡ length allSamples
-    pub flag-agrees : channelOf channels channel ended .flag ≡ pos (flag (anyOf allLimits))
+    pub flag-agrees : channelIn channels channel ended .flag ≡ pos (flag (anyOf allLimits))
     pub stays-fit : Fit ended
 
 -- "For every such list, whatever the orders ask and the blocks hold, and for every frame n and each side"
 pub record Demand3 : Type 0 where
   pub close : (channels channel : ℕ) (set : List ℤ) (calls : List Call) → channel < channels → isAccepted (setVerdict set) ≡ true → (i : ℕ) → CloseAt channels channel set calls i
-  pub begins : (set : List ℤ) → isAccepted (setVerdict set) ≡ true → loaded set .unit ≡ begun channelCount set
+  pub begins : (set : List ℤ) → isAccepted (setVerdict set) ≡ true → loaded set .unit ≡ startingUnit channelCount set
   pub agreeing : (channels channel : ℕ) (set : List ℤ) (calls : List Call) → channel < channels → isAccepted (setVerdict set) ≡ true → Agreeing channels channel set calls

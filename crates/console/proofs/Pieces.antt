@@ -11,10 +11,10 @@ use lib.Signed.{_<ℤ_}
 use Rattle.integers.proofs.Parts.{linear}
 use Rattle.io.specs.Counts.{clamped}
 use Rattle.console.specs.declared.Received.{Received}
-use Rattle.console.specs.Reads.{Read}
+use Rattle.console.specs.Reads.{ReceiveGives}
 
 -- the part behind the held bytes is replaced, and so many of its bytes count
-pub read-behind : (held more : ℕ) (buffer part rest : List ℕ) (r : Received) → held ≤ length buffer → more ≤ length part → r .count ≡ held + more → length (take held buffer ++ (part ++ rest)) ≡ length buffer → (r .«is_open» ≡ true → held < length buffer → 0 < more) → Read held buffer r (take held buffer ++ (part ++ rest))
+pub read-behind : (held more : ℕ) (buffer part rest : List ℕ) (r : Received) → held ≤ length buffer → more ≤ length part → r .count ≡ held + more → length (take held buffer ++ (part ++ rest)) ≡ length buffer → (r .«is_open» ≡ true → held < length buffer → 0 < more) → ReceiveGives held buffer r (take held buffer ++ (part ++ rest))
 read-behind held more buffer part rest r h k e same brings =
     record {
       bytes = take more part;

@@ -8,7 +8,7 @@ use lib.ListN.{length, take}
 use Rattle.console.specs.declared.Received.{Received}
 
 -- a read puts bytes behind those that are held at the front of the buffer, and leaves those as they are
-pub record Read (held : ℕ) (buffer : List ℕ) (r : Received) (buffer' : List ℕ) : Type 0 where
+pub record ReceiveGives (held : ℕ) (buffer : List ℕ) (r : Received) (buffer' : List ℕ) : Type 0 where
   pub bytes : List ℕ
   pub front-is : take (r .count) buffer' ≡ take held buffer ++ bytes
   pub count-fits : r .count ≤ length buffer'

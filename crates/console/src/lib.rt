@@ -2,7 +2,7 @@
 ghost use Prim.Native.Nat.{_≤_};
 ghost use lib.ListN.{length};
 ghost use Rattle.io.specs.Counts.{Counts};
-ghost use Rattle.console.specs.Reads.{Read};
+ghost use Rattle.console.specs.Reads.{ReceiveGives};
 use refusals::Verdict;
 
 // What reading leaves: the count of bytes at the front of the buffer, whether more may come, and whether a read failed.
@@ -22,7 +22,7 @@ pub fn refuse(verdict: Verdict) {
 // Reads once, behind the bytes that are held at the front of the buffer. Where that fails a message says so, by the name of what is read.
 pub fn receive(fd: i32, name: &[u8], buffer: &mut [u8], held: usize) -> Received
     requires { ⌜ held ≤ length (now buffer) ⌝ }
-    ensures { λ r. ⌜ Read held (now (buffer .entry)) r (now (buffer .exit)) ⌝ }
+    ensures { λ r. ⌜ ReceiveGives held (now (buffer .entry)) r (now (buffer .exit)) ⌝ }
 {
     let room = &mut buffer[held..];
     let got = libc::read(fd, room);

@@ -17,10 +17,10 @@ use Rattle.unit.proofs.Tabulate.{tabulate-cong, each-at, at-each, tabulate-leng
 use Rattle.unit.proofs.Mix.{shareSize, share-size, exact-size}
 use Rattle.unit.proofs.Stays.{section-stays}
 use Rattle.unit.proofs.Ranges.{input-size}
-use Rattle.engine.specs.Numbers.{place, sectionAt, channelOf, Turns, Frames}
+use Rattle.engine.specs.Numbers.{place, sectionAt, channelOf, SectionTurnAsks, ChannelFrameAsks}
 use Rattle.engine.proofs.Numbers.{Progress, sectionOf, shareOf}
 
-module _ (bands l : List ℤ) (x : ℤ) (f : Frames bands l x) where
+module _ (bands l : List ℤ) (x : ℤ) (f : ChannelFrameAsks bands l x) where
   -- the input of two frames ago
   abbrev x2 : ℤ
   x2 = getD l 1 (pos 0)
@@ -32,7 +32,7 @@ module _ (bands l : List ℤ) (x : ℤ) (f : Frames bands l x) where
   section-fit k h = each-at SectionFit bandCount (sectionAt l) (f .channel-fit .sections) k h
 
   -- each turn has what it asks
-  pub turns : (n : ℕ) (m : List ℤ) → n < bandCount → Progress bands l x x2 n m → Turns bands m n x x2
+  pub turns : (n : ℕ) (m : List ℤ) → n < bandCount → Progress bands l x x2 n m → SectionTurnAsks bands m n x x2
   turns n m h p =
       record {
         below = h;

@@ -14,7 +14,7 @@ use Rattle.bands.specs.Bands.{bandAt}
 use Rattle.unit.specs.declared.BandSection.{BandSection}
 use Rattle.unit.specs.Lists.{tabulate, anyOf}
 use Rattle.unit.specs.Cleared.{bandCount}
-use Rattle.unit.specs.Frame.{workOf, sectionFrame, raised, share, sumOf}
+use Rattle.unit.specs.Frame.{sectionWork, sectionFrame, raised, share, sumOf}
 use Rattle.unit.proofs.Tabulate.{any-snoc, sum-snoc}
 use Rattle.engine.specs.Numbers.{channelSize, place, sectionAt, putSection, marked, turnedSection, limitsAt, turned}
 
@@ -161,7 +161,7 @@ module _ (bands l : List ℤ) (x x2 : ℤ) where
     turn-section = ap (λ (s : BandSection). sectionFrame (bandAt bands n) x x2 s) (p .ahead n (omega arith))
 
     turn-limits : limitsAt bands m n x x2 ≡ limitOf n
-    turn-limits = ap (λ (s : BandSection). workOf (bandAt bands n) x x2 s .limited) (p .ahead n (omega arith))
+    turn-limits = ap (λ (s : BandSection). sectionWork (bandAt bands n) x x2 s .limited) (p .ahead n (omega arith))
 
     -- the numbers with the flag marked, in which the section is then stored
     abbrev flagged : List ℤ

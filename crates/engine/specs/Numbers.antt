@@ -11,7 +11,7 @@ use Rattle.unit.specs.declared.BandSection.{BandSection}
 use Rattle.unit.specs.declared.Channel.{Channel}
 use Rattle.unit.specs.Lists.{tabulate, Each}
 use Rattle.unit.specs.Cleared.{bandCount, bandsOf}
-use Rattle.unit.specs.Frame.{workOf, sectionFrame, raised, channelFrame, mix}
+use Rattle.unit.specs.Frame.{sectionWork, sectionFrame, raised, channelFrame, mix}
 use Rattle.unit.specs.Fit.{BandFit, SectionFit, ChannelFit}
 
 -- how many they are
@@ -59,14 +59,14 @@ module _ (bands l : List ℤ) (b : ℕ) (x x2 : ℤ) where
 
   -- it limits in the frame
   abbrev pub limitsAt : Bool
-  limitsAt = workOf (bandAt bands b) x x2 (sectionAt l b) .limited
+  limitsAt = sectionWork (bandAt bands b) x x2 (sectionAt l b) .limited
 
   -- the channel's numbers after it
   abbrev pub turned : List ℤ
   turned = putSection (marked limitsAt l) b turnedSection
 
   -- what a turn asks: an accepted band, a fit section, and inputs of at most 2^23 in size
-  pub record Turns : Type 0 where
+  pub record SectionTurnAsks : Type 0 where
     pub below : b < bandCount
     pub band : BandFit (bandAt bands b)
     pub section : SectionFit (sectionAt l b)
@@ -74,14 +74,14 @@ module _ (bands l : List ℤ) (b : ℕ) (x x2 : ℤ) where
     pub x2-size : natAbs x2 ≤ wordSize
 
 -- what a channel's frame asks: accepted bands, a fit channel, and an input of at most 2^23 in size
-pub record Frames (bands l : List ℤ) (x : ℤ) : Type 0 where
+pub record ChannelFrameAsks (bands l : List ℤ) (x : ℤ) : Type 0 where
   pub size : length l ≡ channelSize
   pub bands-fit : Each BandFit (bandsOf bands)
   pub channel-fit : ChannelFit (channelOf l)
   pub x-size : natAbs x ≤ wordSize
 
 -- what it gives: the numbers of the channel after the frame, and its m
-pub record Framed (bands l : List ℤ) (x : ℤ) (after : List ℤ) (m : ℤ) : Type 0 where
+pub record ChannelFrameGives (bands l : List ℤ) (x : ℤ) (after : List ℤ) (m : ℤ) : Type 0 where
   pub size : length after ≡ channelSize
   pub channel : channelOf after ≡ channelFrame (bandsOf bands) x (channelOf l)
   pub mixed : m ≡ mix (channelFrame (bandsOf bands) x (channelOf l))
@@ -91,6 +91,6 @@ abbrev pub mixSize : ℕ
 mixSize = 92274688
 
 -- what the output asks of V and m
-pub record Sounds (volume m : ℤ) : Type 0 where
+pub record OutputAsks (volume m : ℤ) : Type 0 where
   pub volume-size : natAbs volume ≤ wordSize
   pub mix-size : natAbs m ≤ mixSize

@@ -8,7 +8,7 @@ ghost use Prim.Native.Nat.{_<_};
 ghost use Rattle.rounding.specs.Rounding.{limit};
 ghost use Rattle.bands.specs.Words.{wordLow, wordHigh, isWord};
 ghost use Rattle.unit.specs.Frame.{share, output};
-ghost use Rattle.engine.specs.Numbers.{sectionAt, putSection, marked, turnedSection, turned, Turns, Frames, Framed, Sounds};
+ghost use Rattle.engine.specs.Numbers.{sectionAt, putSection, marked, turnedSection, turned, SectionTurnAsks, ChannelFrameAsks, ChannelFrameGives, OutputAsks};
 use levels::Level;
 use unit::BandSection;
 
@@ -67,8 +67,8 @@ fn limit_word(channel: &mut [i64; 43], rounded: i64) -> i64
 }
 
 // Section b's turn in a frame: its gain moves, equation (8) is worked, rounded and limited, and the results move on. Gives g × y.
-fn turn(bands: &[i64; 30], channel: &mut [i64; 43], b: usize, x: i64, x2: i64) -> i64
-    requires { ⌜ Turns (now bands) (now channel) b x x2 ⌝ }
+fn section_turn(bands: &[i64; 30], channel: &mut [i64; 43], b: usize, x: i64, x2: i64) -> i64
+    requires { ⌜ SectionTurnAsks (now bands) (now channel) b x x2 ⌝ }
     ensures { λ r. ⌜ (r ≡ share (turnedSection (now (bands .entry)) (now (channel .entry)) b x x2)) × (now (channel .exit) ≡ turned (now (bands .entry)) (now (channel .entry)) b x x2) ⌝ }
 {
     let before = section_at(channel, b);
@@ -93,15 +93,15 @@ fn turn(bands: &[i64; 30], channel: &mut [i64; 43], b: usize, x: i64, x2: i64) -
 
 // A channel's frame on the input word x: every section has its turn, and x and x1 move on. Gives m, T / 2^23 rounded and not limited.
 pub fn channel_frame(bands: &[i64; 30], channel: &mut [i64; 43], x: i64) -> i64
-    requires { ⌜ Frames (now bands) (now channel) x ⌝ }
-    ensures { λ r. ⌜ Framed (now (bands .entry)) (now (channel .entry)) x (now (channel .exit)) r ⌝ }
+    requires { ⌜ ChannelFrameAsks (now bands) (now channel) x ⌝ }
+    ensures { λ r. ⌜ ChannelFrameGives (now (bands .entry)) (now (channel .entry)) x (now (channel .exit)) r ⌝ }
 {
     let x1 = channel[0];
     let x2 = channel[1];
     let mut total = 0x80_0000 * x;
     let mut b = 0;
     while b < 10 {
-        total += turn(bands, channel, b, x, x2);
+        total += section_turn(bands, channel, b, x, x2);
         b += 1;
     }
     channel[1] = x1;
@@ -110,8 +110,8 @@ pub fn channel_frame(bands: &[i64; 30], channel: &mut [i64; 43], x: i64) -> i64
 }
 
 // The output: V × m / 2^31 rounded, then limited to a sample.
-pub fn sound(volume: i64, m: i64) -> i64
-    requires { ⌜ Sounds volume m ⌝ }
+pub fn output(volume: i64, m: i64) -> i64
+    requires { ⌜ OutputAsks volume m ⌝ }
     ensures { λ r. ⌜ r ≡ output volume m ⌝ }
 {
     let rounded = rounding::round_near(volume * m, OUTPUT_SHIFT);

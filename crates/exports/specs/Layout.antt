@@ -19,11 +19,11 @@ use Rattle.orders.specs.Orders.{ordered}
 use Rattle.blocks.specs.Block.{blockPlayed, blockOutput}
 use Rattle.writing.specs.Written.{filledCount, filled}
 use Rattle.reading.specs.Reading.{sheetRead}
-use Rattle.numbers.specs.Layout.{unitOf, numbersOf as unitNumbers}
+use Rattle.numbers.specs.Layout.{unitOf, numbersOf}
 
 -- a section is seven numbers: A, B, G, x1, x2, y1, y2
-abbrev pub sectionOf : List ℤ → Section
-sectionOf l =
+abbrev pub loneSection : List ℤ → Section
+loneSection l =
     record {
       band = bandOf (getD l 0 (pos 0)) (getD l 1 (pos 0)) (getD l 2 (pos 0));
       x1 = getD l 3 (pos 0);
@@ -32,15 +32,15 @@ sectionOf l =
       y2 = getD l 6 (pos 0);
     }
 
-abbrev pub numbersOf : Section → List ℤ
-numbersOf s = s .band .alpha ∷ s .band .beta ∷ s .band .gamma ∷ s .x1 ∷ s .x2 ∷ s .y1 ∷ s .y2 ∷ []
+abbrev pub loneNumbers : Section → List ℤ
+loneNumbers s = s .band .alpha ∷ s .band .beta ∷ s .band .gamma ∷ s .x1 ∷ s .x2 ∷ s .y1 ∷ s .y2 ∷ []
 
 -- an answer in one number: y in the low 32 bits, above it 1 where the section has limited, and twice the refusal's number
 abbrev pub packed : Stepped → ℤ
 packed r = pos ((2 * numberOf (r .verdict) + flag (r .limited)) * 2 ^ 32) +ℤ r .y
 
 -- a preview: the refusal's number, and the buffer
-pub record PreviewDone (band : Band) (words room : List ℤ) (number : ℕ) (filled : List ℤ) : Type 0 where
+pub record PreviewGives (band : Band) (words room : List ℤ) (number : ℕ) (filled : List ℤ) : Type 0 where
   pub number-is : number ≡ numberOf (previewVerdict band words (length room))
   pub buffer-is : filled ≡ previewed band words room
 
@@ -48,25 +48,25 @@ pub record PreviewDone (band : Band) (words room : List ℤ) (number : ℕ) (fil
 
 -- the numbers after a call: refused, those lent
 abbrev pub numbersAfter : List ℤ → Verdict → Unit → List ℤ
-numbersAfter l verdict u = cond (isAccepted verdict) (unitNumbers u) l
+numbersAfter l verdict u = cond (isAccepted verdict) (numbersOf u) l
 
 -- a block: the refusal's number, the numbers after it, and the output
-pub record BlockDone (l : List ℤ) (input room : List ℕ) (number : ℕ) (after : List ℤ) (filled : List ℕ) : Type 0 where
+pub record BlockGives (l : List ℤ) (input room : List ℕ) (number : ℕ) (after : List ℤ) (filled : List ℕ) : Type 0 where
   pub number-is : number ≡ numberOf (blockPlayed 2 (unitOf l) input (length room) .verdict)
   pub numbers-are : after ≡ numbersAfter l (blockPlayed 2 (unitOf l) input (length room) .verdict) (blockPlayed 2 (unitOf l) input (length room) .unit)
   pub output-is : filled ≡ blockOutput 2 (unitOf l) input room
 
 -- a level order: the refusal's number, and the numbers after it
-pub record OrderDone (l : List ℤ) (side band : ℕ) (setting : Setting) (number : ℕ) (after : List ℤ) : Type 0 where
+pub record OrderGives (l : List ℤ) (side band : ℕ) (setting : Setting) (number : ℕ) (after : List ℤ) : Type 0 where
   pub number-is : number ≡ numberOf (ordered (unitOf l) side band setting .verdict)
   pub numbers-are : after ≡ numbersAfter l (ordered (unitOf l) side band setting .verdict) (ordered (unitOf l) side band setting .unit)
 
 -- a sheet that is written: the count of its bytes, and the buffer
-pub record SheetWritten (l : List ℤ) (room : List ℕ) (count : ℕ) (after : List ℕ) : Type 0 where
+pub record SheetWriteGives (l : List ℤ) (room : List ℕ) (count : ℕ) (after : List ℕ) : Type 0 where
   pub count-is : count ≡ filledCount (unitOf l) (length room)
   pub buffer-is : after ≡ filled (unitOf l) room
 
 -- a sheet that is read: the refusal's number, and the numbers after it
-pub record SheetDone (l : List ℤ) (bytes : List ℕ) (number : ℕ) (after : List ℤ) : Type 0 where
+pub record SheetReadGives (l : List ℤ) (bytes : List ℕ) (number : ℕ) (after : List ℤ) : Type 0 where
   pub number-is : number ≡ numberOf (sheetRead bytes (unitOf l) .verdict)
   pub numbers-are : after ≡ numbersAfter l (sheetRead bytes (unitOf l) .verdict) (sheetRead bytes (unitOf l) .unit)

@@ -11,8 +11,8 @@ ghost use Rattle.section.specs.Equation.{flag};
 ghost use Rattle.section.specs.Step.{stepped};
 ghost use Rattle.unit.specs.Fit.{Fit, unitFits};
 ghost use Rattle.loading.specs.Loading.{loaded};
-ghost use Rattle.numbers.specs.Layout.{unitOf, numbersOf as unitNumbers};
-ghost use Rattle.exports.specs.Layout.{sectionOf, numbersOf, packed, PreviewDone, numbersAfter, BlockDone, OrderDone, SheetWritten, SheetDone};
+ghost use Rattle.numbers.specs.Layout.{unitOf, numbersOf};
+ghost use Rattle.exports.specs.Layout.{loneSection, loneNumbers, packed, PreviewGives, numbersAfter, BlockGives, OrderGives, SheetWriteGives, SheetReadGives};
 use bands::Band;
 use levels::Level;
 use orders::Setting;
@@ -58,7 +58,7 @@ pub extern "C" fn fonddrys_house_set(words: &mut [i32; 30])
 // y added, which may be negative.
 #[no_mangle]
 pub extern "C" fn fonddrys_section_step(numbers: &mut [i32; 7], x: i32) -> i64
-    ensures { λ r. ⌜ (r ≡ packed (stepped (sectionOf (now (numbers .entry))) x)) × (now (numbers .exit) ≡ numbersOf (stepped (sectionOf (now (numbers .entry))) x .section)) ⌝ }
+    ensures { λ r. ⌜ (r ≡ packed (stepped (loneSection (now (numbers .entry))) x)) × (now (numbers .exit) ≡ loneNumbers (stepped (loneSection (now (numbers .entry))) x .section)) ⌝ }
 {
     let alpha = numbers[0];
     let beta = numbers[1];
@@ -100,7 +100,7 @@ pub extern "C" fn fonddrys_preview(
     words: &[i32],
     results: &mut [i32],
 ) -> u32
-    ensures { λ r. ⌜ PreviewDone (bandOf alpha beta gamma) (now (words .entry)) (now (results .entry)) r (now (results .exit)) ⌝ }
+    ensures { λ r. ⌜ PreviewGives (bandOf alpha beta gamma) (now (words .entry)) (now (results .entry)) r (now (results .exit)) ⌝ }
 {
     let verdict = preview::fill(Band { alpha, beta, gamma }, words, results);
     refusals::number(verdict)
@@ -131,7 +131,7 @@ pub extern "C" fn fonddrys_unit_fit(numbers: &[i32; 118]) -> u32
 // Loads a band set: the lent numbers are then those of the loaded unit. 0 for an accepted set, else the number of its refusal.
 #[no_mangle]
 pub extern "C" fn fonddrys_load(numbers: &mut [i32; 118], set: &[i32]) -> u32
-    ensures { λ r. ⌜ (r ≡ numberOf (loaded (now (set .entry)) .verdict)) × (now (numbers .exit) ≡ unitNumbers (loaded (now (set .entry)) .unit)) ⌝ }
+    ensures { λ r. ⌜ (r ≡ numberOf (loaded (now (set .entry)) .verdict)) × (now (numbers .exit) ≡ numbersOf (loaded (now (set .entry)) .unit)) ⌝ }
 {
     let answer = loading::load(set);
     let verdict = answer.verdict;
@@ -144,7 +144,7 @@ pub extern "C" fn fonddrys_load(numbers: &mut [i32; 118], set: &[i32]) -> u32
 // the frames. 0 for an accepted block, else the number of its refusal: the lent numbers and the output are then as they were.
 #[no_mangle]
 pub extern "C" fn fonddrys_block(numbers: &mut [i32; 118], input: &[u8], output: &mut [u8]) -> u32
-    ensures { λ r. ⌜ BlockDone (now (numbers .entry)) (now (input .entry)) (now (output .entry)) r (now (numbers .exit)) (now (output .exit)) ⌝ }
+    ensures { λ r. ⌜ BlockGives (now (numbers .entry)) (now (input .entry)) (now (output .entry)) r (now (numbers .exit)) (now (output .exit)) ⌝ }
 {
     let unit = numbers::unit_of(numbers);
     let answer = blocks::play(unit, input, output);
@@ -162,7 +162,7 @@ pub extern "C" fn fonddrys_order_position(
     band: u32,
     position: u8,
 ) -> u32
-    ensures { λ r. ⌜ OrderDone (now (numbers .entry)) side band (Setting.Position position) r (now (numbers .exit)) ⌝ }
+    ensures { λ r. ⌜ OrderGives (now (numbers .entry)) side band (Setting.Position position) r (now (numbers .exit)) ⌝ }
 {
     give_order(numbers, side, band, Setting::Position(position))
 }
@@ -175,7 +175,7 @@ pub extern "C" fn fonddrys_order_factor(
     band: u32,
     factor: f32,
 ) -> u32
-    ensures { λ r. ⌜ OrderDone (now (numbers .entry)) side band (Setting.Factor factor) r (now (numbers .exit)) ⌝ }
+    ensures { λ r. ⌜ OrderGives (now (numbers .entry)) side band (Setting.Factor factor) r (now (numbers .exit)) ⌝ }
 {
     give_order(numbers, side, band, Setting::Factor(factor))
 }
@@ -183,7 +183,7 @@ pub extern "C" fn fonddrys_order_factor(
 // The same, to mute: the target 0.
 #[no_mangle]
 pub extern "C" fn fonddrys_order_mute(numbers: &mut [i32; 118], side: u32, band: u32) -> u32
-    ensures { λ r. ⌜ OrderDone (now (numbers .entry)) side band Setting.Mute r (now (numbers .exit)) ⌝ }
+    ensures { λ r. ⌜ OrderGives (now (numbers .entry)) side band Setting.Mute r (now (numbers .exit)) ⌝ }
 {
     give_order(numbers, side, band, Setting::Mute)
 }
@@ -192,7 +192,7 @@ pub extern "C" fn fonddrys_order_mute(numbers: &mut [i32; 118], side: u32, band:
 // shorter buffer, or for an unfit unit, the count is 0 and the buffer is as it was. Bytes behind the sheet keep their contents.
 #[no_mangle]
 pub extern "C" fn fonddrys_sheet_write(numbers: &[i32; 118], buffer: &mut [u8]) -> usize
-    ensures { λ r. ⌜ SheetWritten (now (numbers .entry)) (now (buffer .entry)) r (now (buffer .exit)) ⌝ }
+    ensures { λ r. ⌜ SheetWriteGives (now (numbers .entry)) (now (buffer .entry)) r (now (buffer .exit)) ⌝ }
 {
     writing::fill_numbers(numbers, buffer)
 }
@@ -201,7 +201,7 @@ pub extern "C" fn fonddrys_sheet_write(numbers: &[i32; 118], buffer: &mut [u8]) 
 // refusal: the lent numbers are then as they were.
 #[no_mangle]
 pub extern "C" fn fonddrys_sheet_read(numbers: &mut [i32; 118], bytes: &[u8]) -> u32
-    ensures { λ r. ⌜ SheetDone (now (numbers .entry)) (now (bytes .entry)) r (now (numbers .exit)) ⌝ }
+    ensures { λ r. ⌜ SheetReadGives (now (numbers .entry)) (now (bytes .entry)) r (now (numbers .exit)) ⌝ }
 {
     let mut carried = [0i32; 118];
     let found = reading::read_numbers(bytes, &mut carried);
@@ -214,7 +214,7 @@ pub extern "C" fn fonddrys_sheet_read(numbers: &mut [i32; 118], bytes: &[u8]) ->
 
 // Gives an order to the unit whose numbers are lent.
 fn give_order(numbers: &mut [i32; 118], side: u32, band: u32, setting: Setting) -> u32
-    ensures { λ r. ⌜ OrderDone (now (numbers .entry)) side band setting r (now (numbers .exit)) ⌝ }
+    ensures { λ r. ⌜ OrderGives (now (numbers .entry)) side band setting r (now (numbers .exit)) ⌝ }
 {
     let unit = numbers::unit_of(numbers);
     let answer = orders::order(unit, side, band, setting);

@@ -5,7 +5,7 @@ use Rattle.rounding.specs.Rounding.{floor, rest, odd, goesUp, nearest, taken, l
 use Rattle.bands.specs.Bands.{alphaAccepted, betaAccepted, gammaAccepted, bandVerdict}
 use Rattle.bands.specs.House.{houseSet}
 use Rattle.section.specs.Equation.{exactSum, worked}
-use Rattle.section.specs.Step.{allWords, stepVerdict, advanced, stepped, resultsOver}
+use Rattle.section.specs.Step.{allWords, stepVerdict, acceptedStep, stepped, resultsOver}
 use Rattle.levels.specs.Levels.{ramp}
 use Rattle.unit.specs.Frame.{sectionFrame, channelFrame, exactMix, mix, output, unitFrame}
 use Rattle.floats.specs.Value.{inUnits, factorTarget}
@@ -13,5 +13,5 @@ use Rattle.orders.specs.Orders.{targetOf}
 use Rattle.figures.specs.Figures.{Figure, starred}
 
 pub starred-hold : map (λ (f : Figure). f .given) starred ≡ map (λ (f : Figure). f .printed) starred
-unfolding starred houseSet resultsOver stepped advanced stepVerdict allWords bandVerdict alphaAccepted betaAccepted gammaAccepted exactSum worked nearest taken goesUp odd rest floor limit within ramp sectionFrame channelFrame exactMix mix output unitFrame targetOf factorTarget inUnits
+unfolding starred houseSet resultsOver stepped acceptedStep stepVerdict allWords bandVerdict alphaAccepted betaAccepted gammaAccepted exactSum worked nearest taken goesUp odd rest floor limit within ramp sectionFrame channelFrame exactMix mix output unitFrame targetOf factorTarget inUnits
 starred-hold = refl

@@ -12,7 +12,7 @@ use mir.Val.{SFits, toZ, ofZ}
 use Rattle.integers.proofs.Machine.{num, below-fits, unary-need, unary-reads}
 use Rattle.bands.specs.Words.{wordSize}
 use Rattle.unit.specs.Lists.{Each}
-use Rattle.numbers.specs.Layout.{unitSize, joined, Put}
+use Rattle.numbers.specs.Layout.{unitSize, joined, PutGives}
 
 -- the number behind a start
 pub behind : (l : List ℤ) (start i j : ℕ) → j ≡ start + i → getD l j (pos 0) ≡ getD (drop start l) i (pos 0)
@@ -36,15 +36,15 @@ module _ (z : ℤ) (size : natAbs z ≤ wordSize) where
 -- ---- stores
 
 -- nothing stored
-pub put-none : (l : List ℤ) (i : ℕ) → length l ≡ unitSize → Put l i [] i l
+pub put-none : (l : List ℤ) (i : ℕ) → length l ≡ unitSize → PutGives l i [] i l
 put-none l i h = record { size = h; onward = omega arith; front = sym (append-nil (take i l)); behind = refl }
 
 -- all stored
-pub put-all : {l m new : List ℤ} → Put l 0 new unitSize m → m ≡ new
+pub put-all : {l m new : List ℤ} → PutGives l 0 new unitSize m → m ≡ new
 put-all {l} {m} {new} p = sym (take-all unitSize m (omega (arith, p .size))) ∙ p .front
 
 -- one store after another
-pub put-then : {l m n : List ℤ} {i j k : ℕ} {new more : List ℤ} → Put l i new j m → Put m j more k n → Put l i (new ++ more) k n
+pub put-then : {l m n : List ℤ} {i j k : ℕ} {new more : List ℤ} → PutGives l i new j m → PutGives m j more k n → PutGives l i (new ++ more) k n
 put-then {l} {m} {n} {i} {j} {k} {new} {more} p q =
     record {
       size = q .size;
@@ -60,7 +60,7 @@ put-then {l} {m} {n} {i} {j} {k} {new} {more} p q =
     further x = ap (λ (t : ℕ). drop t x) reach ∙ sym (drop-drop (k - j) j x)
 
 -- one number, as it is read from its bits
-pub put-one : {v w : ℤ} (l : List ℤ) (i : ℕ) → length l ≡ unitSize → i < unitSize → w ≡ v → Put l i (v ∷ []) (i + 1) (set l i w)
+pub put-one : {v w : ℤ} (l : List ℤ) (i : ℕ) → length l ≡ unitSize → i < unitSize → w ≡ v → PutGives l i (v ∷ []) (i + 1) (set l i w)
 put-one {v} {w} l i h k e =
     record {
       size = length-set l i w ∙ h;
@@ -70,18 +70,18 @@ put-one {v} {w} l i h k e =
     }
 
 -- one number more
-pub put-next : {l m : List ℤ} {i j : ℕ} {new : List ℤ} {v w : ℤ} → Put l i new j m → j < unitSize → (k : ℕ) → j + 1 ≡ k → w ≡ v → Put l i (new ++ (v ∷ [])) k (set m j w)
+pub put-next : {l m : List ℤ} {i j : ℕ} {new : List ℤ} {v w : ℤ} → PutGives l i new j m → j < unitSize → (k : ℕ) → j + 1 ≡ k → w ≡ v → PutGives l i (new ++ (v ∷ [])) k (set m j w)
 put-next {l} {m} {i} {j} {new} {v} {w} p h k e r =
-    subst (λ (n : ℕ). Put l i (new ++ (v ∷ [])) n (set m j w)) e (put-then p (put-one m j (p .size) h r))
+    subst (λ (n : ℕ). PutGives l i (new ++ (v ∷ [])) n (set m j w)) e (put-then p (put-one m j (p .size) h r))
 
 module _ (l : List ℤ) (i : ℕ) (h : length l ≡ unitSize) where
-  pub put-two : {a b v w : ℤ} → i + 2 ≤ unitSize → v ≡ a → w ≡ b → Put l i (a ∷ b ∷ []) (i + 2) (set (set l i v) (i + 1) w)
+  pub put-two : {a b v w : ℤ} → i + 2 ≤ unitSize → v ≡ a → w ≡ b → PutGives l i (a ∷ b ∷ []) (i + 2) (set (set l i v) (i + 1) w)
   put-two k p q = put-next (put-one l i h (omega arith) p) (omega arith) (i + 2) (omega arith) q
 
-  pub put-three : {a b c v w x : ℤ} → i + 3 ≤ unitSize → v ≡ a → w ≡ b → x ≡ c → Put l i (a ∷ b ∷ c ∷ []) (i + 3) (set (set (set l i v) (i + 1) w) (i + 2) x)
+  pub put-three : {a b c v w x : ℤ} → i + 3 ≤ unitSize → v ≡ a → w ≡ b → x ≡ c → PutGives l i (a ∷ b ∷ c ∷ []) (i + 3) (set (set (set l i v) (i + 1) w) (i + 2) x)
   put-three k p q r = put-next (put-two (omega arith) p q) (omega arith) (i + 3) (omega arith) r
 
-  pub put-four : {a b c d v w x y : ℤ} → i + 4 ≤ unitSize → v ≡ a → w ≡ b → x ≡ c → y ≡ d → Put l i (a ∷ b ∷ c ∷ d ∷ []) (i + 4) (set (set (set (set l i v) (i + 1) w) (i + 2) x) (i + 3) y)
+  pub put-four : {a b c d v w x y : ℤ} → i + 4 ≤ unitSize → v ≡ a → w ≡ b → x ≡ c → y ≡ d → PutGives l i (a ∷ b ∷ c ∷ d ∷ []) (i + 4) (set (set (set (set l i v) (i + 1) w) (i + 2) x) (i + 3) y)
   put-four k p q r s = put-next (put-three (omega arith) p q r) (omega arith) (i + 4) (omega arith) s
 
 -- ---- what is joined of entries, one entry after the other
@@ -102,13 +102,13 @@ module _ {A : Type 0} (f : A → List ℤ) (entries : List A) (d : A) where
   joined-next b h = rw (add-one, take-suc entries b d) (joined-snoc f (take b entries) (getD entries b d))
 
   -- one entry more
-  pub put-entry : {l m n : List ℤ} {i j k : ℕ} (b : ℕ) → b < length entries → Put l i (joined f (take b entries)) j m → Put m j (f (getD entries b d)) k n → (to : ℕ) → k ≡ to → Put l i (joined f (take (b + 1) entries)) to n
+  pub put-entry : {l m n : List ℤ} {i j k : ℕ} (b : ℕ) → b < length entries → PutGives l i (joined f (take b entries)) j m → PutGives m j (f (getD entries b d)) k n → (to : ℕ) → k ≡ to → PutGives l i (joined f (take (b + 1) entries)) to n
   put-entry {l} {m} {n} {i} {j} {k} b h p q to e =
-      subst (λ (t : ℕ). Put l i (joined f (take (b + 1) entries)) t n) e
-      (subst (λ (x : List ℤ). Put l i x k n) (sym (joined-next b h)) (put-then p q))
+      subst (λ (t : ℕ). PutGives l i (joined f (take (b + 1) entries)) t n) e
+      (subst (λ (x : List ℤ). PutGives l i x k n) (sym (joined-next b h)) (put-then p q))
 
   -- every entry
-  pub put-entries : {l m : List ℤ} {i j : ℕ} (b : ℕ) → length entries ≤ b → Put l i (joined f (take b entries)) j m → (to : ℕ) → j ≡ to → Put l i (joined f entries) to m
+  pub put-entries : {l m : List ℤ} {i j : ℕ} (b : ℕ) → length entries ≤ b → PutGives l i (joined f (take b entries)) j m → (to : ℕ) → j ≡ to → PutGives l i (joined f entries) to m
   put-entries {l} {m} {i} {j} b h p to e =
-      subst (λ (t : ℕ). Put l i (joined f entries) t m) e
-      (subst (λ (x : List A). Put l i (joined f x) j m) (take-all b entries h) p)
+      subst (λ (t : ℕ). PutGives l i (joined f entries) t m) e
+      (subst (λ (x : List A). PutGives l i (joined f x) j m) (take-all b entries h) p)

@@ -12,7 +12,7 @@ use Rattle.unit.specs.declared.BandSection.{BandSection}
 use Rattle.unit.specs.declared.Channel.{Channel}
 use Rattle.unit.specs.declared.Unit.{Unit}
 use Rattle.unit.specs.Lists.{tabulate, Each}
-use Rattle.unit.specs.Cleared.{bandCount, bandsOf, clearedSection}
+use Rattle.unit.specs.Cleared.{bandCount, bandsOf, clearedBandSection}
 use Rattle.unit.proofs.Tabulate.{tabulate-cong, tabulate-all}
 use Rattle.unit.proofs.PastEnd.{zeroBand}
 use Rattle.engine.specs.Numbers.{channelSize, place, sectionAt, channelOf}
@@ -100,7 +100,7 @@ module _ (x1 x2 flag : ℤ) where
       seven : i ≡ suc (suc (suc (suc (suc (suc (suc j))))))
       seven = omega arith
 
-  section-of : (sections : List BandSection) (m : List ℤ) (k : ℕ) → k < length sections → sectionAt (x1 ∷ x2 ∷ flag ∷ (joined sectionNumbers sections ++ m)) k ≡ getD sections k clearedSection
+  section-of : (sections : List BandSection) (m : List ℤ) (k : ℕ) → k < length sections → sectionAt (x1 ∷ x2 ∷ flag ∷ (joined sectionNumbers sections ++ m)) k ≡ getD sections k clearedBandSection
   section-of [] m k h = absurd (omega arith)
   section-of (s ∷ sections) m zero h = refl
   section-of (s ∷ sections) m (suc k) h = next ∙ section-of sections m k (omega arith)
@@ -130,7 +130,7 @@ channel-of c m e =
       x2 = c .x2;
       flag = c .flag;
       sections =
-          all-of (c .sections) clearedSection bandCount (sectionAt (channelNumbers c ++ m)) e
+          all-of (c .sections) clearedBandSection bandCount (sectionAt (channelNumbers c ++ m)) e
           (λ k h. section-of (c .x1) (c .x2) (c .flag) (c .sections) m k (omega arith)) i;
     }
 

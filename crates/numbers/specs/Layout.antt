@@ -74,7 +74,7 @@ pub record Shaped (u : Unit) : Type 0 where
 
 -- after the store, what stands before place `to` is what stood before place `from`, and then the new numbers; what stands behind is as it
 -- was
-pub record Put (l : List ℤ) (from : ℕ) (new : List ℤ) (to : ℕ) (after : List ℤ) : Type 0 where
+pub record PutGives (l : List ℤ) (from : ℕ) (new : List ℤ) (to : ℕ) (after : List ℤ) : Type 0 where
   pub size : length after ≡ unitSize
   pub onward : from ≤ to
   pub front : take to after ≡ take from l ++ new

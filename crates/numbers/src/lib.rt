@@ -9,7 +9,7 @@ ghost use Rattle.unit.specs.Lists.{Each};
 ghost use Rattle.unit.specs.Cleared.{bandsOf};
 ghost use Rattle.unit.specs.Fit.{VolumeFit, SectionFit, ChannelFit, Fit};
 ghost use Rattle.engine.specs.Numbers.{sectionAt, channelOf};
-ghost use Rattle.numbers.specs.Layout.{unitSize, bandsPlace, leftPlace, rightPlace, joined, volumeNumbers, bandNumbers, sectionNumbers, channelNumbers, numbersOf, unitOf, Put};
+ghost use Rattle.numbers.specs.Layout.{unitSize, bandsPlace, leftPlace, rightPlace, joined, volumeNumbers, bandNumbers, sectionNumbers, channelNumbers, numbersOf, unitOf, PutGives};
 use bands::Band;
 use levels::Level;
 use unit::BandSection;
@@ -153,7 +153,7 @@ pub fn numbers_of(unit: Unit) -> [i32; 118]
 // Stores the volume.
 fn put_volume(out: &mut [i32; 118], volume: Level)
     requires { ⌜ (length (now out) ≡ unitSize) × VolumeFit volume ⌝ }
-    ensures { λ r. ⌜ Put (now (out .entry)) 0 (volumeNumbers volume) bandsPlace (now (out .exit)) ⌝ }
+    ensures { λ r. ⌜ PutGives (now (out .entry)) 0 (volumeNumbers volume) bandsPlace (now (out .exit)) ⌝ }
 {
     let present = volume.present as i32;
     let target = volume.target as i32;
@@ -164,7 +164,7 @@ fn put_volume(out: &mut [i32; 118], volume: Level)
 // Stores the ten bands.
 fn put_bands(out: &mut [i32; 118], bands: [Band; 10])
     requires { ⌜ length (now out) ≡ unitSize ⌝ }
-    ensures { λ r. ⌜ Put (now (out .entry)) bandsPlace (joined bandNumbers bands) leftPlace (now (out .exit)) ⌝ }
+    ensures { λ r. ⌜ PutGives (now (out .entry)) bandsPlace (joined bandNumbers bands) leftPlace (now (out .exit)) ⌝ }
 {
     let mut b = 0;
     while b < 10 {
@@ -177,7 +177,7 @@ fn put_bands(out: &mut [i32; 118], bands: [Band; 10])
 // Stores a band from place at on.
 fn put_band(out: &mut [i32; 118], at: usize, band: Band)
     requires { ⌜ (length (now out) ≡ unitSize) × (at + 3 ≤ unitSize) ⌝ }
-    ensures { λ r. ⌜ Put (now (out .entry)) at (bandNumbers band) (at + 3) (now (out .exit)) ⌝ }
+    ensures { λ r. ⌜ PutGives (now (out .entry)) at (bandNumbers band) (at + 3) (now (out .exit)) ⌝ }
 {
     let alpha = band.alpha;
     let beta = band.beta;
@@ -190,7 +190,7 @@ fn put_band(out: &mut [i32; 118], at: usize, band: Band)
 // Stores both channels.
 fn put_channels(out: &mut [i32; 118], channels: [Channel; 2])
     requires { ⌜ (length (now out) ≡ unitSize) × Each ChannelFit channels ⌝ }
-    ensures { λ r. ⌜ Put (now (out .entry)) leftPlace (joined channelNumbers channels) unitSize (now (out .exit)) ⌝ }
+    ensures { λ r. ⌜ PutGives (now (out .entry)) leftPlace (joined channelNumbers channels) unitSize (now (out .exit)) ⌝ }
 {
     let left = channels[0];
     let right = channels[1];
@@ -201,7 +201,7 @@ fn put_channels(out: &mut [i32; 118], channels: [Channel; 2])
 // Stores a channel from place start on.
 fn put_channel(out: &mut [i32; 118], start: usize, channel: Channel)
     requires { ⌜ (length (now out) ≡ unitSize) × (start ≤ rightPlace) × ChannelFit channel ⌝ }
-    ensures { λ r. ⌜ Put (now (out .entry)) start (channelNumbers channel) (start + 43) (now (out .exit)) ⌝ }
+    ensures { λ r. ⌜ PutGives (now (out .entry)) start (channelNumbers channel) (start + 43) (now (out .exit)) ⌝ }
 {
     let x1 = channel.x1 as i32;
     let x2 = channel.x2 as i32;
@@ -216,7 +216,7 @@ fn put_channel(out: &mut [i32; 118], start: usize, channel: Channel)
 // Stores ten sections from place start on.
 fn put_sections(out: &mut [i32; 118], start: usize, sections: [BandSection; 10])
     requires { ⌜ (length (now out) ≡ unitSize) × (start + 40 ≤ unitSize) × Each SectionFit sections ⌝ }
-    ensures { λ r. ⌜ Put (now (out .entry)) start (joined sectionNumbers sections) (start + 40) (now (out .exit)) ⌝ }
+    ensures { λ r. ⌜ PutGives (now (out .entry)) start (joined sectionNumbers sections) (start + 40) (now (out .exit)) ⌝ }
 {
     let mut b = 0;
     while b < 10 {
@@ -229,7 +229,7 @@ fn put_sections(out: &mut [i32; 118], start: usize, sections: [BandSection; 10])
 // Stores a section from place at on.
 fn put_section(out: &mut [i32; 118], at: usize, section: BandSection)
     requires { ⌜ (length (now out) ≡ unitSize) × (at + 4 ≤ unitSize) × SectionFit section ⌝ }
-    ensures { λ r. ⌜ Put (now (out .entry)) at (sectionNumbers section) (at + 4) (now (out .exit)) ⌝ }
+    ensures { λ r. ⌜ PutGives (now (out .entry)) at (sectionNumbers section) (at + 4) (now (out .exit)) ⌝ }
 {
     let y1 = section.y1 as i32;
     let y2 = section.y2 as i32;

@@ -11,12 +11,12 @@ use Rattle.unit.specs.Cleared.{bandCount}
 use Rattle.engine.specs.Numbers.{channelSize, sectionAt, channelOf}
 
 -- the numbers stand for the channel, and there are as many as a channel has
-pub record Packed (c : Channel) (l : List ℤ) : Type 0 where
+pub record ChannelNumbersGives (c : Channel) (l : List ℤ) : Type 0 where
   pub size : length l ≡ channelSize
   pub channel : channelOf l ≡ c
 
 -- the numbers after all sections are stored: the three ahead of them are as before
-pub record Stored (l : List ℤ) (sections : List BandSection) (after : List ℤ) : Type 0 where
+pub record PutSectionsGives (l : List ℤ) (sections : List BandSection) (after : List ℤ) : Type 0 where
   pub size : length after ≡ channelSize
   pub front : (j : ℕ) → j < 3 → getD after j (pos 0) ≡ getD l j (pos 0)
   pub all : tabulate bandCount (sectionAt after) ≡ sections

@@ -3,7 +3,7 @@ ghost use mathlib.Core.Path.{_≡_};
 ghost use lib.ListN.{length};
 ghost use Rattle.unit.specs.Cleared.{bandsOf};
 ghost use Rattle.engine.specs.Numbers.{channelSize, channelOf};
-ghost use Rattle.packing.specs.Shape.{Packed, Stored};
+ghost use Rattle.packing.specs.Shape.{ChannelNumbersGives, PutSectionsGives};
 use bands::Band;
 use unit::BandSection;
 use unit::Channel;
@@ -29,7 +29,7 @@ pub fn band_numbers(bands: [Band; 10]) -> [i64; 30]
 
 // A channel's numbers.
 pub fn channel_numbers(channel: Channel) -> [i64; 43]
-    ensures { λ r. ⌜ Packed channel r ⌝ }
+    ensures { λ r. ⌜ ChannelNumbersGives channel r ⌝ }
 {
     let x1 = channel.x1;
     let x2 = channel.x2;
@@ -46,7 +46,7 @@ pub fn channel_numbers(channel: Channel) -> [i64; 43]
 // Stores all sections of a channel.
 fn put_sections(numbers: &mut [i64; 43], sections: [BandSection; 10])
     requires { ⌜ length (now numbers) ≡ channelSize ⌝ }
-    ensures { λ r. ⌜ Stored (now (numbers .entry)) sections (now (numbers .exit)) ⌝ }
+    ensures { λ r. ⌜ PutSectionsGives (now (numbers .entry)) sections (now (numbers .exit)) ⌝ }
 {
     let mut b = 0;
     while b < 10 {

@@ -15,13 +15,13 @@ use Rattle.stream.specs.Claim.{Stream, oneBlock, begun, next, streamed, allOf, 
 use Rattle.stream.proofs.Cuts.{tail-length}
 use Rattle.stream.proofs.Holds.{block-next, begun-empty, cut-anywhere}
 use Rattle.console.specs.declared.Received.{Received}
-use Rattle.console.specs.Reads.{Read}
+use Rattle.console.specs.Reads.{ReceiveGives}
 use Rattle.play.specs.declared.playing.Progress.{Progress}
-use Rattle.play.specs.Turns.{inHand, CanGoOn, IsSound, Turned, Played}
+use Rattle.play.specs.Turns.{inHand, TurnAsks, IsSound, TurnGives, PlayGives}
 
 -- ---- one turn
 
-module _ (p : Progress) (input input' output : List ℕ) (r : Received) (can : CanGoOn p input output) (read : Read (p .held) input r input') where
+module _ (p : Progress) (input input' output : List ℕ) (r : Received) (can : TurnAsks p input output) (read : ReceiveGives (p .held) input r input') where
   abbrev s : Stream
   s = inHand p input
 
@@ -57,7 +57,7 @@ module _ (p : Progress) (input input' output : List ℕ) (r : Received) (can : C
             ∙ advances .sound-is;
       }
 
-  pub turned : (a : Advanced) (kept rest : List ℕ) (after : Progress) → a ≡ advanced 2 (p .unit) (take (r .count) input') (length output) → kept ≡ advancedInput 2 (p .unit) (take (r .count) input') (length output) → after .unit ≡ a .unit → after .held ≡ a .held → Turned p input after (kept ++ rest)
+  pub turned : (a : Advanced) (kept rest : List ℕ) (after : Progress) → a ≡ advanced 2 (p .unit) (take (r .count) input') (length output) → kept ≡ advancedInput 2 (p .unit) (take (r .count) input') (length output) → after .unit ≡ a .unit → after .held ≡ a .held → TurnGives p input after (kept ++ rest)
   turned a kept rest after answer keeps unit-after held-after =
       record {
         bytes = read .bytes;
@@ -117,7 +117,7 @@ begin u p input ready unit-is none =
     empty : begun u ≡ oneBlock u []
     empty = begun-empty u (ready .fit)
 
-pub go-on : (u : Unit) (p p' : Progress) (input input' : List ℕ) → Fit u → Going u p input → Turned p input p' input' → Going u p' input'
+pub go-on : (u : Unit) (p p' : Progress) (input input' : List ℕ) → Fit u → Going u p input → TurnGives p input p' input' → Going u p' input'
 unfolding next
 go-on u p p' input input' fit going turn =
     record {
@@ -135,5 +135,5 @@ go-on u p p' input input' fit going turn =
         (λ i. oneBlock (going .unit-is i) (going .held-is i ++ turn .bytes))
         ∙ (λ i. record { unit = block-next u (going .bytes) (turn .bytes) fit i .unit; held = block-next u (going .bytes) (turn .bytes) fit i .held; sound = oneBlock (oneBlock u (going .bytes) .unit) (oneBlock u (going .bytes) .held ++ turn .bytes) .sound })
 
-pub done : (u : Unit) (p : Progress) (input : List ℕ) → Going u p input → Played u p
+pub done : (u : Unit) (p : Progress) (input : List ℕ) → Going u p input → PlayGives u p
 done u p input going = record { bytes = going .bytes; unit-is = going .unit-is; held-count = going .held-count; fit = going .ready .fit }

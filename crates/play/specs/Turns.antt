@@ -14,7 +14,7 @@ abbrev pub inHand : Progress → List ℕ → Stream
 inHand p input = record { unit = p .unit; held = take (p .held) input; sound = [] }
 
 -- it can be read on: the unit is fit and has two channels, less than a frame is held, and the output has room for all that the input has
-pub record CanGoOn (p : Progress) (input output : List ℕ) : Type 0 where
+pub record TurnAsks (p : Progress) (input output : List ℕ) : Type 0 where
   pub ready : Ready (inHand p input)
   pub held-few : p .held < 4
   pub input-room : 4 ≤ length input
@@ -28,7 +28,7 @@ pub record IsSound (bytes : List ℕ) : Type 0 where
   pub bytes-are : bytes ≡ oneBlock unit input .sound
 
 -- a turn is the next read of the stream
-pub record Turned (p : Progress) (input : List ℕ) (after : Progress) (input' : List ℕ) : Type 0 where
+pub record TurnGives (p : Progress) (input : List ℕ) (after : Progress) (input' : List ℕ) : Type 0 where
   pub bytes : List ℕ
   pub unit-is : after .unit ≡ next (inHand p input) bytes .unit
   pub held-is : take (after .held) input' ≡ next (inHand p input) bytes .held
@@ -37,7 +37,7 @@ pub record Turned (p : Progress) (input : List ℕ) (after : Progress) (input' :
   pub ready : Ready (inHand after input')
 
 -- "its sound and sheet are those of one block": the unit at the end is that of one block of all that was read, and its tail is held
-pub record Played (u : Unit) (after : Progress) : Type 0 where
+pub record PlayGives (u : Unit) (after : Progress) : Type 0 where
   pub bytes : List ℕ
   pub unit-is : after .unit ≡ oneBlock u bytes .unit
   pub held-count : after .held ≡ length (oneBlock u bytes .held)

@@ -1,6 +1,6 @@
 // Standard input to standard output, until the input ends.
 ghost use Rattle.stream.specs.Claim.{begun, Ready};
-ghost use Rattle.play.specs.Turns.{CanGoOn, IsSound, Turned, Played};
+ghost use Rattle.play.specs.Turns.{TurnAsks, IsSound, TurnGives, PlayGives};
 use unit::Unit;
 
 // A stream between two reads: the unit, the count of bytes of a frame that is not whole yet, whether more may come, and whether sound was
@@ -15,7 +15,7 @@ pub struct Progress {
 // Plays until the input ends or fails, or the output fails.
 pub fn play(unit: Unit) -> Progress
     requires { ⌜ Ready (begun unit) ⌝ }
-    ensures { λ r. ⌜ Played unit r ⌝ }
+    ensures { λ r. ⌜ PlayGives unit r ⌝ }
 {
     let mut input = io::large_buffer();
     let mut output = io::large_buffer();
@@ -38,8 +38,8 @@ pub fn play(unit: Unit) -> Progress
 
 // One read, and the sound of the frames that are then whole.
 fn turn(stream: Progress, input: &mut [u8], output: &mut [u8]) -> Progress
-    requires { ⌜ CanGoOn stream (now input) (now output) ⌝ }
-    ensures { λ r. ⌜ Turned stream (now (input .entry)) r (now (input .exit)) ⌝ }
+    requires { ⌜ TurnAsks stream (now input) (now output) ⌝ }
+    ensures { λ r. ⌜ TurnGives stream (now (input .entry)) r (now (input .exit)) ⌝ }
 {
     let received = console::receive(libc::STDIN_FILENO, b"standard input", input, stream.held);
     let count = received.count;

@@ -16,10 +16,10 @@ use Rattle.bands.specs.Words.{wordSize, isWord}
 use Rattle.bands.proofs.Laws.{Accepts, band-sizes, word-size}
 use Rattle.section.specs.declared.Section.{Section}
 use Rattle.section.specs.declared.Stepped.{Stepped}
-use Rattle.section.specs.Step.{stepVerdict, advanced, stepped}
-use Rattle.section.proofs.Ready.{Ready, accepted-advances, ready-accepts, ready-stays}
+use Rattle.section.specs.Step.{stepVerdict, acceptedStep, stepped}
+use Rattle.section.proofs.Ready.{HoldsWords, accepted-advances, ready-accepts, ready-stays}
 use Rattle.preview.specs.declared.Preview.{Preview}
-use Rattle.preview.specs.Carried.{float, carried, sectionIn, PlusZero, Carrying}
+use Rattle.preview.specs.Carried.{float, carried, sectionIn, PlusZero, StepAsks}
 use Rattle.preview.proofs.Sum.{below}
 
 -- each number of the section is at most 2^53 in size
@@ -35,7 +35,7 @@ record Sizes (s : Section) : Type 0 where
 word-below : (z : ℤ) → isWord z ≡ true → natAbs z ≤ 2 ^ prec binary64
 word-below z w = below (word-size z w) tt
 
-module _ (s : Section) (r : Ready s) where
+module _ (s : Section) (r : HoldsWords s) where
   sizes : Sizes s
   sizes =
       record {
@@ -78,7 +78,7 @@ module _ (s : Section) (r : Ready s) where
 
   -- a preview of it may be stepped on a word x
   module _ (x : ℤ) (w : isWord x ≡ true) where
-    pub may-step : (p : Preview) → p ≡ carried s → Carrying p x
+    pub may-step : (p : Preview) → p ≡ carried s → StepAsks p x
     may-step p e =
         record {
           carries = e ∙ ap carried (sym section-is);
@@ -93,10 +93,10 @@ module _ (s : Section) (r : Ready s) where
     next = stepped s x .section
 
     next-result : next .y1 ≡ stepped s x .y
-    unfolding advanced
+    unfolding acceptedStep
     next-result = ap (λ (a : Stepped). a .section .y1) advances ∙ sym (ap (λ (a : Stepped). a .y) advances)
       where
-        advances : stepped s x ≡ advanced s x
+        advances : stepped s x ≡ acceptedStep s x
         advances = accepted-advances s x (ready-accepts s x r w)
 
     -- so its cast to an i32 loses nothing

@@ -13,7 +13,7 @@ use Rattle.floats.proofs.WholeNumbers.{Whole, of-whole, add-whole, sub-whole, m
 use Rattle.bands.specs.Words.{wordSize}
 use Rattle.bands.specs.declared.Band.{Band}
 use Rattle.section.specs.Equation.{exactSum}
-use Rattle.section.specs.Small.{Small}
+use Rattle.section.specs.Asks.{RoundedSumAsks}
 use Rattle.preview.specs.Carried.{float}
 
 -- the code's S
@@ -25,7 +25,7 @@ floatSum zero alpha beta gamma x x2 y1 y2 =
 pub below : {n m : ℕ} → n ≤ m → T (leb m (2 ^ prec binary64)) → n ≤ 2 ^ prec binary64
 below {n} {m} h t = le-trans h (leb→le m (2 ^ prec binary64) t)
 
-module _ (band : Band) (x x2 y1 y2 : ℤ) (small : Small band x x2 y1 y2) where
+module _ (band : Band) (x x2 y1 y2 : ℤ) (small : RoundedSumAsks band x x2 y1 y2) where
   -- A × (x - x2), G × y1 and B × y2
   abbrev forward : ℤ
   forward = band .alpha *ℤ (x -ℤ x2)

@@ -50,11 +50,11 @@ pub record PlusZero (p : Preview) : Type 0 where
   pub y2-plus : isMinusZero (p .y2) ≡ false
 
 -- what a step asks: the preview carries a section, and that section accepts a step on x
-pub record Carrying (p : Preview) (x : ℤ) : Type 0 where
+pub record StepAsks (p : Preview) (x : ℤ) : Type 0 where
   pub carries : p ≡ carried (sectionIn p)
   pub accepted : isAccepted (stepVerdict (sectionIn p) x) ≡ true
 
 -- what the result asks of S: a whole number below 2^53 in size
-pub record WholeSum (sum : Float) : Type 0 where
+pub record ResultOfAsks (sum : Float) : Type 0 where
   pub whole : sum ≡ float (wholeOf sum)
   pub small : natAbs (wholeOf sum) < 2 ^ prec binary64

@@ -10,7 +10,7 @@ ghost use Rattle.floats.specs.Whole.{wholeOf};
 ghost use Rattle.section.specs.Equation.{worked};
 ghost use Rattle.section.specs.Step.{clearedSection, stepped};
 ghost use Rattle.preview.specs.Preview.{areWords, previewVerdict, previewed, sectionResults};
-ghost use Rattle.preview.specs.Carried.{float, carried, sectionIn, Carrying, WholeSum};
+ghost use Rattle.preview.specs.Carried.{float, carried, sectionIn, StepAsks, ResultOfAsks};
 use bands::Band;
 use refusals::Verdict;
 
@@ -100,7 +100,7 @@ fn cleared(band: Band) -> Preview
 // One step on the input x: the preview of the section after it, whose y1 is the result. The leading zero leaves no minus zero in S. G × y1
 // comes last, since y1 comes last from the step before.
 fn step(preview: Preview, x: i32) -> Preview
-    requires { ⌜ Carrying preview x ⌝ }
+    requires { ⌜ StepAsks preview x ⌝ }
     ensures { λ r. ⌜ r ≡ carried (stepped (sectionIn preview) x .section) ⌝ }
 {
     let input = x as f64;
@@ -130,7 +130,7 @@ const WORD_HIGH: f64 = bands::WORD_HIGH as f64;
 
 // y of S: S / 2^22, which is exact, rounded, then saturated to a word.
 fn result_of(sum: f64) -> f64
-    requires { ⌜ WholeSum sum ⌝ }
+    requires { ⌜ ResultOfAsks sum ⌝ }
     ensures { λ r. ⌜ r ≡ float (worked (wholeOf sum) .y) ⌝ }
 {
     let rounded = floats::nearest_whole(sum / SUM_SCALE);

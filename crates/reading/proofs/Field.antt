@@ -21,7 +21,7 @@ use Rattle.fields.specs.Fields.{fieldSize, numberIn, isField, noNumber, fieldRe
 use Rattle.sheet.specs.Lines.{anyNumber}
 use Rattle.fields.proofs.Laws.{none-read, some-read, number-low}
 use Rattle.reading.specs.Reading.{fieldVerdict}
-use Rattle.reading.specs.Parts.{Part, andThen, fieldPart, fieldsPart, Stored}
+use Rattle.reading.specs.Parts.{Part, andThen, fieldPart, fieldsPart, ReadGives}
 use Rattle.reading.proofs.Parts.{restored, Leads, on}
 use Rattle.reading.proofs.Whole.{field-number}
 
@@ -34,7 +34,7 @@ is-none : (n : ℤ) → mag n < 2147483648 → ofZ w32 n ≡ 1000000000 → n �
 is-none n h e = sym (reads-back w32 n h) ∙ ap (toZ w32) e
 
 -- by the field's verdict, with the number where it is accepted
-stored : (range : ℤ → Bool) (columns : List ℕ) (v : Verdict) → fieldVerdict range columns ≡ v → {l : List ℤ} {place : ℕ} → Stored (fieldPart range columns) l place v (sets l place (cond (isAccepted v) (numberIn columns ∷ []) []))
+stored : (range : ℤ → Bool) (columns : List ℕ) (v : Verdict) → fieldVerdict range columns ≡ v → {l : List ℤ} {place : ℕ} → ReadGives (fieldPart range columns) l place v (sets l place (cond (isAccepted v) (numberIn columns ∷ []) []))
 stored range columns v e {l} {place} =
     record { verdict-is = sym e; numbers-are = sym (ap (λ (u : Verdict). sets l place (cond (isAccepted u) (numberIn columns ∷ []) [])) e) }
 
@@ -43,7 +43,7 @@ module _ (range : ℤ → Bool) (bytes : List ℕ) (at : ℕ) (long : at + field
   columns = fieldAt bytes at
 
   -- badly written
-  pub field-badly : ofZ w32 n ≡ 1000000000 → {l : List ℤ} {place : ℕ} → Stored (fieldPart range columns) l place FieldForm l
+  pub field-badly : ofZ w32 n ≡ 1000000000 → {l : List ℤ} {place : ℕ} → ReadGives (fieldPart range columns) l place FieldForm l
   field-badly e =
       stored range columns FieldForm
       (ap (λ (t : Bool). unless t FieldForm (unless (range (numberIn columns)) Unfit Accepted)) (none-read columns (nine-columns bytes at long) (sym read ∙ is-none n fits e)))
@@ -57,11 +57,11 @@ module _ (range : ℤ → Bool) (bytes : List ℕ) (at : ℕ) (long : at + field
     by-range t e = ap₂ (λ (u s : Bool). unless u FieldForm (unless s Unfit Accepted)) (well .0) (ap range (sym (read ∙ well .1)) ∙ e)
 
     -- outside its range
-    pub field-outside : range n ≡ false → {l : List ℤ} {place : ℕ} → Stored (fieldPart range columns) l place Unfit l
+    pub field-outside : range n ≡ false → {l : List ℤ} {place : ℕ} → ReadGives (fieldPart range columns) l place Unfit l
     field-outside e = stored range columns Unfit (by-range false e)
 
     -- accepted
-    pub field-inside : range n ≡ true → {m : ℤ} → m ≡ n → {l : List ℤ} {place : ℕ} → Stored (fieldPart range columns) l place Accepted (set l place m)
+    pub field-inside : range n ≡ true → {m : ℤ} → m ≡ n → {l : List ℤ} {place : ℕ} → ReadGives (fieldPart range columns) l place Accepted (set l place m)
     field-inside e {m} q {l} {place} =
         record {
           verdict-is = sym (by-range true e);
@@ -97,7 +97,7 @@ any-fields (suc n) bytes h =
 -- past an accepted field
 pub next-field : (range : ℤ → Bool) (ranges : List (ℤ → Bool)) (bytes : List ℕ) (at : ℕ) {whole : Part} {l before : List ℤ} {place start : ℕ}
     → Leads (fieldsPart (range ∷ ranges) (drop at bytes)) l place whole before start
-    → {v : Verdict} {m : List ℤ} → Stored (fieldPart range (fieldAt bytes at)) l place v m → isAccepted v ≡ true
+    → {v : Verdict} {m : List ℤ} → ReadGives (fieldPart range (fieldAt bytes at)) l place v m → isAccepted v ≡ true
     → Leads (fieldsPart ranges (drop (at + fieldSize) bytes)) m (place + 1) whole before start
 next-field range ranges bytes at leads s e w k t =
     on (fieldPart range (fieldAt bytes at)) (fieldsPart ranges (drop fieldSize (drop at bytes))) leads s e 1

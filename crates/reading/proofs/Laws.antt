@@ -17,7 +17,7 @@ use Rattle.numbers.specs.Layout.{unitSize}
 use Rattle.sheet.specs.Lines.{sheetSize, lines}
 use Rattle.reading.specs.Reading.{linesVerdict, numbersIn, sheetVerdict, unitIn, sheetRead}
 use Rattle.fields.proofs.Stores.{stored-whole}
-use Rattle.reading.specs.Parts.{test, linesPart, sheetPart, Stored}
+use Rattle.reading.specs.Parts.{test, linesPart, sheetPart, ReadGives}
 use Rattle.reading.proofs.Parts.{off, past, tested}
 use Rattle.reading.proofs.Whole.{numbers-in-length, lines-verdict, both-numbers, lines-numbers}
 
@@ -39,7 +39,7 @@ module _ (bytes : List ℕ) where
       ∙ ap (unless (eqb (length bytes) sheetSize) SheetLength) (lines-verdict lines bytes)
 
   -- of an accepted sheet all numbers are stored
-  pub sheet-numbers : {l : List ℤ} {v : Verdict} {m : List ℤ} → Stored (sheetPart bytes) l 0 v m → length l ≡ unitSize → isAccepted v ≡ true → m ≡ numbersIn lines bytes
+  pub sheet-numbers : {l : List ℤ} {v : Verdict} {m : List ℤ} → ReadGives (sheetPart bytes) l 0 v m → length l ≡ unitSize → isAccepted v ≡ true → m ≡ numbersIn lines bytes
   unfolding sheetPart
   sheet-numbers {l} s h e =
       s .numbers-are
@@ -47,7 +47,7 @@ module _ (bytes : List ℕ) where
       ∙ stored-whole (numbersIn lines bytes) l (omega (arith, numbers-in-length lines bytes))
 
   -- the length is wrong
-  pub short-sheet : (length bytes ≡ sheetSize → ⊥) → {l : List ℤ} → Stored (sheetPart bytes) l 0 SheetLength l
+  pub short-sheet : (length bytes ≡ sheetSize → ⊥) → {l : List ℤ} → ReadGives (sheetPart bytes) l 0 SheetLength l
   unfolding sheetPart
   short-sheet h = off (test (lengthVerdict bytes)) (linesPart lines bytes) (λ v m s. s) (tested (sym wrong)) refl
     where
@@ -55,7 +55,7 @@ module _ (bytes : List ℕ) where
       wrong = ap (λ (t : Bool). unless t SheetLength Accepted) (ne-eqb (length bytes) sheetSize h)
 
   -- the length is right
-  pub full-sheet : length bytes ≡ sheetSize → {l : List ℤ} {v : Verdict} {m : List ℤ} → Stored (linesPart lines bytes) l 0 v m → Stored (sheetPart bytes) l 0 v m
+  pub full-sheet : length bytes ≡ sheetSize → {l : List ℤ} {v : Verdict} {m : List ℤ} → ReadGives (linesPart lines bytes) l 0 v m → ReadGives (sheetPart bytes) l 0 v m
   unfolding sheetPart
   full-sheet h {v = v} {m = m} s = past (lengthVerdict bytes) (linesPart lines bytes) (λ v m s. s) (sym (ap (λ (t : Bool). unless t SheetLength Accepted) (eq-eqb (length bytes) sheetSize h))) refl v m s
 

@@ -13,7 +13,7 @@ use Rattle.fields.specs.Fields.{fieldSize}
 use Rattle.fields.proofs.Stores.{stored-part}
 use Rattle.sheet.specs.Lines.{lineFeed}
 use Rattle.reading.specs.Reading.{fieldNumbers, markVerdict}
-use Rattle.reading.specs.Parts.{Part, andThen, fieldsPart, letterPart, endPart, Stored}
+use Rattle.reading.specs.Parts.{Part, andThen, fieldsPart, letterPart, endPart, ReadGives}
 use Rattle.reading.proofs.Parts.{Leads, on, off, past, tested, restored}
 use Rattle.reading.proofs.Whole.{fields-numbers, fields-long}
 
@@ -22,7 +22,7 @@ pub mark-at : (bytes : List ℕ) (at k place : ℕ) (wanted : ℕ) → place ≡
 mark-at bytes at k place wanted e = ap (λ (b : ℕ). markVerdict b wanted) (ap (λ (p : ℕ). getD bytes p 0) e ∙ sym (getD-drop at bytes k 0))
 
 -- a line end
-pub ended : (bytes : List ℕ) (at n place : ℕ) → place ≡ at + (fieldSize * n + 1) → {v : Verdict} → v ≡ markVerdict (getD bytes place 0) lineFeed → {l : List ℤ} {spot : ℕ} → Stored (endPart n (drop at bytes)) l spot v l
+pub ended : (bytes : List ℕ) (at n place : ℕ) → place ≡ at + (fieldSize * n + 1) → {v : Verdict} → v ≡ markVerdict (getD bytes place 0) lineFeed → {l : List ℤ} {spot : ℕ} → ReadGives (endPart n (drop at bytes)) l spot v l
 ended bytes at n place e q = tested (q ∙ mark-at bytes at (fieldSize * n + 1) place lineFeed e)
 
 module _ (letter : ℕ) (ranges : List (ℤ → Bool)) (behind : Part) (bytes : List ℕ) (at : ℕ) (l : List ℤ) (place : ℕ) {u : Verdict} (front : u ≡ markVerdict (getD bytes at 0) letter) where
@@ -36,18 +36,18 @@ module _ (letter : ℕ) (ranges : List (ℤ → Bool)) (behind : Part) (bytes : 
   front-is = front ∙ mark-at bytes at 0 at letter (sym (add-zero at))
 
   -- its letter is refused
-  pub letter-refused : isAccepted u ≡ false → Stored line l place u l
+  pub letter-refused : isAccepted u ≡ false → ReadGives line l place u l
   letter-refused e = off (letterPart letter (drop at bytes)) (andThen fields behind) (λ v m s. s) (tested front-is) e
 
-  module _ (e : isAccepted u ≡ true) {v : Verdict} {m : List ℤ} (s : Stored (fieldsPart ranges (drop (at + 1) bytes)) l place v m) where
+  module _ (e : isAccepted u ≡ true) {v : Verdict} {m : List ℤ} (s : ReadGives (fieldsPart ranges (drop (at + 1) bytes)) l place v m) where
     leads : Leads (andThen fields behind) l place line l place
     leads = past (letterPart letter (drop at bytes) .verdict) (andThen fields behind) (λ v m s. s) front-is e
 
-    here : Stored fields l place v m
+    here : ReadGives fields l place v m
     here = restored (ap (fieldsPart ranges) (sym (drop-drop 1 at bytes))) refl s
 
     -- one of its fields is refused
-    pub fields-refused : isAccepted v ≡ false → Stored line l place v m
+    pub fields-refused : isAccepted v ≡ false → ReadGives line l place v m
     fields-refused q = off fields behind leads here q
 
     accepted : isAccepted v ≡ true → isAccepted (fields .verdict) ≡ true

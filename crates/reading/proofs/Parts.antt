@@ -12,27 +12,27 @@ use Rattle.refusals.specs.declared.Verdict.{Verdict}
 use Rattle.refusals.specs.declared.Verdict.the-variants.{Accepted}
 use Rattle.refusals.proofs.Laws.{first-accepted, first-refused, first-assoc}
 use Rattle.fields.proofs.Stores.{sets-append}
-use Rattle.reading.specs.Parts.{Part, empty, test, andThen, Stored}
+use Rattle.reading.specs.Parts.{Part, empty, test, andThen, ReadGives}
 
 -- storing changes no length
-pub stored-length : {part : Part} {l : List ℤ} {place : ℕ} {v : Verdict} {m : List ℤ} → Stored part l place v m → length m ≡ length l
+pub stored-length : {part : Part} {l : List ℤ} {place : ℕ} {v : Verdict} {m : List ℤ} → ReadGives part l place v m → length m ≡ length l
 stored-length {part} {l} {place} s = ap length (s .numbers-are) ∙ length-sets l place (part .numbers)
 
 -- of an empty part nothing is stored
-pub nothing : {l : List ℤ} {place : ℕ} → Stored empty l place Accepted l
+pub nothing : {l : List ℤ} {place : ℕ} → ReadGives empty l place Accepted l
 nothing = record { verdict-is = refl; numbers-are = refl }
 
 -- the same part at the same place
-pub restored : {p q : Part} {i j : ℕ} → p ≡ q → i ≡ j → {l : List ℤ} {v : Verdict} {m : List ℤ} → Stored p l i v m → Stored q l j v m
+pub restored : {p q : Part} {i j : ℕ} → p ≡ q → i ≡ j → {l : List ℤ} {v : Verdict} {m : List ℤ} → ReadGives p l i v m → ReadGives q l j v m
 restored e f {l} s =
     record {
       verdict-is = s .verdict-is ∙ ap (λ (x : Part). x .verdict) e;
       numbers-are = s .numbers-are ∙ ap₂ (λ (x : Part) (k : ℕ). sets l k (x .numbers)) e f;
     }
 
-module _ (a b : Part) {l : List ℤ} {place : ℕ} {v : Verdict} {m : List ℤ} (s : Stored a l place v m) where
+module _ (a b : Part) {l : List ℤ} {place : ℕ} {v : Verdict} {m : List ℤ} (s : ReadGives a l place v m) where
   -- behind an accepted part the next one is stored
-  go-on : isAccepted v ≡ true → (n : ℕ) → length (a .numbers) ≡ n → {w : Verdict} {k : List ℤ} → Stored b m (place + n) w k → Stored (andThen a b) l place w k
+  go-on : isAccepted v ≡ true → (n : ℕ) → length (a .numbers) ≡ n → {w : Verdict} {k : List ℤ} → ReadGives b m (place + n) w k → ReadGives (andThen a b) l place w k
   go-on e n long t =
       record {
         verdict-is = t .verdict-is ∙ sym (first-accepted (a .verdict) (b .verdict) accepted);
@@ -46,7 +46,7 @@ module _ (a b : Part) {l : List ℤ} {place : ℕ} {v : Verdict} {m : List ℤ} 
       accepted = ap isAccepted (sym (s .verdict-is)) ∙ e
 
   -- behind a refused part nothing is
-  stop : isAccepted v ≡ false → Stored (andThen a b) l place v m
+  stop : isAccepted v ≡ false → ReadGives (andThen a b) l place v m
   stop e =
       record {
         verdict-is = s .verdict-is ∙ sym (first-refused (a .verdict) (b .verdict) refused);
@@ -60,19 +60,19 @@ module _ (a b : Part) {l : List ℤ} {place : ℕ} {v : Verdict} {m : List ℤ} 
 
 -- who stores the part from here on has stored the whole from the start on
 abbrev pub Leads : Part → List ℤ → ℕ → Part → List ℤ → ℕ → Type 0
-Leads part l place whole before start = (v : Verdict) (m : List ℤ) → Stored part l place v m → Stored whole before start v m
+Leads part l place whole before start = (v : Verdict) (m : List ℤ) → ReadGives part l place v m → ReadGives whole before start v m
 
-module _ (a b : Part) {whole : Part} {l before : List ℤ} {place start : ℕ} (leads : Leads (andThen a b) l place whole before start) {v : Verdict} {m : List ℤ} (s : Stored a l place v m) where
+module _ (a b : Part) {whole : Part} {l before : List ℤ} {place start : ℕ} (leads : Leads (andThen a b) l place whole before start) {v : Verdict} {m : List ℤ} (s : ReadGives a l place v m) where
   -- past an accepted part
   pub on : isAccepted v ≡ true → (n : ℕ) → length (a .numbers) ≡ n → Leads b m (place + n) whole before start
   on e n long w k t = leads w k (go-on a b s e n long t)
 
   -- at a refused part the whole is done
-  pub off : isAccepted v ≡ false → Stored whole before start v m
+  pub off : isAccepted v ≡ false → ReadGives whole before start v m
   off e = leads v m (stop a b s e)
 
 -- of a test nothing is stored
-pub tested : {w v : Verdict} {l : List ℤ} {place : ℕ} → v ≡ w → Stored (test w) l place v l
+pub tested : {w v : Verdict} {l : List ℤ} {place : ℕ} → v ≡ w → ReadGives (test w) l place v l
 tested e = record { verdict-is = e; numbers-are = refl }
 
 -- past an accepted test

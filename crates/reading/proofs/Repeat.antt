@@ -15,7 +15,7 @@ use Rattle.refusals.specs.declared.Verdict.the-variants.{Accepted}
 use Rattle.fields.specs.Fields.{fieldSize}
 use Rattle.sheet.specs.declared.Line.{Line}
 use Rattle.sheet.specs.Lines.{lineSize}
-use Rattle.reading.specs.Parts.{Part, empty, andThen, fieldPart, fieldsPart, linePart, linesPart, Stored}
+use Rattle.reading.specs.Parts.{Part, empty, andThen, fieldPart, fieldsPart, linePart, linesPart, ReadGives}
 use Rattle.reading.proofs.Parts.{Leads, on, off, nothing, restored}
 
 -- so many parts, each of so many bytes
@@ -54,12 +54,12 @@ module _ (each : List ℕ → Part) (size step count : ℕ) (bytes : List ℕ) (
 
   module _ (i : ℕ) {l : List ℤ} (left : LeftFrom i l) where
     -- none is left
-    pub left-none : i ≡ count → Stored whole before start Accepted l
+    pub left-none : i ≡ count → ReadGives whole before start Accepted l
     left-none e =
         let none : 0 ≡ count - i = omega arith in
         left Accepted l (restored (ap (λ (k : ℕ). repeated each size k (drop (at + size * i) bytes)) none) refl nothing)
 
-    module _ (h : i < count) (here spot : ℕ) (place-is : here ≡ at + size * i) (spot-is : spot ≡ start + step * i) {v : Verdict} {m : List ℤ} (s : Stored (each (drop here bytes)) l spot v m) where
+    module _ (h : i < count) (here spot : ℕ) (place-is : here ≡ at + size * i) (spot-is : spot ≡ start + step * i) {v : Verdict} {m : List ℤ} (s : ReadGives (each (drop here bytes)) l spot v m) where
       abbrev rest : Part
       rest = repeated each size (count - suc i) (drop size (drop here bytes))
 
@@ -70,7 +70,7 @@ module _ (each : List ℕ → Part) (size step count : ℕ) (bytes : List ℕ) (
           left w k (restored (ap₂ (λ (n j : ℕ). repeated each size n (drop j bytes)) more place-is) spot-is t)
 
       -- the ith is refused
-      pub left-off : isAccepted v ≡ false → Stored whole before start v m
+      pub left-off : isAccepted v ≡ false → ReadGives whole before start v m
       left-off e = off (each (drop here bytes)) rest leads s e
 
       -- the ith is accepted

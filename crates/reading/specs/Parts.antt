@@ -77,6 +77,6 @@ unfoldable pub sheetPart : List ℕ → Part
 sheetPart bytes = andThen (test (unless (eqb (length bytes) sheetSize) SheetLength Accepted)) (linesPart lines bytes)
 
 -- what a routine gives and leaves: the verdict of its part, and the part's numbers, stored from a place on
-pub record Stored (part : Part) (before : List ℤ) (place : ℕ) (verdict : Verdict) (after : List ℤ) : Type 0 where
+pub record ReadGives (part : Part) (before : List ℤ) (place : ℕ) (verdict : Verdict) (after : List ℤ) : Type 0 where
   pub verdict-is : verdict ≡ part .verdict
   pub numbers-are : after ≡ sets before place (part .numbers)

@@ -12,7 +12,7 @@ ghost use Rattle.numbers.specs.Layout.{unitSize, bandsPlace};
 ghost use Rattle.fields.specs.Fields.{fieldSize};
 ghost use Rattle.sheet.specs.Lines.{sheetSize, lines, channelRanges, fieldCount, lineSize};
 ghost use Rattle.reading.specs.Reading.{markVerdict, sheetRead};
-ghost use Rattle.reading.specs.Parts.{fieldPart, fieldsPart, plainPart, linePart, linesPart, channelPart, sheetPart, Stored};
+ghost use Rattle.reading.specs.Parts.{fieldPart, fieldsPart, plainPart, linePart, linesPart, channelPart, sheetPart, ReadGives};
 use bands::Band;
 use refusals::Verdict;
 use sheet::Line;
@@ -54,7 +54,7 @@ pub fn read(bytes: &[u8], given: Unit) -> SheetRead
 // Reads a sheet into a unit's numbers: 11 for a wrong length, then the first refusal from the first byte on.
 pub fn read_numbers(bytes: &[u8], numbers: &mut [i32; 118]) -> Verdict
     requires { ⌜ length (now numbers) ≡ unitSize ⌝ }
-    ensures { λ r. ⌜ Stored (sheetPart (now (bytes .entry))) (now (numbers .entry)) 0 r (now (numbers .exit)) ⌝ }
+    ensures { λ r. ⌜ ReadGives (sheetPart (now (bytes .entry))) (now (numbers .entry)) 0 r (now (numbers .exit)) ⌝ }
 {
     if bytes.len() != sheet::SHEET_SIZE {
         return Verdict::SheetLength;
@@ -65,7 +65,7 @@ pub fn read_numbers(bytes: &[u8], numbers: &mut [i32; 118]) -> Verdict
 // Reads all lines: the V line, ten C lines, then the lines of the left and of the right channel.
 fn read_lines(bytes: &[u8], numbers: &mut [i32; 118]) -> Verdict
     requires { ⌜ (length (now bytes) ≡ sheetSize) × (length (now numbers) ≡ unitSize) ⌝ }
-    ensures { λ r. ⌜ Stored (linesPart lines (now (bytes .entry))) (now (numbers .entry)) 0 r (now (numbers .exit)) ⌝ }
+    ensures { λ r. ⌜ ReadGives (linesPart lines (now (bytes .entry))) (now (numbers .entry)) 0 r (now (numbers .exit)) ⌝ }
 {
     let volume = read_line(
         bytes,
@@ -106,7 +106,7 @@ fn read_lines(bytes: &[u8], numbers: &mut [i32; 118]) -> Verdict
 // Reads the ten C lines.
 fn read_bands(bytes: &[u8], numbers: &mut [i32; 118]) -> Verdict
     requires { ⌜ (length (now bytes) ≡ sheetSize) × (length (now numbers) ≡ unitSize) ⌝ }
-    ensures { λ r. ⌜ Stored (linesPart (replicate bandCount Line.Band) (drop (lineSize Line.Volume) (now (bytes .entry)))) (now (numbers .entry)) bandsPlace r (now (numbers .exit)) ⌝ }
+    ensures { λ r. ⌜ ReadGives (linesPart (replicate bandCount Line.Band) (drop (lineSize Line.Volume) (now (bytes .entry)))) (now (numbers .entry)) bandsPlace r (now (numbers .exit)) ⌝ }
 {
     let mut i = 0;
     while i < 10 {
@@ -123,7 +123,7 @@ fn read_bands(bytes: &[u8], numbers: &mut [i32; 118]) -> Verdict
 // Reads a C line from place at on: 8 to 10 stand behind its fields and ahead of its line end.
 fn read_band(bytes: &[u8], at: usize, numbers: &mut [i32; 118], place: usize) -> Verdict
     requires { ⌜ (at + lineSize Line.Band ≤ length (now bytes)) × (length (now numbers) ≡ unitSize) × (place + fieldCount Line.Band ≤ unitSize) ⌝ }
-    ensures { λ r. ⌜ Stored (linePart Line.Band (drop at (now (bytes .entry)))) (now (numbers .entry)) place r (now (numbers .exit)) ⌝ }
+    ensures { λ r. ⌜ ReadGives (linePart Line.Band (drop at (now (bytes .entry)))) (now (numbers .entry)) place r (now (numbers .exit)) ⌝ }
 {
     let front = check_mark(bytes[at], sheet::BAND_LETTER);
     if !refusals::accepted(front) {
@@ -157,7 +157,7 @@ fn read_channel(
     place: usize,
 ) -> Verdict
     requires { ⌜ (at + (lineSize Line.Left + lineSize Line.Section * bandCount) ≤ length (now bytes)) × (length (now numbers) ≡ unitSize) × (place + channelSize ≤ unitSize) ⌝ }
-    ensures { λ r. ⌜ Stored (channelPart letter (drop at (now (bytes .entry)))) (now (numbers .entry)) place r (now (numbers .exit)) ⌝ }
+    ensures { λ r. ⌜ ReadGives (channelPart letter (drop at (now (bytes .entry)))) (now (numbers .entry)) place r (now (numbers .exit)) ⌝ }
 {
     let head = read_head(bytes, at, letter, numbers, place);
     if !refusals::accepted(head) {
@@ -174,7 +174,7 @@ fn read_channel(
 // Reads an L or an R line from place at on.
 fn read_head(bytes: &[u8], at: usize, letter: u8, numbers: &mut [i32; 118], place: usize) -> Verdict
     requires { ⌜ (at + lineSize Line.Left ≤ length (now bytes)) × (length (now numbers) ≡ unitSize) × (place + fieldCount Line.Left ≤ unitSize) ⌝ }
-    ensures { λ r. ⌜ Stored (plainPart letter channelRanges (drop at (now (bytes .entry)))) (now (numbers .entry)) place r (now (numbers .exit)) ⌝ }
+    ensures { λ r. ⌜ ReadGives (plainPart letter channelRanges (drop at (now (bytes .entry)))) (now (numbers .entry)) place r (now (numbers .exit)) ⌝ }
 {
     let front = check_mark(bytes[at], letter);
     if !refusals::accepted(front) {
@@ -190,7 +190,7 @@ fn read_head(bytes: &[u8], at: usize, letter: u8, numbers: &mut [i32; 118], plac
 // Reads the fields of an L or an R line from place at on: two inputs and a flag.
 fn read_state(bytes: &[u8], at: usize, numbers: &mut [i32; 118], place: usize) -> Verdict
     requires { ⌜ (at + fieldSize * fieldCount Line.Left ≤ length (now bytes)) × (length (now numbers) ≡ unitSize) × (place + fieldCount Line.Left ≤ unitSize) ⌝ }
-    ensures { λ r. ⌜ Stored (fieldsPart channelRanges (drop at (now (bytes .entry)))) (now (numbers .entry)) place r (now (numbers .exit)) ⌝ }
+    ensures { λ r. ⌜ ReadGives (fieldsPart channelRanges (drop at (now (bytes .entry)))) (now (numbers .entry)) place r (now (numbers .exit)) ⌝ }
 {
     let first = read_input(bytes, at, numbers, place);
     if !refusals::accepted(first) {
@@ -206,7 +206,7 @@ fn read_state(bytes: &[u8], at: usize, numbers: &mut [i32; 118], place: usize) -
 // Reads the field of an input from place at on.
 fn read_input(bytes: &[u8], at: usize, numbers: &mut [i32; 118], place: usize) -> Verdict
     requires { ⌜ (at + fieldSize ≤ length (now bytes)) × (length (now numbers) ≡ unitSize) × (place + 1 ≤ unitSize) ⌝ }
-    ensures { λ r. ⌜ Stored (fieldPart isInput (take fieldSize (drop at (now (bytes .entry))))) (now (numbers .entry)) place r (now (numbers .exit)) ⌝ }
+    ensures { λ r. ⌜ ReadGives (fieldPart isInput (take fieldSize (drop at (now (bytes .entry))))) (now (numbers .entry)) place r (now (numbers .exit)) ⌝ }
 {
     let input = fields::read_field(bytes, at);
     if input == fields::NO_NUMBER {
@@ -222,7 +222,7 @@ fn read_input(bytes: &[u8], at: usize, numbers: &mut [i32; 118], place: usize) -
 // Reads the ten S lines from place at on.
 fn read_sections(bytes: &[u8], at: usize, numbers: &mut [i32; 118], place: usize) -> Verdict
     requires { ⌜ (at + lineSize Line.Section * bandCount ≤ length (now bytes)) × (length (now numbers) ≡ unitSize) × (place + fieldCount Line.Section * bandCount ≤ unitSize) ⌝ }
-    ensures { λ r. ⌜ Stored (linesPart (replicate bandCount Line.Section) (drop at (now (bytes .entry)))) (now (numbers .entry)) place r (now (numbers .exit)) ⌝ }
+    ensures { λ r. ⌜ ReadGives (linesPart (replicate bandCount Line.Section) (drop at (now (bytes .entry)))) (now (numbers .entry)) place r (now (numbers .exit)) ⌝ }
 {
     let mut i = 0;
     while i < 10 {
@@ -239,7 +239,7 @@ fn read_sections(bytes: &[u8], at: usize, numbers: &mut [i32; 118], place: usize
 // Reads an S line from place at on.
 fn read_words(bytes: &[u8], at: usize, numbers: &mut [i32; 118], place: usize) -> Verdict
     requires { ⌜ (at + lineSize Line.Section ≤ length (now bytes)) × (length (now numbers) ≡ unitSize) × (place + fieldCount Line.Section ≤ unitSize) ⌝ }
-    ensures { λ r. ⌜ Stored (linePart Line.Section (drop at (now (bytes .entry)))) (now (numbers .entry)) place r (now (numbers .exit)) ⌝ }
+    ensures { λ r. ⌜ ReadGives (linePart Line.Section (drop at (now (bytes .entry)))) (now (numbers .entry)) place r (now (numbers .exit)) ⌝ }
 {
     read_line(
         bytes,
@@ -265,7 +265,7 @@ fn read_line(
     place: usize,
 ) -> Verdict
     requires { ⌜ (at + (fieldSize * count + 2) ≤ length (now bytes)) × (length (now numbers) ≡ unitSize) × (place + count ≤ unitSize) ⌝ }
-    ensures { λ r. ⌜ Stored (plainPart letter (replicate count (within low high)) (drop at (now (bytes .entry)))) (now (numbers .entry)) place r (now (numbers .exit)) ⌝ }
+    ensures { λ r. ⌜ ReadGives (plainPart letter (replicate count (within low high)) (drop at (now (bytes .entry)))) (now (numbers .entry)) place r (now (numbers .exit)) ⌝ }
 {
     let front = check_mark(bytes[at], letter);
     if !refusals::accepted(front) {
@@ -289,7 +289,7 @@ fn read_fields(
     place: usize,
 ) -> Verdict
     requires { ⌜ (at + fieldSize * count ≤ length (now bytes)) × (length (now numbers) ≡ unitSize) × (place + count ≤ unitSize) ⌝ }
-    ensures { λ r. ⌜ Stored (fieldsPart (replicate count (within low high)) (drop at (now (bytes .entry)))) (now (numbers .entry)) place r (now (numbers .exit)) ⌝ }
+    ensures { λ r. ⌜ ReadGives (fieldsPart (replicate count (within low high)) (drop at (now (bytes .entry)))) (now (numbers .entry)) place r (now (numbers .exit)) ⌝ }
 {
     let mut i = 0;
     while i < count {

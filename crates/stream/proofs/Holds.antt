@@ -13,7 +13,7 @@ use Rattle.unit.specs.declared.Unit.{Unit}
 use Rattle.unit.specs.Fit.{Fit}
 use Rattle.blocks.specs.Bytes.{frameCount}
 use Rattle.blocks.specs.Block.{played, sound, blockVerdict, blockPlayed, blockOutput}
-use Rattle.blocks.proofs.Block.{Accepts, four-a-frame, sound-length, played-channels}
+use Rattle.blocks.proofs.Block.{BlockAccepts, four-a-frame, sound-length, played-channels}
 use Rattle.blocks.proofs.Append.{accepts-block, accepted-unit, accepted-output, block-fit, block-append-unit, block-append-output}
 use Rattle.stream.specs.Advance.{wholeCount, wholeFrames, tailBytes, advanced, advancedOutput, advancedInput}
 use Rattle.stream.specs.Claim.{Stream, oneBlock, begun, next, streamed, allOf, Advances, Ready, CutAnywhere}
@@ -56,7 +56,7 @@ unfolding oneBlock played sound
 begun-empty u fit =
     λ i. record { unit = sym (accepted-unit 2 u [] 0 empty) i; held = []; sound = sym (accepted-output 2 u [] [] empty) i }
   where
-    empty : Accepts 2 u 0 0
+    empty : BlockAccepts 2 u 0 0
     empty = record { fit = fit; frames = refl; enough = le-refl 0 }
 
 one-block : (u : Unit) (reads : List (List ℕ)) → Fit u → streamed (begun u) reads ≡ oneBlock u (allOf reads)
@@ -74,13 +74,13 @@ module _ (s : Stream) (bytes room : List ℕ) (ready : Ready s) (enough : length
   abbrev frames : List ℕ
   frames = wholeFrames 2 input
 
-  accepts-in : (n : ℕ) → length frames ≤ n → Accepts 2 u (length frames) n
+  accepts-in : (n : ℕ) → length frames ≤ n → BlockAccepts 2 u (length frames) n
   accepts-in n h = record { fit = ready .fit; frames = whole-frames input; enough = h }
 
-  accepts : Accepts 2 u (length frames) (length room)
+  accepts : BlockAccepts 2 u (length frames) (length room)
   accepts = accepts-in (length room) (omega (arith, whole-length input, enough))
 
-  exactly : Accepts 2 u (length frames) (length frames)
+  exactly : BlockAccepts 2 u (length frames) (length frames)
   exactly = accepts-in (length frames) (le-refl (length frames))
 
   abbrev heard : List ℕ
@@ -123,7 +123,7 @@ stays-ready s bytes ready =
     frames' : List ℕ
     frames' = wholeFrames 2 (s .held ++ bytes)
 
-    accepts' : Accepts 2 (s .unit) (length frames') (length frames')
+    accepts' : BlockAccepts 2 (s .unit) (length frames') (length frames')
     accepts' = record { fit = ready .fit; frames = whole-frames (s .held ++ bytes); enough = le-refl (length frames') }
 
 pub cut-anywhere : CutAnywhere

@@ -18,7 +18,7 @@ use Rattle.unit.specs.Fit.{ChannelFit}
 use Rattle.unit.proofs.Ranges.{input-size}
 use Rattle.unit.proofs.Mix.{mix-size}
 use Rattle.unit.proofs.Stays.{channel-stays}
-use Rattle.engine.specs.Numbers.{channelOf, mixSize, Frames}
+use Rattle.engine.specs.Numbers.{channelOf, mixSize, ChannelFrameAsks}
 use Rattle.blocks.specs.Bytes.{sampleAt, wordAt}
 use Rattle.blocks.proofs.Bytes.{word-input}
 use borrow.Author.Needs.{needs}
@@ -72,7 +72,7 @@ mul-x c = binary-need _*ℤ_ (literal 256) (Sample c) (x-fits c)
 
 channel-frame-requires : tie.Need-channel-frame-requires
 channel-frame-requires c κs =
-    subst (λ (z : ℤ). Frames (bands (c .before)) (l (c .before)) z) (sym (x-reads (c .before)))
+    subst (λ (z : ℤ). ChannelFrameAsks (bands (c .before)) (l (c .before)) z) (sym (x-reads (c .before)))
     (record {
       size = s (c .before) .pre .size;
       bands-fit = s (c .before) .pre .bands-fit;

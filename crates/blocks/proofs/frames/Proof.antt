@@ -16,15 +16,15 @@ use mir.Facts.{toZ-ofZ}
 use Rattle.integers.proofs.Machine.{below-fits}
 use Rattle.bands.specs.Words.{wordSize}
 use Rattle.levels.specs.declared.Level.{Level}
-use Rattle.levels.specs.Levels.{volumeSlope, moved, Ramped}
+use Rattle.levels.specs.Levels.{volumeSlope, moved, MovedAsks}
 use Rattle.unit.specs.declared.Unit.{Unit}
 use Rattle.unit.specs.Frame.{mix, output}
 use Rattle.unit.specs.Fit.{Fit}
 use Rattle.unit.proofs.Ranges.{volume-size}
 use Rattle.unit.proofs.Stays.{volume-stays}
-use Rattle.engine.specs.Numbers.{channelSize, channelOf, mixSize, Sounds}
+use Rattle.engine.specs.Numbers.{channelSize, channelOf, mixSize, OutputAsks}
 use Rattle.blocks.specs.Block.{played, sound}
-use Rattle.blocks.specs.Run.{putSample, Mixes, unitWith}
+use Rattle.blocks.specs.Run.{putSample, ChannelMixAsks, unitWith}
 use Rattle.blocks.proofs.Block.{played-fit, sound-length, unit-more, bytes-more}
 use Rattle.blocks.proofs.frames.Statement.{statement}
 use Rattle.blocks.proofs.frames.Tie as tie
@@ -115,7 +115,7 @@ module _ (c : lts.In-loop (moved-reads.Asked, moved-reads.Learnt, channel-mix-re
       ∙ length-append (sound 2 U input i) (drop (4 * i) room)
       ∙ omega (arith, sound-length 2 U input i refl, length-drop (4 * i) room, below, s .pre .room-has)
 
-  ramped : Ramped level
+  ramped : MovedAsks level
   ramped =
       record {
         present-size = le-trans (volume-size (level .present) (fit .volume .present)) (lit≤ tt);
@@ -150,7 +150,7 @@ module _ (c : lts.After-moved (moved-reads.Asked, moved-reads.Learnt, channel-mi
   volume-small : natAbs V′ ≤ wordSize
   volume-small = subst (λ (z : ℤ). natAbs z ≤ wordSize) (sym volume-is) (next-size n)
 
-  left-mixes : Mixes (bands n) (l n) (input n) (4 * i n)
+  left-mixes : ChannelMixAsks (bands n) (l n) (input n) (4 * i n)
   left-mixes =
       record {
         bands-fit = fit n .bands;
@@ -159,7 +159,7 @@ module _ (c : lts.After-moved (moved-reads.Asked, moved-reads.Learnt, channel-mi
         input-has = omega (arith, below n, s n .pre .input-has);
       }
 
-  right-mixes : Mixes (bands n) (r n) (input n) (4 * i n + 2)
+  right-mixes : ChannelMixAsks (bands n) (r n) (input n) (4 * i n + 2)
   right-mixes =
       record {
         bands-fit = fit n .bands;
@@ -214,14 +214,14 @@ module _ (c : lts.After-channel-mix2 (moved-reads.Asked, moved-reads.Learnt, cha
   right-reads =
       toZ-ofZ (record { sfits = c .channel-mix2 .ok }) ∙ c .channel-mix2 .ensures .mixed ∙ ap mix (sym (c .channel-mix2 .ensures .channel))
 
-  left-sounds : Sounds (V′ a) (toZ w64 (ofZ w64 (h .channel-mix .result)))
+  left-sounds : OutputAsks (V′ a) (toZ w64 (ofZ w64 (h .channel-mix .result)))
   left-sounds =
       record {
         volume-size = volume-small a;
         mix-size = subst (λ (z : ℤ). natAbs z ≤ mixSize) (sym (toZ-ofZ {w = w64} {z = h .channel-mix .result} (record { sfits = h .channel-mix .ok }))) (h .channel-mix .ensures .small);
       }
 
-  right-sounds : Sounds (V′ a) (toZ w64 (ofZ w64 (c .channel-mix2 .result)))
+  right-sounds : OutputAsks (V′ a) (toZ w64 (ofZ w64 (c .channel-mix2 .result)))
   right-sounds =
       record {
         volume-size = volume-small a;

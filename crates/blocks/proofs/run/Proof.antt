@@ -12,8 +12,8 @@ use Rattle.unit.specs.Fit.{Fit}
 use Rattle.unit.proofs.Tabulate.{tabulate-all}
 use Rattle.unit.proofs.PastEnd.{zeroChannel}
 use Rattle.blocks.specs.Block.{played, sound}
-use Rattle.blocks.specs.Run.{unitWith, unitOf}
-use Rattle.blocks.proofs.Block.{Accepts, block-accepted, four-a-frame}
+use Rattle.blocks.specs.Run.{unitWith, unitOfParts}
+use Rattle.blocks.proofs.Block.{BlockAccepts, block-accepted, four-a-frame}
 use borrow.Author.Needs.{needs}
 use Rattle.blocks.proofs.run.Statement.{statement}
 use Rattle.blocks.proofs.run.Tie as tie
@@ -38,9 +38,9 @@ module _ (c : lts.After-channel-numbers2 (band-numbers-reads.Asked, band-numbers
   count = length input / 4
 
   abbrev U : Unit
-  U = unitOf (s .args .volume) (s .args .bands) (s .args .t3)
+  U = unitOfParts (s .args .volume) (s .args .bands) (s .args .t3)
 
-  accepts : Accepts 2 U (length input) (length room)
+  accepts : BlockAccepts 2 U (length input) (length room)
   accepts = block-accepted 2 U (length input) (length room) (s .pre)
 
   whole : 4 * count ≡ length input
@@ -63,7 +63,7 @@ module _ (c : lts.After-channel-numbers2 (band-numbers-reads.Asked, band-numbers
         bands = c .before .before .before .before .band-numbers .ensures i;
         channels = c .before .channel-numbers .ensures .channel i ∷ c .channel-numbers2 .ensures .channel i ∷ [];
       })
-      ∙ ap (λ (l : List Channel). unitOf (s .args .volume) (s .args .bands) l) (tabulate-all (s .args .t3) zeroChannel 2 (omega arith))
+      ∙ ap (λ (l : List Channel). unitOfParts (s .args .volume) (s .args .bands) l) (tabulate-all (s .args .t3) zeroChannel 2 (omega arith))
 
 frames-requires : tie.Need-frames-requires
 frames-requires c κs =

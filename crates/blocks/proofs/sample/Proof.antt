@@ -13,7 +13,7 @@ use mir.Val.{SFits}
 use mir.Facts.{toZ-pos}
 use Rattle.integers.proofs.Parts.{linear, var, _⊖_}
 use Rattle.integers.proofs.Machine.{Num, literal, binary, binary-need, range-fits}
-use Rattle.blocks.specs.Bytes.{signed, sampleAt}
+use Rattle.blocks.specs.Bytes.{sampleOf, sampleAt}
 use Rattle.blocks.proofs.sample.Statement.{statement}
 use Rattle.blocks.proofs.sample.Tie as tie
 use Rattle.blocks.proofs.sample.Reads as reads
@@ -32,9 +32,9 @@ module _ (c : lts.After-shared-slice-known2 reads.Pre reads.Post) where
   few : bits < 65536
   few = omega (arith, c .shared-slice-known2 .given (c .before .before .args .at), c .shared-slice-known2 .given (c .before .before .args .at + 1))
 
-  sample-is : sampleAt (now (c .before .before .args .input)) (c .before .before .args .at) ≡ signed bits
+  sample-is : sampleAt (now (c .before .before .args .input)) (c .before .before .args .at) ≡ sampleOf bits
   unfolding sampleAt
-  sample-is = ap signed (mod-eq-of-lt few)
+  sample-is = ap sampleOf (mod-eq-of-lt few)
 
   abbrev Bits : Num w64
   Bits = record { bits = bits; value = pos bits; reads = toZ-pos w64 (omega (arith, few)) }
@@ -58,7 +58,7 @@ add-bits-2 : tie.Need-add-bits-2
 add-bits-2 c = omega (arith, few c)
 
 returns : tie.Need-returns
-unfolding signed
+unfolding sampleOf
 returns c = Bits (c .before) .reads ∙ sym (sample-is (c .before) ∙ simp (lt-ltb _ _ (c .if1 .taken)))
 
 cast-result-2 : tie.Need-cast-result-2
@@ -68,7 +68,7 @@ sub-result : tie.Need-sub-result
 sub-result c = binary-need _-ℤ_ (Bits (c .before)) (literal 65536) (below-fits (c .before))
 
 returns-2 : tie.Need-returns-2
-unfolding signed
+unfolding sampleOf
 returns-2 c =
     binary _-ℤ_ (Bits (c .before)) (literal 65536) (below-fits (c .before)) .reads
     ∙ sym (sample-is (c .before) ∙ simp (le-ltb _ _ (c .if1 .left)))

@@ -21,14 +21,14 @@ use Rattle.unit.specs.Lists.{tabulate}
 use Rattle.unit.specs.Cleared.{bandCount, bandsOf}
 use Rattle.unit.specs.Frame.{share, sumOf, channelFrame, mix}
 use Rattle.unit.proofs.Ranges.{input-size}
-use Rattle.engine.specs.Numbers.{channelOf, turnedSection, turned, Turns, Frames}
+use Rattle.engine.specs.Numbers.{channelOf, turnedSection, turned, SectionTurnAsks, ChannelFrameAsks}
 use Rattle.engine.proofs.Numbers.{Progress, shareOf, progress-none, progress-more, turn-section, sum-more}
 use Rattle.engine.proofs.Channel.{x2-size, turns, total-size, channel-is, exact-is}
 use Rattle.engine.proofs.channel_frame.Statement.{statement}
 use Rattle.engine.proofs.channel_frame.Tie as tie
 use Rattle.engine.proofs.channel_frame.Reads as reads
 use Rattle.engine.proofs.channel_frame.Lts as lts
-use Rattle.engine.proofs.turn.Reads as turn-reads
+use Rattle.engine.proofs.section_turn.Reads as section-turn-reads
 use Rattle.rounding.proofs.round_near.Reads as round-near-reads
 
 -- T with the shares of the first b sections
@@ -52,7 +52,7 @@ start-sum x = terms-eq (var (pos (2 ^ 23) *ℤ x)) (var (pos (2 ^ 23) *ℤ x) �
 
 -- ---- the numbers at entry
 
-module _ (s : lts.Start (turn-reads.Asked, turn-reads.Learnt, round-near-reads.Asked, round-near-reads.Learnt) reads.Pre reads.Post Inv-loop μ-loop) where
+module _ (s : lts.Start (section-turn-reads.Asked, section-turn-reads.Learnt, round-near-reads.Asked, round-near-reads.Learnt) reads.Pre reads.Post Inv-loop μ-loop) where
   abbrev bands : List ℤ
   bands = now (s .args .bands)
 
@@ -66,8 +66,8 @@ module _ (s : lts.Start (turn-reads.Asked, turn-reads.Learnt, round-near-reads.A
   x-reads : X ≡ s .args .x
   x-reads = toZ-ofZ (s .fits .x)
 
-  frames : Frames bands l X
-  frames = subst (λ (z : ℤ). Frames bands l z) (sym x-reads) (s .pre)
+  frames : ChannelFrameAsks bands l X
+  frames = subst (λ (z : ℤ). ChannelFrameAsks bands l z) (sym x-reads) (s .pre)
 
   x2-reads : toZ w64 (ofZ w64 (getD l 1 (pos 0))) ≡ getD l 1 (pos 0)
   x2-reads = toZ-ofZ (below-fits (x2-size bands l X frames) tt)
@@ -93,13 +93,13 @@ loop-holds c =
       sum = result product (Power s) (Input s) tt .held .reads ∙ start-sum (X s);
     }
   where
-    s : lts.Start (turn-reads.Asked, turn-reads.Learnt, round-near-reads.Asked, round-near-reads.Learnt) reads.Pre reads.Post Inv-loop μ-loop
+    s : lts.Start (section-turn-reads.Asked, section-turn-reads.Learnt, round-near-reads.Asked, round-near-reads.Learnt) reads.Pre reads.Post Inv-loop μ-loop
     s = c .before .before
 
 -- ---- a turn
 
-module _ (c : lts.After-turn-arg (turn-reads.Asked, turn-reads.Learnt, round-near-reads.Asked, round-near-reads.Learnt) reads.Pre reads.Post Inv-loop μ-loop) where
-  abbrev s : lts.Start (turn-reads.Asked, turn-reads.Learnt, round-near-reads.Asked, round-near-reads.Learnt) reads.Pre reads.Post Inv-loop μ-loop
+module _ (c : lts.After-section-turn-arg (section-turn-reads.Asked, section-turn-reads.Learnt, round-near-reads.Asked, round-near-reads.Learnt) reads.Pre reads.Post Inv-loop μ-loop) where
+  abbrev s : lts.Start (section-turn-reads.Asked, section-turn-reads.Learnt, round-near-reads.Asked, round-near-reads.Learnt) reads.Pre reads.Post Inv-loop μ-loop
   s = c .before .before .before .before .before
 
   abbrev b : ℕ
@@ -114,22 +114,22 @@ module _ (c : lts.After-turn-arg (turn-reads.Asked, turn-reads.Learnt, round-nea
   below : b < bandCount
   below = c .before .loop-test .taken
 
-  has-turn : Turns (bands s) m b (X s) (getD (l s) 1 (pos 0))
+  has-turn : SectionTurnAsks (bands s) m b (X s) (getD (l s) 1 (pos 0))
   has-turn = turns (bands s) (l s) (X s) (frames s) b m below (inv .progress)
 
-turn-requires : tie.Need-turn-requires Inv-loop μ-loop
-turn-requires c κs = subst (λ (z : ℤ). Turns (bands (s c)) (m c) (b c) (X (s c)) z) (sym (x2-reads (s c))) (has-turn c)
+section-turn-requires : tie.Need-section-turn-requires Inv-loop μ-loop
+section-turn-requires c κs = subst (λ (z : ℤ). SectionTurnAsks (bands (s c)) (m c) (b c) (X (s c)) z) (sym (x2-reads (s c))) (has-turn c)
 
-module _ (c : lts.After-turn (turn-reads.Asked, turn-reads.Learnt, round-near-reads.Asked, round-near-reads.Learnt) reads.Pre reads.Post Inv-loop μ-loop) where
-  abbrev t : lts.After-turn-arg (turn-reads.Asked, turn-reads.Learnt, round-near-reads.Asked, round-near-reads.Learnt) reads.Pre reads.Post Inv-loop μ-loop
+module _ (c : lts.After-section-turn (section-turn-reads.Asked, section-turn-reads.Learnt, round-near-reads.Asked, round-near-reads.Learnt) reads.Pre reads.Post Inv-loop μ-loop) where
+  abbrev t : lts.After-section-turn-arg (section-turn-reads.Asked, section-turn-reads.Learnt, round-near-reads.Asked, round-near-reads.Learnt) reads.Pre reads.Post Inv-loop μ-loop
   t = c .before
 
   abbrev x2 : ℤ
   x2 = getD (l (s t)) 1 (pos 0)
 
-  share-is : c .turn .result ≡ shareOf (bands (s t)) (l (s t)) (X (s t)) x2 (b t)
+  share-is : c .section-turn .result ≡ shareOf (bands (s t)) (l (s t)) (X (s t)) x2 (b t)
   share-is =
-      c .turn .ensures .0
+      c .section-turn .ensures .0
       ∙ ap (λ (z : ℤ). share (turnedSection (bands (s t)) (m t) (b t) (X (s t)) z)) (x2-reads (s t))
       ∙ ap share (turn-section (bands (s t)) (l (s t)) (X (s t)) x2 (b t) (m t) (below t) (inv t .progress))
 
@@ -137,7 +137,7 @@ module _ (c : lts.After-turn (turn-reads.Asked, turn-reads.Learnt, round-near-re
   Total = record { bits = c .before .before .before .loop .total; value = totalOf (bands (s t)) (l (s t)) (X (s t)) (b t); reads = inv t .sum }
 
   abbrev Share : Num w64
-  Share = record { bits = ofZ w64 (c .turn .result); value = shareOf (bands (s t)) (l (s t)) (X (s t)) x2 (b t); reads = toZ-ofZ (record { sfits = c .turn .ok }) ∙ share-is }
+  Share = record { bits = ofZ w64 (c .section-turn .result); value = shareOf (bands (s t)) (l (s t)) (X (s t)) x2 (b t); reads = toZ-ofZ (record { sfits = c .section-turn .ok }) ∙ share-is }
 
   more-is : totalOf (bands (s t)) (l (s t)) (X (s t)) (suc (b t)) ≡ Total .value +ℤ Share .value
   more-is = sum-more (bands (s t)) (l (s t)) (X (s t)) x2 (b t) (pos (2 ^ 23) *ℤ X (s t))
@@ -145,10 +145,10 @@ module _ (c : lts.After-turn (turn-reads.Asked, turn-reads.Learnt, round-near-re
   more-fits : SFits w64 (Total .value +ℤ Share .value)
   more-fits = subst (λ (z : ℤ). SFits w64 z) more-is (total-fits (s t) (suc (b t)) (omega (arith, below t)))
 
-  progress-is : Progress (bands (s t)) (l (s t)) (X (s t)) x2 (suc (b t)) (c .turn .last .1 .0)
+  progress-is : Progress (bands (s t)) (l (s t)) (X (s t)) x2 (suc (b t)) (c .section-turn .last .1 .0)
   progress-is =
       subst (λ (n : List ℤ). Progress (bands (s t)) (l (s t)) (X (s t)) x2 (suc (b t)) n)
-      (sym (c .turn .ensures .1 ∙ ap (λ (z : ℤ). turned (bands (s t)) (m t) (b t) (X (s t)) z) (x2-reads (s t))))
+      (sym (c .section-turn .ensures .1 ∙ ap (λ (z : ℤ). turned (bands (s t)) (m t) (b t) (X (s t)) z) (x2-reads (s t))))
       (progress-more (bands (s t)) (l (s t)) (X (s t)) x2 (b t) (m t) (below t) (inv t .progress))
 
 add-total : tie.Need-add-total Inv-loop μ-loop
@@ -162,7 +162,7 @@ loop-less c = omega (arith, below (c .before))
 
 loop-again : tie.Need-loop-again Inv-loop μ-loop
 loop-again c =
-    subst (λ (n : ℕ). Inv (bands (s (t c))) (l (s (t c))) (X (s (t c))) (c .turn .last .1 .0) (toZ w64 (ofZ w64 (toZ w64 (Total c .bits) +ℤ toZ w64 (Share c .bits)))) n) (sym (add-one (b (t c))))
+    subst (λ (n : ℕ). Inv (bands (s (t c))) (l (s (t c))) (X (s (t c))) (c .section-turn .last .1 .0) (toZ w64 (ofZ w64 (toZ w64 (Total c .bits) +ℤ toZ w64 (Share c .bits)))) n) (sym (add-one (b (t c))))
     (record {
       most = omega (arith, below (t c));
       progress = progress-is c;
@@ -171,8 +171,8 @@ loop-again c =
 
 -- ---- after the last turn
 
-module _ (c : lts.After-loop (turn-reads.Asked, turn-reads.Learnt, round-near-reads.Asked, round-near-reads.Learnt) reads.Pre reads.Post Inv-loop μ-loop) where
-  abbrev e : lts.Start (turn-reads.Asked, turn-reads.Learnt, round-near-reads.Asked, round-near-reads.Learnt) reads.Pre reads.Post Inv-loop μ-loop
+module _ (c : lts.After-loop (section-turn-reads.Asked, section-turn-reads.Learnt, round-near-reads.Asked, round-near-reads.Learnt) reads.Pre reads.Post Inv-loop μ-loop) where
+  abbrev e : lts.Start (section-turn-reads.Asked, section-turn-reads.Learnt, round-near-reads.Asked, round-near-reads.Learnt) reads.Pre reads.Post Inv-loop μ-loop
   e = c .before .before .before .before
 
   done : Inv (bands e) (l e) (X e) (c .before .loop .channel) (toZ w64 (c .before .loop .total)) bandCount
@@ -207,7 +207,7 @@ returns c =
           ∙ ap (λ (z : ℤ). mix (channelFrame (bandsOf (bands (e d))) z (channelOf (l (e d))))) (x-reads (e d));
     }
   where
-    d : lts.After-loop (turn-reads.Asked, turn-reads.Learnt, round-near-reads.Asked, round-near-reads.Learnt) reads.Pre reads.Post Inv-loop μ-loop
+    d : lts.After-loop (section-turn-reads.Asked, section-turn-reads.Learnt, round-near-reads.Asked, round-near-reads.Learnt) reads.Pre reads.Post Inv-loop μ-loop
     d = c .before
 
     x1-reads : toZ w64 (ofZ w64 (getD (l (e d)) 0 (pos 0))) ≡ getD (l (e d)) 0 (pos 0)
@@ -223,7 +223,7 @@ channel-frame-spec =
     (λ c. search needs)
     mul-total
     loop-holds
-    turn-requires
+    section-turn-requires
     add-total
     add-b
     loop-less

@@ -14,7 +14,7 @@ use Rattle.integers.proofs.Machine.{reads-back}
 use Rattle.section.specs.declared.Section.{Section}
 use Rattle.section.specs.declared.Stepped.{Stepped}
 use Rattle.section.specs.Step.{stepped}
-use Rattle.exports.specs.Layout.{sectionOf, numbersOf, packed}
+use Rattle.exports.specs.Layout.{loneSection, loneNumbers, packed}
 use Rattle.exports.proofs.fonddrys_section_step.Statement.{statement}
 use Rattle.exports.proofs.fonddrys_section_step.Tie as tie
 use Rattle.exports.proofs.fonddrys_section_step.Reads as reads
@@ -53,7 +53,7 @@ module _ (c : lts.After-y2 (step-reads.Asked, step-reads.Learnt, pack-reads.Aske
   y2-reads = reads-back w32 (getD l 6 (pos 0)) (omega arith)
 
 -- the answer is that of the section as lent
-answer-is : (c : lts.After-step (step-reads.Asked, step-reads.Learnt, pack-reads.Asked, pack-reads.Learnt) reads.Pre reads.Post) → c .step .result ≡ stepped (sectionOf (l (c .before))) (start (c .before) .args .x)
+answer-is : (c : lts.After-step (step-reads.Asked, step-reads.Learnt, pack-reads.Asked, pack-reads.Learnt) reads.Pre reads.Post) → c .step .result ≡ stepped (loneSection (l (c .before))) (start (c .before) .args .x)
 answer-is c =
     c .step .ensures
     ∙ (λ i. stepped
@@ -75,7 +75,7 @@ module _ (c : lts.After-struct-told (step-reads.Asked, step-reads.Learnt, pack-r
   abbrev after : Section
   after = c .before .before .step .result .section
 
-  numbers-stored : _≡_ {A = List ℤ} (toZ w32 (ofZ w32 (after .band .alpha)) ∷ toZ w32 (ofZ w32 (after .band .beta)) ∷ toZ w32 (ofZ w32 (after .band .gamma)) ∷ toZ w32 (ofZ w32 (after .x1)) ∷ toZ w32 (ofZ w32 (after .x2)) ∷ toZ w32 (ofZ w32 (after .y1)) ∷ toZ w32 (ofZ w32 (after .y2)) ∷ []) (numbersOf after)
+  numbers-stored : _≡_ {A = List ℤ} (toZ w32 (ofZ w32 (after .band .alpha)) ∷ toZ w32 (ofZ w32 (after .band .beta)) ∷ toZ w32 (ofZ w32 (after .band .gamma)) ∷ toZ w32 (ofZ w32 (after .x1)) ∷ toZ w32 (ofZ w32 (after .x2)) ∷ toZ w32 (ofZ w32 (after .y1)) ∷ toZ w32 (ofZ w32 (after .y2)) ∷ []) (loneNumbers after)
   numbers-stored =
       λ i.
       reads-back w32 (after .band .alpha) (omega arith) i
@@ -92,10 +92,10 @@ module _ (c : lts.After-struct-told (step-reads.Asked, step-reads.Learnt, pack-r
 returns : tie.Need-returns
 returns c = (
   toZ-ofZ (record { sfits = c .pack .ok }) ∙ c .pack .ensures ∙ ap packed answer,
-  numbers-stored (c .before .before) ∙ ap (λ (r : Stepped). numbersOf (r .section)) answer,
+  numbers-stored (c .before .before) ∙ ap (λ (r : Stepped). loneNumbers (r .section)) answer,
 )
   where
-    answer : c .before .before .before .before .step .result ≡ stepped (sectionOf (l (c .before .before .before .before .before))) (start (c .before .before .before .before .before) .args .x)
+    answer : c .before .before .before .before .step .result ≡ stepped (loneSection (l (c .before .before .before .before .before))) (start (c .before .before .before .before .before) .args .x)
     answer = answer-is (c .before .before .before .before)
 
 pub fonddrys-section-step-spec : {M : Type 1} → statement M

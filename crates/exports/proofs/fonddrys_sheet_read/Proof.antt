@@ -9,7 +9,7 @@ use denote.Ref.{now}
 use borrow.Author.Needs.{needs}
 use borrow.Author.Tests.{not-true, not-false}
 use Rattle.refusals.specs.Numbers.{numberOf, isAccepted}
-use Rattle.numbers.specs.Layout.{unitSize, unitOf, numbersOf as unitNumbers}
+use Rattle.numbers.specs.Layout.{unitSize, unitOf, numbersOf}
 use Rattle.numbers.proofs.Laws.{numbers-of-unit}
 use Rattle.sheet.specs.Lines.{lines}
 use Rattle.reading.specs.Reading.{numbersIn, sheetVerdict, unitIn, sheetRead}
@@ -43,10 +43,10 @@ module _ (c : lts.After-accepted (read-numbers-reads.Asked, read-numbers-reads.L
 
   -- the numbers after the call, by the test
   abbrev after : Bool → List ℤ
-  after t = cond t (unitNumbers (cond t (unitIn bytes) (unitOf l))) l
+  after t = cond t (numbersOf (cond t (unitIn bytes) (unitOf l))) l
 
   -- accepted, those read are the unit's
-  carried : c .accepted .result ≡ true → c .before .read-numbers .last .1 .0 ≡ unitNumbers (unitIn bytes)
+  carried : c .accepted .result ≡ true → c .before .read-numbers .last .1 .0 ≡ numbersOf (unitIn bytes)
   unfolding unitIn
   carried e =
       sheet-numbers bytes (c .before .read-numbers .ensures) (length-replicate unitSize (pos 0)) (sym (c .accepted .ensures) ∙ e)

@@ -5,7 +5,7 @@ use denote.Ref.{now}
 use borrow.Author.Tests.{not-true, not-false}
 use Rattle.refusals.proofs.Laws.{passed, failed}
 use Rattle.refusals.specs.Numbers.{isAccepted}
-use Rattle.numbers.specs.Layout.{numbersOf as unitNumbers}
+use Rattle.numbers.specs.Layout.{numbersOf}
 use borrow.Author.Needs.{needs}
 use Rattle.exports.proofs.store.Statement.{statement}
 use Rattle.exports.proofs.store.Tie as tie
@@ -18,7 +18,7 @@ use Rattle.refusals.proofs.number.Reads as number-reads
 returns : tie.Need-returns
 returns c = (
   c .number .ensures,
-  failed (isAccepted (s .args .verdict)) (unitNumbers (s .args .after)) (now (s .args .numbers)) (sym (c .before .before .accepted .ensures) ∙ not-true _ (c .before .if1 .taken)),
+  failed (isAccepted (s .args .verdict)) (numbersOf (s .args .after)) (now (s .args .numbers)) (sym (c .before .before .accepted .ensures) ∙ not-true _ (c .before .if1 .taken)),
 )
   where
     s : lts.Start (accepted-reads.Asked, accepted-reads.Learnt, number-reads.Asked, number-reads.Learnt, numbers-of-reads.Asked, numbers-of-reads.Learnt) reads.Pre reads.Post
@@ -34,7 +34,7 @@ numbers-of-requires c κs = c .before .before .pre (right c)
 returns-2 : tie.Need-returns-2
 returns-2 c = (
   c .number2 .ensures,
-  c .before .numbers-of .ensures ∙ passed (isAccepted (s .args .verdict)) (unitNumbers (s .args .after)) (now (s .args .numbers)) (right (c .before .before)),
+  c .before .numbers-of .ensures ∙ passed (isAccepted (s .args .verdict)) (numbersOf (s .args .after)) (now (s .args .numbers)) (right (c .before .before)),
 )
   where
     s : lts.Start (accepted-reads.Asked, accepted-reads.Learnt, number-reads.Asked, number-reads.Learnt, numbers-of-reads.Asked, numbers-of-reads.Learnt) reads.Pre reads.Post

@@ -8,7 +8,7 @@ use borrow.Author.Needs.{needs}
 use borrow.Author.Tests.{not-true, not-false}
 use Rattle.unit.specs.declared.BandSection.{BandSection}
 use Rattle.unit.specs.Lists.{every}
-use Rattle.unit.specs.Cleared.{clearedSection}
+use Rattle.unit.specs.Cleared.{clearedBandSection}
 use Rattle.unit.specs.Fit.{sectionFits}
 use Rattle.unit.proofs.Lists.{every-fails, every-passes, every-done}
 use Rattle.fitness.proofs.sections_fit.Statement.{statement}
@@ -34,13 +34,13 @@ module _ (c : lts.After-section-fits (section-fits-reads.Asked, section-fits-rea
   abbrev at : ℕ
   at = c .before .before .before .loop .i
 
-  section-test : c .section-fits .result ≡ sectionFits (getD all at clearedSection)
+  section-test : c .section-fits .result ≡ sectionFits (getD all at clearedBandSection)
   section-test = c .section-fits .ensures
 
 returns : tie.Need-returns Inv-loop μ-loop
 returns c =
     sym
-    (every-fails sectionFits (all (c .before)) clearedSection (at (c .before)) (c .before .before .before .before .loop .inv .1) (omega arith)
+    (every-fails sectionFits (all (c .before)) clearedBandSection (at (c .before)) (c .before .before .before .before .loop .inv .1) (omega arith)
     (sym (section-test (c .before)) ∙ not-true _ (c .if1 .taken)))
 
 loop-again : tie.Need-loop-again Inv-loop μ-loop
@@ -48,7 +48,7 @@ loop-again c = (search needs, passes)
   where
     passes : every sectionFits (all (c .before)) ≡ every sectionFits (drop (at (c .before) + 1) (all (c .before)))
     passes =
-        every-passes sectionFits (all (c .before)) clearedSection (at (c .before)) (c .before .before .before .before .loop .inv .1) (omega arith)
+        every-passes sectionFits (all (c .before)) clearedBandSection (at (c .before)) (c .before .before .before .before .loop .inv .1) (omega arith)
         (sym (section-test (c .before)) ∙ not-false _ (c .if1 .left))
 
 returns-2 : tie.Need-returns-2 Inv-loop μ-loop

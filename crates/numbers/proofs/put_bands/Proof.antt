@@ -6,13 +6,13 @@ use denote.Ref.{now}
 use borrow.Author.Needs.{needs}
 use Rattle.unit.specs.Cleared.{bandCount}
 use Rattle.unit.proofs.PastEnd.{zeroBand}
-use Rattle.numbers.specs.Layout.{bandsPlace, leftPlace, joined, bandNumbers, Put}
+use Rattle.numbers.specs.Layout.{bandsPlace, leftPlace, joined, bandNumbers, PutGives}
 use Rattle.numbers.proofs.Put.{put-none, put-entry, put-entries}
 use Rattle.numbers.proofs.put_bands.Statement.{statement}
 use Rattle.numbers.proofs.put_bands.Tie as tie
 
 abbrev Inv-loop : tie.InvT-loop
-Inv-loop out₀ bands b₀ out b = (b ≤ bandCount) × Put out₀ bandsPlace (joined bandNumbers (take b bands)) (3 * b + 2) out
+Inv-loop out₀ bands b₀ out b = (b ≤ bandCount) × PutGives out₀ bandsPlace (joined bandNumbers (take b bands)) (3 * b + 2) out
 
 abbrev μ-loop : tie.MeasureT-loop
 μ-loop out₀ bands b₀ out b = bandCount - b

@@ -15,7 +15,7 @@ use Rattle.rounding.proofs.Limit.{within-bounds}
 use Rattle.bands.specs.Words.{wordSize}
 use Rattle.unit.specs.Fit.{isFlag}
 use Rattle.unit.proofs.Ranges.{input-size}
-use Rattle.numbers.specs.Layout.{channelNumbers, Put}
+use Rattle.numbers.specs.Layout.{channelNumbers, PutGives}
 use Rattle.numbers.proofs.Put.{narrow-need, narrow-reads, put-three, put-then}
 use borrow.Author.Needs.{needs}
 use Rattle.numbers.proofs.put_channel.Statement.{statement}
@@ -55,7 +55,7 @@ module _ (c : lts.After-sections (put-sections-reads.Asked, put-sections-reads.L
       (start .args .start + 1) (toZ w32 (ofZ w32 (toZ w64 (ofZ w64 (start .args .channel .x2))))))
       (start .args .start + 2) (toZ w32 (ofZ w32 (toZ w64 (ofZ w64 (start .args .channel .flag)))))
 
-  ahead : Put (now (start .args .out)) (start .args .start) (start .args .channel .x1 ∷ start .args .channel .x2 ∷ start .args .channel .flag ∷ []) (start .args .start + 3) stored
+  ahead : PutGives (now (start .args .out)) (start .args .start) (start .args .channel .x1 ∷ start .args .channel .x2 ∷ start .args .channel .flag ∷ []) (start .args .start + 3) stored
   ahead =
       put-three (now (start .args .out)) (start .args .start) (start .pre .0) (omega (arith, start .pre .1))
       (narrow-reads (start .args .channel .x1) (x1-size start))
@@ -78,7 +78,7 @@ put-sections-requires c κs = (ahead (c .before) .size, omega (arith, start (c .
 
 returns : tie.Need-returns
 returns c =
-    subst (λ (n : ℕ). Put (now (s .args .out)) (s .args .start) (channelNumbers (s .args .channel)) n (c .put-sections .last .0)) all
+    subst (λ (n : ℕ). PutGives (now (s .args .out)) (s .args .start) (channelNumbers (s .args .channel)) n (c .put-sections .last .0)) all
     (put-then (ahead (c .before .before)) (c .put-sections .ensures))
   where
     s : lts.Start (put-sections-reads.Asked, put-sections-reads.Learnt) reads.Pre reads.Post

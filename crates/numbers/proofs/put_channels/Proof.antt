@@ -7,7 +7,7 @@ use lib.IntN.{ℤ}
 use denote.Ref.{now}
 use Rattle.unit.specs.Fit.{ChannelFit}
 use Rattle.unit.proofs.PastEnd.{zeroChannel}
-use Rattle.numbers.specs.Layout.{unitSize, leftPlace, channelNumbers, Put}
+use Rattle.numbers.specs.Layout.{unitSize, leftPlace, channelNumbers, PutGives}
 use Rattle.numbers.proofs.Put.{put-then, each-getD, joined-two}
 use borrow.Author.Needs.{needs}
 use Rattle.numbers.proofs.put_channels.Statement.{statement}
@@ -29,7 +29,7 @@ put-channel-requires-2 c κs = (
 
 returns : tie.Need-returns
 returns c =
-    subst (λ (l : List ℤ). Put (now (c .before .before .before .before .before .before .args .out)) leftPlace l unitSize (c .put-channel2 .last .0))
+    subst (λ (l : List ℤ). PutGives (now (c .before .before .before .before .before .before .args .out)) leftPlace l unitSize (c .put-channel2 .last .0))
     (sym (joined-two channelNumbers (c .before .before .before .before .before .before .args .t2) zeroChannel (omega arith)))
     (put-then (c .before .before .put-channel .ensures) (c .put-channel2 .ensures))
 

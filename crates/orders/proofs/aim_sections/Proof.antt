@@ -6,7 +6,7 @@ use lib.ListN.{getD, set}
 use mir.Syntax.{w64}
 use mir.Val.{toZ, ofZ}
 use mir.Facts.{toZ-ofZ}
-use Rattle.unit.specs.Cleared.{clearedSection}
+use Rattle.unit.specs.Cleared.{clearedBandSection}
 use Rattle.unit.specs.declared.BandSection.{BandSection}
 use Rattle.unit.proofs.Changed.{changed-set}
 use Rattle.integers.proofs.Machine.{reads-back}
@@ -24,7 +24,7 @@ module _ (c : lts.After-struct-told (aim-reads.Asked, aim-reads.Learnt) reads.Pr
   s = c .before .before .before .before
 
   abbrev section : BandSection
-  section = getD (s .args .sections) (s .args .band) clearedSection
+  section = getD (s .args .sections) (s .args .band) clearedBandSection
 
   stored : _≡_ {A = BandSection} (record { y1 = toZ w64 (ofZ w64 (section .y1)); y2 = toZ w64 (ofZ w64 (section .y2)); gain = c .before .aim .result }) (aimedSection (s .args .target) section)
   stored i =
@@ -37,7 +37,7 @@ module _ (c : lts.After-struct-told (aim-reads.Asked, aim-reads.Learnt) reads.Pr
 returns : tie.Need-returns
 returns c =
     ap (set (s c .args .sections) (s c .args .band)) (stored c)
-    ∙ sym (changed-set (aimedSection (s c .args .target)) (s c .args .sections) clearedSection (s c .args .band) (omega arith))
+    ∙ sym (changed-set (aimedSection (s c .args .target)) (s c .args .sections) clearedBandSection (s c .args .band) (omega arith))
 
 pub aim-sections-spec : {M : Type 1} → statement M
 aim-sections-spec =

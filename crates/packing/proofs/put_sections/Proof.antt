@@ -11,7 +11,7 @@ use denote.Ref.{now}
 use borrow.Author.Needs.{needs}
 use borrow.Author.Tests.{eqb-true, eqb-false}
 use Rattle.unit.specs.declared.BandSection.{BandSection}
-use Rattle.unit.specs.Cleared.{bandCount, clearedSection}
+use Rattle.unit.specs.Cleared.{bandCount, clearedBandSection}
 use Rattle.unit.proofs.Tabulate.{tabulate-cong, tabulate-all}
 use Rattle.engine.specs.Numbers.{channelSize, sectionAt, putSection}
 use Rattle.engine.proofs.Numbers.{put-same, put-other, put-outside, put-length}
@@ -26,10 +26,10 @@ pub record Filled (l : List ℤ) (sections : List BandSection) (b : ℕ) (m : Li
   pub most : b ≤ bandCount
   pub size : length m ≡ channelSize
   pub front : (j : ℕ) → j < 3 → getD m j (pos 0) ≡ getD l j (pos 0)
-  pub done : (k : ℕ) → k < b → sectionAt m k ≡ getD sections k clearedSection
+  pub done : (k : ℕ) → k < b → sectionAt m k ≡ getD sections k clearedBandSection
 
 -- one section more
-filled-more : (l : List ℤ) (sections : List BandSection) (b : ℕ) (m : List ℤ) → b < bandCount → Filled l sections b m → Filled l sections (b + 1) (putSection m b (getD sections b clearedSection))
+filled-more : (l : List ℤ) (sections : List BandSection) (b : ℕ) (m : List ℤ) → b < bandCount → Filled l sections b m → Filled l sections (b + 1) (putSection m b (getD sections b clearedBandSection))
 filled-more l sections b m h f =
     record {
       most = omega arith;
@@ -40,10 +40,10 @@ filled-more l sections b m h f =
     }
   where
     s : BandSection
-    s = getD sections b clearedSection
+    s = getD sections b clearedBandSection
 
-    go : (k : ℕ) → k ≤ b → (t : Bool) → eqb k b ≡ t → sectionAt (putSection m b s) k ≡ getD sections k clearedSection
-    go k j true e = subst (λ (n : ℕ). sectionAt (putSection m b s) n ≡ getD sections n clearedSection) (sym (eqb-true k b e)) (put-same m b s (f .size) h)
+    go : (k : ℕ) → k ≤ b → (t : Bool) → eqb k b ≡ t → sectionAt (putSection m b s) k ≡ getD sections k clearedBandSection
+    go k j true e = subst (λ (n : ℕ). sectionAt (putSection m b s) n ≡ getD sections n clearedBandSection) (sym (eqb-true k b e)) (put-same m b s (f .size) h)
     go k j false e = put-other m b s k (eqb-false k b e) ∙ f .done k (omega (arith, eqb-false k b e))
 
 abbrev Inv-loop : tie.InvT-loop
@@ -69,7 +69,7 @@ returns c =
     record {
       size = inv .size;
       front = inv .front;
-      all = tabulate-cong bandCount (λ k h. inv .done k h) ∙ tabulate-all (s .args .t2) clearedSection bandCount (omega arith);
+      all = tabulate-cong bandCount (λ k h. inv .done k h) ∙ tabulate-all (s .args .t2) clearedBandSection bandCount (omega arith);
     }
   where
     s : lts.Start (put-section-reads.Asked, put-section-reads.Learnt) reads.Pre reads.Post Inv-loop μ-loop

@@ -22,10 +22,10 @@ use Rattle.integers.proofs.Machine.{reads-back}
 use Rattle.bands.specs.Words.{isWord}
 use Rattle.section.specs.declared.Section.{Section}
 use Rattle.section.specs.Step.{clearedSection, stepped, resultsOver}
-use Rattle.section.proofs.Ready.{Ready, cleared-ready, ready-stays}
+use Rattle.section.proofs.Ready.{HoldsWords, cleared-ready, ready-stays}
 use Rattle.preview.specs.declared.Preview.{Preview}
 use Rattle.preview.specs.Preview.{areWords}
-use Rattle.preview.specs.Carried.{float, carried, sectionIn, Carrying}
+use Rattle.preview.specs.Carried.{float, carried, sectionIn, StepAsks}
 use Rattle.preview.proofs.Carry.{carried-back, may-step, result-back}
 use Rattle.preview.proofs.Lists.{words-from, results-from, AcceptedCall, preview-accepted}
 use Rattle.preview.proofs.run.Statement.{statement}
@@ -41,7 +41,7 @@ record Inv (first : Preview) (words room results : List ℤ) (preview : Preview)
   section : Section
   done : List ℤ
   carries : preview ≡ carried section
-  ready : Ready section
+  ready : HoldsWords section
   left-words : areWords (drop i words) ≡ true
   done-length : length done ≡ i
   stored : results ≡ done ++ drop i room
@@ -71,7 +71,7 @@ module _ (c : lts.After-cleared (cleared-reads.Asked, cleared-reads.Learnt, step
   accepts : AcceptedCall (start .args .band) words (length room)
   accepts = preview-accepted (start .args .band) words (length room) (start .pre)
 
-  first-ready : Ready first
+  first-ready : HoldsWords first
   first-ready = cleared-ready (start .args .band) (accepts .band-accepted)
 
   first-is : c .cleared .result ≡ carried first
@@ -120,11 +120,11 @@ module _ (c : lts.After-step-arg (cleared-reads.Asked, cleared-reads.Learnt, ste
   x-word : (isWord x ≡ true) × (areWords (drop (suc i) (words begun)) ≡ true)
   x-word = both-true _ _ (sym (words-from (words begun) i below) ∙ inv .left-words)
 
-  may-go : Carrying (c .before .before .loop .preview) x
+  may-go : StepAsks (c .before .before .loop .preview) x
   may-go = may-step (inv .section) (inv .ready) x (x-word .0) (c .before .before .loop .preview) (inv .carries)
 
 step-requires : tie.Need-step-requires Inv-loop μ-loop
-step-requires c κs = subst (λ (z : ℤ). Carrying (c .before .before .loop .preview) z) (sym (x-reads c)) (may-go c)
+step-requires c κs = subst (λ (z : ℤ). StepAsks (c .before .before .loop .preview) z) (sym (x-reads c)) (may-go c)
 
 -- ---- the preview stepped
 

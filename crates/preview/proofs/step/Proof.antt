@@ -13,8 +13,8 @@ use Rattle.floats.proofs.Quotient.{whole-back}
 use Rattle.section.specs.declared.Section.{Section}
 use Rattle.section.specs.declared.Stepped.{Stepped}
 use Rattle.section.specs.Equation.{exactSum, worked}
-use Rattle.section.specs.Small.{Small}
-use Rattle.section.specs.Step.{advanced}
+use Rattle.section.specs.Asks.{RoundedSumAsks}
+use Rattle.section.specs.Step.{acceptedStep}
 use Rattle.section.proofs.Laws.{accepted-small}
 use Rattle.section.proofs.Ready.{accepted-advances}
 use Rattle.preview.specs.declared.Preview.{Preview}
@@ -40,7 +40,7 @@ module _ (s : lts.Start (result-of-reads.Asked, result-of-reads.Learnt) reads.Pr
   abbrev S : ℤ
   S = exactSum (section .band) x (section .x2) (section .y1) (section .y2)
 
-  small : Small (section .band) x (section .x2) (section .y1) (section .y2)
+  small : RoundedSumAsks (section .band) x (section .x2) (section .y1) (section .y2)
   small = accepted-small section x (s .pre .accepted)
 
   S-size : natAbs S < 2 ^ prec binary64
@@ -85,7 +85,7 @@ result-of-requires c κs =
     s = c .before .before .before
 
 returns : tie.Need-returns
-unfolding advanced
+unfolding acceptedStep
 returns c =
     (λ i. record {
       alpha = s .pre .carries i .alpha;

@@ -15,7 +15,7 @@ use Rattle.refusals.specs.declared.Verdict.{Verdict}
 use Rattle.sheet.specs.declared.Line.the-variants.{Band}
 use Rattle.sheet.specs.Lines.{rangesOf, together}
 use Rattle.reading.specs.Reading.{lineNumbers}
-use Rattle.reading.specs.Parts.{Part, test, andThen, fieldsPart, endPart, linePart, Stored}
+use Rattle.reading.specs.Parts.{Part, test, andThen, fieldsPart, endPart, linePart, ReadGives}
 use Rattle.reading.proofs.Parts.{restored, stored-length, Leads, off, past, tested}
 use Rattle.reading.proofs.Line.{letter-refused, fields-refused, fields-passed, fields-there, ended}
 use Rattle.reading.proofs.Field.{any-fields}
@@ -58,7 +58,7 @@ module _ (c : lts.After-read-fields (check-mark-reads.Asked, check-mark-reads.Le
   after = c .read-fields .last .1 .1 .1 .1 .1 .0
 
   -- any number of nine digits is in its range
-  fields-stored : Stored (fieldsPart (rangesOf Band) (drop (start .args .at + 1) (bytes start))) (now (start .args .numbers)) (start .args .place) (c .read-fields .result) after
+  fields-stored : ReadGives (fieldsPart (rangesOf Band) (drop (start .args .at + 1) (bytes start))) (now (start .args .numbers)) (start .args .place) (c .read-fields .result) after
   fields-stored = restored (any-fields 3 (drop (start .args .at + 1) (bytes start)) (omega (arith, start .pre .0, length-drop (start .args .at + 1) (bytes start)))) refl (c .read-fields .ensures)
 
   module _ (e : isAccepted (c .read-fields .result) ≡ true) where

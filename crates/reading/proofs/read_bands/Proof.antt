@@ -13,7 +13,7 @@ use Rattle.refusals.specs.Numbers.{isAccepted}
 use Rattle.refusals.specs.declared.Verdict.{Verdict}
 use Rattle.unit.specs.Cleared.{bandCount}
 use Rattle.sheet.specs.declared.Line.the-variants.{Band}
-use Rattle.reading.specs.Parts.{linePart, linesPart, Stored}
+use Rattle.reading.specs.Parts.{linePart, linesPart, ReadGives}
 use Rattle.reading.proofs.Parts.{restored, stored-length}
 use Rattle.reading.proofs.Repeat.{repeated, lines-repeated, LeftFrom, left-all, left-none, left-off, left-on}
 use Rattle.reading.proofs.Whole.{line-long}
@@ -36,8 +36,8 @@ module _ (c : lts.Start (read-band-reads.Asked, read-band-reads.Learnt, accepted
   bytes = now (c .args .bytes)
 
   -- what is stored of the lines, in the words of the contract
-  in-words : {v : Verdict} {m : List ℤ} → Stored (repeated (linePart Band) 29 bandCount (drop 20 bytes)) (now (c .args .numbers)) 2 v m
-      → Stored (linesPart (replicate bandCount Band) (drop 20 bytes)) (now (c .args .numbers)) 2 v m
+  in-words : {v : Verdict} {m : List ℤ} → ReadGives (repeated (linePart Band) 29 bandCount (drop 20 bytes)) (now (c .args .numbers)) 2 v m
+      → ReadGives (linesPart (replicate bandCount Band) (drop 20 bytes)) (now (c .args .numbers)) 2 v m
   in-words s = restored (sym (lines-repeated Band bandCount (drop 20 bytes))) refl s
 
 loop-holds : tie.Need-loop-holds Inv-loop μ-loop

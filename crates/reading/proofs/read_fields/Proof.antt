@@ -18,7 +18,7 @@ use Rattle.refusals.specs.Numbers.{isAccepted}
 use Rattle.refusals.specs.declared.Verdict.{Verdict}
 use Rattle.refusals.specs.declared.Verdict.the-variants.{Accepted}
 use Rattle.fields.specs.Fields.{fieldSize, fieldAt}
-use Rattle.reading.specs.Parts.{fieldsPart, Stored}
+use Rattle.reading.specs.Parts.{fieldsPart, ReadGives}
 use Rattle.reading.proofs.Parts.{restored}
 use Rattle.reading.proofs.Repeat.{fieldIn, repeated, fields-repeated, LeftFrom, left-all, left-none, left-off, left-on}
 use Rattle.reading.proofs.Field.{field-badly, field-outside, field-inside}
@@ -47,8 +47,8 @@ module _ (c : lts.Start (read-field-reads.Asked, read-field-reads.Learnt, in-ran
   range = within (toZ w64 (ofZ w64 (c .args .low))) (toZ w64 (ofZ w64 (c .args .high)))
 
   -- what is stored of the fields, in the words of the contract
-  in-words : {v : Verdict} {m : List ℤ} → Stored (repeated (fieldIn range) fieldSize (c .args .count) (drop (c .args .at) (now (c .args .bytes)))) (now (c .args .numbers)) (c .args .place) v m
-      → Stored (fieldsPart (replicate (c .args .count) (within (c .args .low) (c .args .high))) (drop (c .args .at) (now (c .args .bytes)))) (now (c .args .numbers)) (c .args .place) v m
+  in-words : {v : Verdict} {m : List ℤ} → ReadGives (repeated (fieldIn range) fieldSize (c .args .count) (drop (c .args .at) (now (c .args .bytes)))) (now (c .args .numbers)) (c .args .place) v m
+      → ReadGives (fieldsPart (replicate (c .args .count) (within (c .args .low) (c .args .high))) (drop (c .args .at) (now (c .args .bytes)))) (now (c .args .numbers)) (c .args .place) v m
   in-words s =
       restored (sym (fields-repeated range (c .args .count) (drop (c .args .at) (now (c .args .bytes))))
       ∙ ap₂ (λ (a b : ℤ). fieldsPart (replicate (c .args .count) (within a b)) (drop (c .args .at) (now (c .args .bytes)))) (toZ-ofZ (c .fits .low)) (toZ-ofZ (c .fits .high))) refl s
@@ -91,8 +91,8 @@ module _ (c : lts.After-read-field (read-field-reads.Asked, read-field-reads.Lea
   long = omega (arith, start .pre .0)
 
   -- it is refused
-  refused : {v : Verdict} → Stored (fieldIn (range start) (drop here bytes)) numbers spot v numbers → isAccepted v ≡ false
-      → Stored (fieldsPart (replicate (start .args .count) (within (start .args .low) (start .args .high))) (drop (start .args .at) bytes)) (now (start .args .numbers)) (start .args .place) v numbers
+  refused : {v : Verdict} → ReadGives (fieldIn (range start) (drop here bytes)) numbers spot v numbers → isAccepted v ≡ false
+      → ReadGives (fieldsPart (replicate (start .args .count) (within (start .args .low) (start .args .high))) (drop (start .args .at) bytes)) (now (start .args .numbers)) (start .args .place) v numbers
   refused s e =
       in-words start
       (left-off (fieldIn (range start)) fieldSize 1 (start .args .count) bytes (start .args .at) (now (start .args .numbers)) (start .args .place) i (c .before .before .loop .inv .2) below here spot refl (omega arith) s e)
@@ -136,7 +136,7 @@ loop-again c = (
     s : lts.Start (read-field-reads.Asked, read-field-reads.Learnt, in-range-reads.Asked, in-range-reads.Learnt) reads.Pre reads.Post Inv-loop μ-loop
     s = start (o t)
 
-    stored : Stored (fieldIn (range s) (drop (here (o t)) (bytes (o t)))) (numbers (o t)) (spot (o t)) Accepted (set (numbers (o t)) (spot (o t)) (toZ w32 (ofZ w32 (number (o t)))))
+    stored : ReadGives (fieldIn (range s) (drop (here (o t)) (bytes (o t)))) (numbers (o t)) (spot (o t)) Accepted (set (numbers (o t)) (spot (o t)) (toZ w32 (ofZ w32 (number (o t)))))
     stored =
         field-inside (range s) (bytes (o t)) (here (o t)) (long (o t)) (number (o t)) (o t .read-field .ok) (o t .read-field .ensures) (t .before .if1 .left)
         (sym (test-is t) ∙ not-false _ (c .if2 .left)) (reads-back w32 (number (o t)) (o t .read-field .ok))

@@ -15,7 +15,7 @@ use borrow.Author.Tests.{not-true, not-false}
 use Rattle.rounding.specs.Rounding.{within}
 use Rattle.refusals.specs.Numbers.{isAccepted}
 use Rattle.refusals.specs.declared.Verdict.{Verdict}
-use Rattle.reading.specs.Parts.{Part, endPart, plainPart, Stored}
+use Rattle.reading.specs.Parts.{Part, endPart, plainPart, ReadGives}
 use Rattle.reading.proofs.Parts.{restored}
 use Rattle.reading.proofs.Line.{letter-refused, fields-refused, fields-passed, ended}
 use Rattle.reading.proofs.read_line.Statement.{statement}
@@ -38,8 +38,8 @@ module _ (c : lts.Start (check-mark-reads.Asked, check-mark-reads.Learnt, accept
   end = endPart (length ranges) (drop (c .args .at) bytes)
 
   -- what is stored of the line, in the words of the contract
-  in-words : {v : Verdict} {m : List ℤ} → Stored (plainPart (c .args .letter) ranges (drop (c .args .at) bytes)) (now (c .args .numbers)) (c .args .place) v m
-      → Stored (plainPart (c .args .letter) (replicate (c .args .count) (within (c .args .low) (c .args .high))) (drop (c .args .at) bytes)) (now (c .args .numbers)) (c .args .place) v m
+  in-words : {v : Verdict} {m : List ℤ} → ReadGives (plainPart (c .args .letter) ranges (drop (c .args .at) bytes)) (now (c .args .numbers)) (c .args .place) v m
+      → ReadGives (plainPart (c .args .letter) (replicate (c .args .count) (within (c .args .low) (c .args .high))) (drop (c .args .at) bytes)) (now (c .args .numbers)) (c .args .place) v m
   in-words s =
       restored (ap₂ (λ (a b : ℤ). plainPart (c .args .letter) (replicate (c .args .count) (within a b)) (drop (c .args .at) bytes)) (toZ-ofZ (c .fits .low)) (toZ-ofZ (c .fits .high))) refl s
 

@@ -14,7 +14,7 @@ use Rattle.unit.specs.Cleared.{bandCount}
 use Rattle.unit.specs.Fit.{isVolume}
 use Rattle.sheet.specs.declared.Line.the-variants.{Volume, Band}
 use Rattle.sheet.specs.Lines.{lines}
-use Rattle.reading.specs.Parts.{Part, andThen, linePart, linesPart, channelPart, Stored}
+use Rattle.reading.specs.Parts.{Part, andThen, linePart, linesPart, channelPart, ReadGives}
 use Rattle.reading.proofs.Parts.{restored, stored-length, Leads, on, off}
 use Rattle.reading.proofs.Whole.{line-long}
 use Rattle.reading.proofs.Sheet.{sheet-parts, channel-long, bands-long}
@@ -56,7 +56,7 @@ module _ (c : lts.After-read-line (read-line-reads.Asked, read-line-reads.Learnt
   abbrev start : lts.Start (read-line-reads.Asked, read-line-reads.Learnt, accepted-reads.Asked, accepted-reads.Learnt, read-bands-reads.Asked, read-bands-reads.Learnt, read-channel-reads.Asked, read-channel-reads.Learnt) reads.Pre reads.Post
   start = c .before .before .before
 
-  volume : Stored (linePart Volume (bytes start)) (numbers start) 0 (c .read-line .result) (c .read-line .last .1 .1 .1 .1 .1 .1 .0)
+  volume : ReadGives (linePart Volume (bytes start)) (numbers start) 0 (c .read-line .result) (c .read-line .last .1 .1 .1 .1 .1 .1 .0)
   unfolding isVolume
   volume = c .read-line .ensures
 

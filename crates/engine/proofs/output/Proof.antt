@@ -1,4 +1,4 @@
--- `engine::sound` meets its contract: V × m stays below 2^50.
+-- `engine::output` meets its contract: V × m stays below 2^50.
 use mathlib.Core.Path.{ap, sym, _∙_, subst}
 use Prim.Native.Nat.{_^_, _≤_}
 use native.Mathlib.Nat.{le-trans}
@@ -12,10 +12,10 @@ use Rattle.rounding.specs.Rounding.{nearest, limit}
 use Rattle.bands.specs.Words.{wordSize}
 use Rattle.unit.specs.Frame.{output, sampleLow, sampleHigh}
 use Rattle.engine.specs.Numbers.{mixSize}
-use Rattle.engine.proofs.sound.Statement.{statement}
-use Rattle.engine.proofs.sound.Tie as tie
-use Rattle.engine.proofs.sound.Reads as reads
-use Rattle.engine.proofs.sound.Lts as lts
+use Rattle.engine.proofs.output.Statement.{statement}
+use Rattle.engine.proofs.output.Tie as tie
+use Rattle.engine.proofs.output.Reads as reads
+use Rattle.engine.proofs.output.Lts as lts
 use Rattle.rounding.proofs.round_near.Reads as round-near-reads
 use Rattle.rounding.proofs.saturate.Reads as saturate-reads
 
@@ -50,5 +50,5 @@ returns c =
     ∙ c .before .round-near .ensures
     ∙ ap (λ (z : ℤ). nearest z 31) (Loud (c .before .before) .held .reads))
 
-pub sound-spec : {M : Type 1} → statement M
-sound-spec = tie.close (tie.spec mul-round-near round-near-requires (λ c κs. search needs) returns)
+pub output-spec : {M : Type 1} → statement M
+output-spec = tie.close (tie.spec mul-round-near round-near-requires (λ c κs. search needs) returns)

@@ -1,4 +1,4 @@
--- `engine::turn` meets its contract: the section as read, its gain moved, its y worked, limited and stored, is the definition's.
+-- `engine::section_turn` meets its contract: the section as read, its gain moved, its y worked, limited and stored, is the definition's.
 use mathlib.Core.Path.{_≡_, sym, ap, ap₂, _∙_, subst}
 use mathlib.Core.Bool.{not}
 use mathlib.Core.List.{List}
@@ -16,7 +16,7 @@ use Rattle.bands.specs.Words.{wordSize, wordLow, wordHigh, isWord}
 use Rattle.bands.specs.Bands.{bandOf, bandAt}
 use Rattle.bands.proofs.Laws.{Accepts, band-sizes, word-size}
 use Rattle.levels.specs.declared.Level.{Level}
-use Rattle.levels.specs.Levels.{gainSlope, moved, Ramped}
+use Rattle.levels.specs.Levels.{gainSlope, moved, MovedAsks}
 use Rattle.levels.proofs.Laws.{ramp-size}
 use Rattle.section.specs.Equation.{exactSum, sumShift, worked}
 use Rattle.section.proofs.Laws.{worked-size}
@@ -25,10 +25,10 @@ use Rattle.unit.specs.Frame.{sectionFrame}
 use Rattle.unit.specs.Fit.{SectionFit}
 use Rattle.engine.specs.Numbers.{sectionAt, putSection, marked}
 use borrow.Author.Needs.{needs}
-use Rattle.engine.proofs.turn.Statement.{statement}
-use Rattle.engine.proofs.turn.Tie as tie
-use Rattle.engine.proofs.turn.Reads as reads
-use Rattle.engine.proofs.turn.Lts as lts
+use Rattle.engine.proofs.section_turn.Statement.{statement}
+use Rattle.engine.proofs.section_turn.Tie as tie
+use Rattle.engine.proofs.section_turn.Reads as reads
+use Rattle.engine.proofs.section_turn.Lts as lts
 use Rattle.engine.proofs.limit_word.Reads as limit-word-reads
 use Rattle.engine.proofs.put_section.Reads as put-section-reads
 use Rattle.engine.proofs.section_at.Reads as section-at-reads
@@ -89,7 +89,7 @@ module _ (c : lts.After-section-at (section-at-reads.Asked, section-at-reads.Lea
   target-size : natAbs (S .gain .target) ≤ wordSize
   target-size = word-size (S .gain .target) (fit .target)
 
-  ramped : Ramped (S .gain)
+  ramped : MovedAsks (S .gain)
   ramped = record { present-size = le-trans present-size (lit≤ tt); target-size = le-trans target-size (lit≤ tt) }
 
 -- a number of at most 2^23 in size is read back
@@ -187,7 +187,7 @@ module _ (c : lts.After-limit-word (section-at-reads.Asked, section-at-reads.Lea
 
 moved-requires : tie.Need-moved-requires
 moved-requires c κs =
-    subst (λ (s : BandSection). Ramped (s .gain)) (sym (before-is (c .before .before .before))) (ramped (c .before .before .before))
+    subst (λ (s : BandSection). MovedAsks (s .gain)) (sym (before-is (c .before .before .before))) (ramped (c .before .before .before))
 
 rounded-sum-requires : tie.Need-rounded-sum-requires
 rounded-sum-requires c κs =
@@ -217,8 +217,8 @@ returns c = (
       (stored-is (late c)),
 )
 
-pub turn-spec : {M : Type 1} → statement M
-turn-spec =
+pub section-turn-spec : {M : Type 1} → statement M
+section-turn-spec =
     tie.close
     (tie.spec
     (λ c κs. search needs)
