@@ -4,6 +4,7 @@ use mathlib.Core.List.{List, [], _∷_, _++_}
 use Prim.Native.Nat.{ℕ, _+_, _*_, _≤_, _<_}
 use lib.IntN.{ℤ, natAbs}
 use lib.ListN.{length, set, drop}
+use Rattle.unit.specs.Sizes.{channelSize}
 use Rattle.bands.specs.declared.Band.{Band}
 use Rattle.levels.specs.declared.Level.{Level}
 use Rattle.unit.specs.declared.Channel.{Channel}
@@ -12,7 +13,7 @@ use Rattle.unit.specs.Lists.{Each}
 use Rattle.unit.specs.Cleared.{bandsOf}
 use Rattle.unit.specs.Frame.{channelFrame, mix}
 use Rattle.unit.specs.Fit.{BandFit, ChannelFit, Fit}
-use Rattle.engine.specs.Numbers.{channelSize, channelOf, mixSize}
+use Rattle.engine.specs.Numbers.{channelOf, mixSize}
 use Rattle.blocks.specs.Bytes.{wordAt, frameCount, lowByte, highByte}
 use Rattle.blocks.specs.Block.{played, sound}
 

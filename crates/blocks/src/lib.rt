@@ -5,6 +5,7 @@ ghost use Prim.Native.Nat.{_+_, _<_};
 ghost use mathlib.Core.Bool.{true};
 ghost use lib.ListN.{length};
 ghost use lib.Signed.{_≤ℤ_};
+ghost use Rattle.unit.specs.Sizes.{channelCount};
 ghost use Rattle.refusals.specs.Numbers.{isAccepted};
 ghost use Rattle.unit.specs.Frame.{sampleLow, sampleHigh, output as outputOf};
 ghost use Rattle.engine.specs.Numbers.{OutputAsks};
@@ -17,6 +18,11 @@ use refusals::Verdict;
 use unit::Channel;
 use unit::Unit;
 
+// The bytes of a sample, and of a frame.
+pub const SAMPLE_SIZE: usize = 2;
+
+pub const FRAME_SIZE: usize = SAMPLE_SIZE * unit::CHANNEL_COUNT;
+
 // What a block answers, and the unit after it.
 pub struct Played {
     pub verdict: Verdict,
@@ -26,7 +32,7 @@ pub struct Played {
 // FramesAsks a block of frames: 14 for an unfit unit ahead of all, then 5 and 6. Refused, unit and output are unchanged. Accepted, the
 // output begins with the frames, and the bytes beyond them keep their contents.
 pub fn play(unit: Unit, input: &[u8], output: &mut [u8]) -> Played
-    ensures { λ r. ⌜ (r ≡ blockPlayed 2 unit (now (input .entry)) (length (now (output .entry)))) × (now (output .exit) ≡ blockOutput 2 unit (now (input .entry)) (now (output .entry))) ⌝ }
+    ensures { λ r. ⌜ (r ≡ blockPlayed channelCount unit (now (input .entry)) (length (now (output .entry)))) × (now (output .exit) ≡ blockOutput channelCount unit (now (input .entry)) (now (output .entry))) ⌝ }
 {
     let verdict = check_block(unit, input.len(), output.len());
     if refusals::accepted(verdict) {
@@ -44,12 +50,12 @@ pub fn play(unit: Unit, input: &[u8], output: &mut [u8]) -> Played
 
 // Accepted, or the first refusal that applies: an unfit unit, input bytes that are no multiple of four, an output shorter than the input.
 fn check_block(unit: Unit, given: usize, room: usize) -> Verdict
-    ensures { λ r. ⌜ r ≡ blockVerdict 2 unit given room ⌝ }
+    ensures { λ r. ⌜ r ≡ blockVerdict channelCount unit given room ⌝ }
 {
     if !fitness::is_fit(unit) {
         return Verdict::Unfit;
     }
-    if given % 4 != 0 {
+    if given % FRAME_SIZE != 0 {
         return Verdict::InputLength;
     }
     if room < given {
@@ -61,15 +67,15 @@ fn check_block(unit: Unit, given: usize, room: usize) -> Verdict
 // An accepted block: the unit's bands and channels are held as flat numbers for its length.
 fn run(
     volume: Level,
-    bands: [Band; 10],
-    channels: [Channel; 2],
+    bands: [Band; bands::BAND_COUNT],
+    channels: [Channel; unit::CHANNEL_COUNT],
     input: &[u8],
     output: &mut [u8],
 ) -> Unit
-    requires { ⌜ isAccepted (blockVerdict 2 (unitOfParts volume bands channels) (length (now input)) (length (now output))) ≡ true ⌝ }
+    requires { ⌜ isAccepted (blockVerdict channelCount (unitOfParts volume bands channels) (length (now input)) (length (now output))) ≡ true ⌝ }
     ensures { λ r. ⌜ RunGives (unitOfParts volume bands channels) (now (input .entry)) (now (output .entry)) r (now (output .exit)) ⌝ }
 {
-    let count = input.len() / 4;
+    let count = input.len() / FRAME_SIZE;
     let numbers = packing::band_numbers(bands);
     let first = channels[0];
     let second = channels[1];
@@ -95,9 +101,9 @@ fn run(
 
 // So many frames, from the front of the input to the front of the output. In each the volume moves first. Gives the volume after them.
 fn frames(
-    bands: &[i64; 30],
-    left: &mut [i64; 43],
-    right: &mut [i64; 43],
+    bands: &[i64; bands::SET_SIZE],
+    left: &mut [i64; unit::CHANNEL_SIZE],
+    right: &mut [i64; unit::CHANNEL_SIZE],
     volume: Level,
     count: usize,
     input: &[u8],
@@ -111,17 +117,22 @@ fn frames(
     while i < count {
         level = level.moved(levels::VOLUME_SLOPE);
         let present = level.present;
-        let left_mix = channel_mix(bands, left, input, 4 * i);
-        let right_mix = channel_mix(bands, right, input, 4 * i + 2);
-        put_sound(output, 4 * i, present, left_mix);
-        put_sound(output, 4 * i + 2, present, right_mix);
+        let left_mix = channel_mix(bands, left, input, FRAME_SIZE * i);
+        let right_mix = channel_mix(bands, right, input, FRAME_SIZE * i + SAMPLE_SIZE);
+        put_sound(output, FRAME_SIZE * i, present, left_mix);
+        put_sound(output, FRAME_SIZE * i + SAMPLE_SIZE, present, right_mix);
         i += 1;
     }
     level
 }
 
 // A channel's frame on its sample at `at` of the input. Gives m.
-fn channel_mix(bands: &[i64; 30], channel: &mut [i64; 43], input: &[u8], at: usize) -> i64
+fn channel_mix(
+    bands: &[i64; bands::SET_SIZE],
+    channel: &mut [i64; unit::CHANNEL_SIZE],
+    input: &[u8],
+    at: usize,
+) -> i64
     requires { ⌜ ChannelMixAsks (now bands) (now channel) (now input) at ⌝ }
     ensures { λ r. ⌜ ChannelMixGives (now (bands .entry)) (now (channel .entry)) (now (input .entry)) at (now (channel .exit)) r ⌝ }
 {

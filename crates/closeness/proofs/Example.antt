@@ -10,11 +10,11 @@ use Rattle.unit.specs.Lists.{anyOf}
 use Rattle.refusals.specs.Numbers.{isAccepted}
 use Rattle.rounding.specs.Rounding.{floor, rest, odd, goesUp, nearest, taken, limit, within}
 use Rattle.floats.specs.Value.{inUnits, inRange, factorTarget}
-use Rattle.bands.specs.Bands.{alphaAccepted, betaAccepted, gammaAccepted, bandVerdict}
+use Rattle.bands.specs.Bands.{bandCount, alphaAccepted, betaAccepted, gammaAccepted, bandVerdict}
 use Rattle.bands.specs.House.{houseSet}
 use Rattle.levels.specs.Levels.{ramp}
 use Rattle.section.specs.Equation.{exactSum, worked}
-use Rattle.unit.specs.Cleared.{bandCount, bandsOf}
+use Rattle.unit.specs.Cleared.{bandsOf}
 use Rattle.unit.specs.Frame.{sectionFrame, channelFrame, exactMix, mix, output, unitFrame}
 use Rattle.unit.specs.Fit.{isVolume, isInput, isFlag, unitFits}
 use Rattle.loading.specs.Loading.{setVerdict}

@@ -15,6 +15,8 @@ use Prim.Native.Nat.{ℕ, zero, suc, _+_, _*_, _^_, _≤_, _<_}
 use lib.Dec.{eqb}
 use lib.IntN.{ℤ, pos, natAbs, _+ℤ_, _-ℤ_, _*ℤ_}
 use lib.ListN.{length, getD, take, replicate}
+use Rattle.unit.specs.Sizes.{channelCount}
+use Rattle.bands.specs.Bands.{bandCount}
 use Rattle.rounding.specs.Rounding.{limit}
 use Rattle.refusals.specs.Numbers.{isAccepted}
 use Rattle.bands.specs.declared.Band.{Band}
@@ -24,10 +26,10 @@ use Rattle.section.specs.Equation.{exactSum, sumShift, flag}
 use Rattle.unit.specs.declared.Channel.{Channel}
 use Rattle.unit.specs.declared.Unit.{Unit}
 use Rattle.unit.specs.Lists.{tabulate, changed, anyOf}
-use Rattle.unit.specs.Cleared.{bandCount, clearedLevel, clearedChannel, clearedUnit, bandsOf}
+use Rattle.unit.specs.Cleared.{clearedLevel, clearedChannel, clearedUnit, bandsOf}
 use Rattle.unit.specs.Frame.{anyLimits, sampleLow, sampleHigh}
 use Rattle.unit.specs.Fit.{Fit}
-use Rattle.loading.specs.Loading.{channelCount, setVerdict, loaded}
+use Rattle.loading.specs.Loading.{setVerdict, loaded}
 use Rattle.orders.specs.declared.Setting.{Setting}
 use Rattle.orders.specs.Orders.{volumeBand, names, targetOf, orderArguments, ordered}
 use Rattle.blocks.specs.Bytes.{sampleAt, wordAt, frameSize, frameCount}

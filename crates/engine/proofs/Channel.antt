@@ -8,9 +8,9 @@ use lib.IntN.{ℤ, pos, natAbs, _+ℤ_, _*ℤ_}
 use lib.ListN.{getD, set, length-set}
 use lib.Seq.{getD-set-same, getD-set-other}
 use Rattle.bands.specs.Words.{wordSize}
-use Rattle.bands.specs.Bands.{bandAt}
+use Rattle.bands.specs.Bands.{bandCount, bandAt}
 use Rattle.unit.specs.Lists.{tabulate}
-use Rattle.unit.specs.Cleared.{bandCount, bandsOf}
+use Rattle.unit.specs.Cleared.{bandsOf}
 use Rattle.unit.specs.Frame.{sumOf, channelFrame, exactMix}
 use Rattle.unit.specs.Fit.{SectionFit, BandFit}
 use Rattle.unit.proofs.Tabulate.{tabulate-cong, each-at, at-each, tabulate-length}

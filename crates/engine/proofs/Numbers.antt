@@ -9,14 +9,14 @@ use lib.IntN.{ℤ, pos, _+ℤ_}
 use lib.ListN.{length, getD, set, length-set}
 use lib.Seq.{getD-set-same, getD-set-other}
 use borrow.Author.Tests.{eqb-true, eqb-false}
+use Rattle.unit.specs.Sizes.{channelSize}
 use Rattle.integers.proofs.Parts.{terms-eq, var, _⊕_}
-use Rattle.bands.specs.Bands.{bandAt}
+use Rattle.bands.specs.Bands.{bandCount, bandAt}
 use Rattle.unit.specs.declared.BandSection.{BandSection}
 use Rattle.unit.specs.Lists.{tabulate, anyOf}
-use Rattle.unit.specs.Cleared.{bandCount}
 use Rattle.unit.specs.Frame.{sectionWork, sectionFrame, raised, share, sumOf}
 use Rattle.unit.proofs.Tabulate.{any-snoc, sum-snoc}
-use Rattle.engine.specs.Numbers.{channelSize, place, sectionAt, putSection, marked, turnedSection, limitsAt, turned}
+use Rattle.engine.specs.Numbers.{place, sectionAt, putSection, marked, turnedSection, limitsAt, turned}
 
 -- ---- one store
 

@@ -6,21 +6,18 @@ use Prim.Native.Nat.{ℕ, _+_, _*_, _≤_, _<_}
 use lib.IntN.{ℤ, pos, natAbs}
 use lib.ListN.{length, getD, set}
 use Rattle.bands.specs.Words.{wordSize}
-use Rattle.bands.specs.Bands.{bandAt}
+use Rattle.bands.specs.Bands.{bandCount, bandAt}
 use Rattle.unit.specs.declared.BandSection.{BandSection}
 use Rattle.unit.specs.declared.Channel.{Channel}
+use Rattle.unit.specs.Sizes.{headSize, sectionSize, channelSize}
 use Rattle.unit.specs.Lists.{tabulate, Each}
-use Rattle.unit.specs.Cleared.{bandCount, bandsOf}
+use Rattle.unit.specs.Cleared.{bandsOf}
 use Rattle.unit.specs.Frame.{sectionWork, sectionFrame, raised, channelFrame, mix}
 use Rattle.unit.specs.Fit.{BandFit, SectionFit, ChannelFit}
 
--- how many they are
-abbrev pub channelSize : ℕ
-channelSize = 43
-
 -- the place of section b's y1; y2, gain and target follow
 abbrev pub place : ℕ → ℕ
-place b = 4 * b + 3
+place b = sectionSize * b + headSize
 
 -- section b of a channel's numbers
 abbrev pub sectionAt : List ℤ → ℕ → BandSection

@@ -7,6 +7,7 @@ ghost use mathlib.Core.Bool.{not};
 ghost use Prim.Native.Nat.{_<_};
 ghost use Rattle.rounding.specs.Rounding.{limit};
 ghost use Rattle.bands.specs.Words.{wordLow, wordHigh, isWord};
+ghost use Rattle.bands.specs.Bands.{bandCount};
 ghost use Rattle.unit.specs.Frame.{share, output};
 ghost use Rattle.engine.specs.Numbers.{sectionAt, putSection, marked, turnedSection, turned, SectionTurnAsks, ChannelFrameAsks, ChannelFrameGives, OutputAsks};
 use levels::Level;
@@ -23,11 +24,11 @@ const SAMPLE_LOW: i64 = -32768;
 const SAMPLE_HIGH: i64 = 32767;
 
 // Section b of a channel.
-pub fn section_at(channel: &[i64; 43], b: usize) -> BandSection
-    requires { ⌜ b < 10 ⌝ }
+pub fn section_at(channel: &[i64; unit::CHANNEL_SIZE], b: usize) -> BandSection
+    requires { ⌜ b < bandCount ⌝ }
     ensures { λ r. ⌜ r ≡ sectionAt (now (channel .entry)) b ⌝ }
 {
-    let at = 4 * b + 3;
+    let at = unit::SECTION_SIZE * b + unit::HEAD_SIZE;
     let gain = Level {
         present: channel[at + 2],
         target: channel[at + 3],
@@ -40,11 +41,11 @@ pub fn section_at(channel: &[i64; 43], b: usize) -> BandSection
 }
 
 // Stores section b of a channel.
-pub fn put_section(channel: &mut [i64; 43], b: usize, section: BandSection)
-    requires { ⌜ b < 10 ⌝ }
+pub fn put_section(channel: &mut [i64; unit::CHANNEL_SIZE], b: usize, section: BandSection)
+    requires { ⌜ b < bandCount ⌝ }
     ensures { λ r. ⌜ now (channel .exit) ≡ putSection (now (channel .entry)) b section ⌝ }
 {
-    let at = 4 * b + 3;
+    let at = unit::SECTION_SIZE * b + unit::HEAD_SIZE;
     let y1 = section.y1;
     let y2 = section.y2;
     let present = section.gain.present;
@@ -56,18 +57,24 @@ pub fn put_section(channel: &mut [i64; 43], b: usize, section: BandSection)
 }
 
 // A section's rounded number limited to a word. The channel's flag is raised where it was no word.
-fn limit_word(channel: &mut [i64; 43], rounded: i64) -> i64
+fn limit_word(channel: &mut [i64; unit::CHANNEL_SIZE], rounded: i64) -> i64
     ensures { λ r. ⌜ (r ≡ limit wordLow wordHigh rounded) × (now (channel .exit) ≡ marked (not (isWord rounded)) (now (channel .entry))) ⌝ }
 {
     if rounding::in_range(bands::WORD_LOW, bands::WORD_HIGH, rounded) {
         return rounded;
     }
-    channel[2] = 1;
+    channel[unit::FLAG] = 1;
     rounding::saturate(bands::WORD_LOW, bands::WORD_HIGH, rounded)
 }
 
 // Section b's turn in a frame: its gain moves, equation (8) is worked, rounded and limited, and the results move on. Gives g × y.
-fn section_turn(bands: &[i64; 30], channel: &mut [i64; 43], b: usize, x: i64, x2: i64) -> i64
+fn section_turn(
+    bands: &[i64; bands::SET_SIZE],
+    channel: &mut [i64; unit::CHANNEL_SIZE],
+    b: usize,
+    x: i64,
+    x2: i64,
+) -> i64
     requires { ⌜ SectionTurnAsks (now bands) (now channel) b x x2 ⌝ }
     ensures { λ r. ⌜ (r ≡ share (turnedSection (now (bands .entry)) (now (channel .entry)) b x x2)) × (now (channel .exit) ≡ turned (now (bands .entry)) (now (channel .entry)) b x x2) ⌝ }
 {
@@ -77,9 +84,9 @@ fn section_turn(bands: &[i64; 30], channel: &mut [i64; 43], b: usize, x: i64, x2
     let level = before.gain;
     let gain = level.moved(levels::GAIN_SLOPE);
     // Read in the order in which the equation uses them: the compiled sum is shorter so.
-    let alpha = bands[3 * b];
-    let gamma = bands[3 * b + 2];
-    let beta = bands[3 * b + 1];
+    let alpha = bands[bands::BAND_SIZE * b];
+    let gamma = bands[bands::BAND_SIZE * b + 2];
+    let beta = bands[bands::BAND_SIZE * b + 1];
     let rounded = section::rounded_sum(alpha, beta, gamma, x, x2, y1, y2);
     let y = limit_word(channel, rounded);
     let after = BandSection {
@@ -92,7 +99,11 @@ fn section_turn(bands: &[i64; 30], channel: &mut [i64; 43], b: usize, x: i64, x2
 }
 
 // A channel's frame on the input word x: every section has its turn, and x and x1 move on. Gives m, T / 2^23 rounded and not limited.
-pub fn channel_frame(bands: &[i64; 30], channel: &mut [i64; 43], x: i64) -> i64
+pub fn channel_frame(
+    bands: &[i64; bands::SET_SIZE],
+    channel: &mut [i64; unit::CHANNEL_SIZE],
+    x: i64,
+) -> i64
     requires { ⌜ ChannelFrameAsks (now bands) (now channel) x ⌝ }
     ensures { λ r. ⌜ ChannelFrameGives (now (bands .entry)) (now (channel .entry)) x (now (channel .exit)) r ⌝ }
 {
@@ -100,7 +111,7 @@ pub fn channel_frame(bands: &[i64; 30], channel: &mut [i64; 43], x: i64) -> i64
     let x2 = channel[1];
     let mut total = 0x80_0000 * x;
     let mut b = 0;
-    while b < 10 {
+    while b < bands::BAND_COUNT {
         total += section_turn(bands, channel, b, x, x2);
         b += 1;
     }

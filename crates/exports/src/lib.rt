@@ -47,7 +47,7 @@ pub extern "C" fn fonddrys_band_refusal(alpha: i32, beta: i32, gamma: i32) -> u3
 
 // Fills the lent array with the house set.
 #[no_mangle]
-pub extern "C" fn fonddrys_house_set(words: &mut [i32; 30])
+pub extern "C" fn fonddrys_house_set(words: &mut [i32; bands::SET_SIZE])
     ensures { λ r. ⌜ now (words .exit) ≡ houseSet ⌝ }
 {
     *words = bands::house_set();
@@ -121,7 +121,7 @@ pub extern "C" fn fonddrys_level_moved(present: i32, target: i32, slope: u32) ->
 
 // 1 where the unit of the 118 lent numbers, in the order of the strip sheet, is fit, else 0.
 #[no_mangle]
-pub extern "C" fn fonddrys_unit_fit(numbers: &[i32; 118]) -> u32
+pub extern "C" fn fonddrys_unit_fit(numbers: &[i32; numbers::UNIT_SIZE]) -> u32
     ensures { λ r. ⌜ r ≡ flag (unitFits (unitOf (now (numbers .entry)))) ⌝ }
 {
     let unit = numbers::unit_of(numbers);
@@ -130,7 +130,7 @@ pub extern "C" fn fonddrys_unit_fit(numbers: &[i32; 118]) -> u32
 
 // Loads a band set: the lent numbers are then those of the loaded unit. 0 for an accepted set, else the number of its refusal.
 #[no_mangle]
-pub extern "C" fn fonddrys_load(numbers: &mut [i32; 118], set: &[i32]) -> u32
+pub extern "C" fn fonddrys_load(numbers: &mut [i32; numbers::UNIT_SIZE], set: &[i32]) -> u32
     ensures { λ r. ⌜ (r ≡ numberOf (loaded (now (set .entry)) .verdict)) × (now (numbers .exit) ≡ numbersOf (loaded (now (set .entry)) .unit)) ⌝ }
 {
     let answer = loading::load(set);
@@ -143,7 +143,11 @@ pub extern "C" fn fonddrys_load(numbers: &mut [i32; 118], set: &[i32]) -> u32
 // Plays a block of frames through the unit whose numbers are lent: they are then those of the unit after it, and the output begins with
 // the frames. 0 for an accepted block, else the number of its refusal: the lent numbers and the output are then as they were.
 #[no_mangle]
-pub extern "C" fn fonddrys_block(numbers: &mut [i32; 118], input: &[u8], output: &mut [u8]) -> u32
+pub extern "C" fn fonddrys_block(
+    numbers: &mut [i32; numbers::UNIT_SIZE],
+    input: &[u8],
+    output: &mut [u8],
+) -> u32
     ensures { λ r. ⌜ BlockGives (now (numbers .entry)) (now (input .entry)) (now (output .entry)) r (now (numbers .exit)) (now (output .exit)) ⌝ }
 {
     let unit = numbers::unit_of(numbers);
@@ -157,7 +161,7 @@ pub extern "C" fn fonddrys_block(numbers: &mut [i32; 118], input: &[u8], output:
 // after the order. 0 for an accepted order, else the number of its refusal: the lent numbers are then as they were.
 #[no_mangle]
 pub extern "C" fn fonddrys_order_position(
-    numbers: &mut [i32; 118],
+    numbers: &mut [i32; numbers::UNIT_SIZE],
     side: u32,
     band: u32,
     position: u8,
@@ -170,7 +174,7 @@ pub extern "C" fn fonddrys_order_position(
 // The same, to a factor from -1 (from 0 for the volume) to below 1.
 #[no_mangle]
 pub extern "C" fn fonddrys_order_factor(
-    numbers: &mut [i32; 118],
+    numbers: &mut [i32; numbers::UNIT_SIZE],
     side: u32,
     band: u32,
     factor: f32,
@@ -182,7 +186,11 @@ pub extern "C" fn fonddrys_order_factor(
 
 // The same, to mute: the target 0.
 #[no_mangle]
-pub extern "C" fn fonddrys_order_mute(numbers: &mut [i32; 118], side: u32, band: u32) -> u32
+pub extern "C" fn fonddrys_order_mute(
+    numbers: &mut [i32; numbers::UNIT_SIZE],
+    side: u32,
+    band: u32,
+) -> u32
     ensures { λ r. ⌜ OrderGives (now (numbers .entry)) side band Setting.Mute r (now (numbers .exit)) ⌝ }
 {
     give_order(numbers, side, band, Setting::Mute)
@@ -191,7 +199,10 @@ pub extern "C" fn fonddrys_order_mute(numbers: &mut [i32; 118], side: u32, band:
 // Writes the strip sheet of the unit whose numbers are lent to the front of the buffer, and gives the count of its bytes, 1,128. From a
 // shorter buffer, or for an unfit unit, the count is 0 and the buffer is as it was. Bytes behind the sheet keep their contents.
 #[no_mangle]
-pub extern "C" fn fonddrys_sheet_write(numbers: &[i32; 118], buffer: &mut [u8]) -> usize
+pub extern "C" fn fonddrys_sheet_write(
+    numbers: &[i32; numbers::UNIT_SIZE],
+    buffer: &mut [u8],
+) -> usize
     ensures { λ r. ⌜ SheetWriteGives (now (numbers .entry)) (now (buffer .entry)) r (now (buffer .exit)) ⌝ }
 {
     writing::fill_numbers(numbers, buffer)
@@ -200,10 +211,10 @@ pub extern "C" fn fonddrys_sheet_write(numbers: &[i32; 118], buffer: &mut [u8]) 
 // Reads a strip sheet: the lent numbers are then those of the unit that it carries. 0 for an accepted sheet, else the number of its
 // refusal: the lent numbers are then as they were.
 #[no_mangle]
-pub extern "C" fn fonddrys_sheet_read(numbers: &mut [i32; 118], bytes: &[u8]) -> u32
+pub extern "C" fn fonddrys_sheet_read(numbers: &mut [i32; numbers::UNIT_SIZE], bytes: &[u8]) -> u32
     ensures { λ r. ⌜ SheetReadGives (now (numbers .entry)) (now (bytes .entry)) r (now (numbers .exit)) ⌝ }
 {
-    let mut carried = [0i32; 118];
+    let mut carried = [0i32; numbers::UNIT_SIZE];
     let found = reading::read_numbers(bytes, &mut carried);
     if !refusals::accepted(found) {
         return refusals::number(found);
@@ -213,7 +224,12 @@ pub extern "C" fn fonddrys_sheet_read(numbers: &mut [i32; 118], bytes: &[u8]) ->
 }
 
 // Gives an order to the unit whose numbers are lent.
-fn give_order(numbers: &mut [i32; 118], side: u32, band: u32, setting: Setting) -> u32
+fn give_order(
+    numbers: &mut [i32; numbers::UNIT_SIZE],
+    side: u32,
+    band: u32,
+    setting: Setting,
+) -> u32
     ensures { λ r. ⌜ OrderGives (now (numbers .entry)) side band setting r (now (numbers .exit)) ⌝ }
 {
     let unit = numbers::unit_of(numbers);
@@ -224,7 +240,7 @@ fn give_order(numbers: &mut [i32; 118], side: u32, band: u32, setting: Setting) 
 }
 
 // Replaces the lent numbers by those of the unit after an accepted call, and answers the verdict's number.
-fn store(numbers: &mut [i32; 118], verdict: Verdict, after: Unit) -> u32
+fn store(numbers: &mut [i32; numbers::UNIT_SIZE], verdict: Verdict, after: Unit) -> u32
     requires { ⌜ (isAccepted verdict ≡ true → Fit after) ⌝ }
     ensures { λ r. ⌜ (r ≡ numberOf verdict) × (now (numbers .exit) ≡ numbersAfter (now (numbers .entry)) verdict after) ⌝ }
 {

@@ -36,11 +36,11 @@ fn volume_fits(level: Level) -> bool
 }
 
 // Whether every band is accepted.
-fn bands_fit(bands: [Band; 10]) -> bool
+fn bands_fit(bands: [Band; bands::BAND_COUNT]) -> bool
     ensures { λ r. ⌜ r ≡ every bandFits bands ⌝ }
 {
     let mut i = 0;
-    while i < 10 {
+    while i < bands::BAND_COUNT {
         let band = bands[i];
         let verdict = bands::check_band(band);
         if !refusals::accepted(verdict) {
@@ -52,11 +52,11 @@ fn bands_fit(bands: [Band; 10]) -> bool
 }
 
 // Whether both channels are fit.
-fn channels_fit(channels: [Channel; 2]) -> bool
+fn channels_fit(channels: [Channel; unit::CHANNEL_COUNT]) -> bool
     ensures { λ r. ⌜ r ≡ every channelFits channels ⌝ }
 {
     let mut i = 0;
-    while i < 2 {
+    while i < unit::CHANNEL_COUNT {
         let channel = channels[i];
         if !channel_fits(channel) {
             return false;
@@ -94,11 +94,11 @@ pub fn input_fits(v: i64) -> bool
 }
 
 // Whether every section is fit.
-fn sections_fit(sections: [BandSection; 10]) -> bool
+fn sections_fit(sections: [BandSection; bands::BAND_COUNT]) -> bool
     ensures { λ r. ⌜ r ≡ every sectionFits sections ⌝ }
 {
     let mut i = 0;
-    while i < 10 {
+    while i < bands::BAND_COUNT {
         let section = sections[i];
         if !section_fits(section) {
             return false;

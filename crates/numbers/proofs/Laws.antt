@@ -7,10 +7,10 @@ use native.Mathlib.Omega.{arith}
 use lib.IntN.{ℤ, pos}
 use lib.ListN.{length, getD, take, drop, take-append-drop, length-drop}
 use lib.Seq.{take-add, drop-cons, take-all, drop-drop}
-use Rattle.bands.specs.Bands.{bandAt}
+use Rattle.unit.specs.Sizes.{channelSize}
+use Rattle.bands.specs.Bands.{bandCount, bandAt}
 use Rattle.unit.specs.Lists.{tabulate}
-use Rattle.unit.specs.Cleared.{bandCount}
-use Rattle.engine.specs.Numbers.{channelSize, place, sectionAt, channelOf}
+use Rattle.engine.specs.Numbers.{place, sectionAt, channelOf}
 use Rattle.numbers.specs.Layout.{unitSize, bandsPlace, leftPlace, rightPlace, joined, bandNumbers, sectionNumbers, channelNumbers, numbersOf, unitOf}
 use Rattle.numbers.proofs.Put.{joined-snoc}
 

@@ -6,16 +6,17 @@ use native.Mathlib.Omega.{arith}
 use lib.IntN.{ℤ, pos}
 use lib.ListN.{length, getD, drop, length-append}
 use lib.Seq.{drop-at, drop-drop}
-use Rattle.bands.specs.Bands.{bandAt}
+use Rattle.unit.specs.Sizes.{channelSize}
+use Rattle.bands.specs.Bands.{bandCount, bandAt}
 use Rattle.bands.specs.declared.Band.{Band}
 use Rattle.unit.specs.declared.BandSection.{BandSection}
 use Rattle.unit.specs.declared.Channel.{Channel}
 use Rattle.unit.specs.declared.Unit.{Unit}
 use Rattle.unit.specs.Lists.{tabulate, Each}
-use Rattle.unit.specs.Cleared.{bandCount, bandsOf, clearedBandSection}
+use Rattle.unit.specs.Cleared.{bandsOf, clearedBandSection}
 use Rattle.unit.proofs.Tabulate.{tabulate-cong, tabulate-all}
 use Rattle.unit.proofs.PastEnd.{zeroBand}
-use Rattle.engine.specs.Numbers.{channelSize, place, sectionAt, channelOf}
+use Rattle.engine.specs.Numbers.{place, sectionAt, channelOf}
 use Rattle.numbers.specs.Layout.{unitSize, joined, bandNumbers, sectionNumbers, channelNumbers, numbersOf, unitOf, Shaped}
 
 -- ---- how many numbers

@@ -2,31 +2,33 @@
 -- "In order: V (volume, target); ten C (A, B, G); L (x1, x2, flag); ten S (y1, y2, gain, target); R as L; ten S."
 use mathlib.Core.Path.{_≡_}
 use mathlib.Core.List.{List, [], _∷_, _++_}
-use Prim.Native.Nat.{ℕ, _≤_}
+use Prim.Native.Nat.{ℕ, _+_, _≤_}
 use lib.IntN.{ℤ, pos}
 use lib.ListN.{length, getD, take, drop}
+use Rattle.bands.specs.Bands.{bandCount, setSize}
 use Rattle.bands.specs.declared.Band.{Band}
 use Rattle.levels.specs.declared.Level.{Level}
 use Rattle.unit.specs.declared.BandSection.{BandSection}
 use Rattle.unit.specs.declared.Channel.{Channel}
 use Rattle.unit.specs.declared.Unit.{Unit}
+use Rattle.unit.specs.Sizes.{channelCount, channelSize}
 use Rattle.unit.specs.Lists.{Each}
-use Rattle.unit.specs.Cleared.{bandCount, bandsOf}
+use Rattle.unit.specs.Cleared.{bandsOf}
 use Rattle.engine.specs.Numbers.{channelOf}
 
--- how many they are: 2, ten times 3, and twice 43
-abbrev pub unitSize : ℕ
-unitSize = 118
-
--- where the numbers of the bands, of the left channel and of the right channel begin
+-- where the numbers of the bands, of the left channel and of the right channel begin, behind the volume and its target
 abbrev pub bandsPlace : ℕ
 bandsPlace = 2
 
 abbrev pub leftPlace : ℕ
-leftPlace = 32
+leftPlace = bandsPlace + setSize
 
 abbrev pub rightPlace : ℕ
-rightPlace = 75
+rightPlace = leftPlace + channelSize
+
+-- how many they are
+abbrev pub unitSize : ℕ
+unitSize = rightPlace + channelSize
 
 -- ---- a unit's numbers
 
@@ -67,7 +69,7 @@ unitOf l =
 -- ten bands, and two channels of ten sections
 pub record Shaped (u : Unit) : Type 0 where
   pub bands : length (u .bands) ≡ bandCount
-  pub channels : length (u .channels) ≡ 2
+  pub channels : length (u .channels) ≡ channelCount
   pub sections : Each (λ (c : Channel). length (c .sections) ≡ bandCount) (u .channels)
 
 -- ---- storing a unit's numbers from the front

@@ -1,10 +1,11 @@
 // The unit as 118 numbers of 32 bits, in the order of the strip sheet: the volume and its target; A, B, G of each band; then of the
 // left and of the right channel x1, x2, flag, and y1, y2, gain and target of each section.
 ghost use mathlib.Core.Path.{_≡_};
-ghost use Prim.Native.Nat.{_+_, _<_, _≤_};
+ghost use Prim.Native.Nat.{_*_, _+_, _<_, _≤_};
 ghost use lib.IntN.{pos};
 ghost use lib.ListN.{length, getD, drop};
-ghost use Rattle.bands.specs.Bands.{bandAt};
+ghost use Rattle.unit.specs.Sizes.{sectionSize, channelSize};
+ghost use Rattle.bands.specs.Bands.{bandSize, bandCount, bandAt};
 ghost use Rattle.unit.specs.Lists.{Each};
 ghost use Rattle.unit.specs.Cleared.{bandsOf};
 ghost use Rattle.unit.specs.Fit.{VolumeFit, SectionFit, ChannelFit, Fit};
@@ -16,15 +17,19 @@ use unit::BandSection;
 use unit::Channel;
 use unit::Unit;
 
-// Where the numbers of the bands, of the left channel and of the right channel begin.
+// Where the numbers of the bands, of the left channel and of the right channel begin: behind the volume and its target, and one after the
+// other.
 pub const BANDS: usize = 2;
 
-pub const LEFT: usize = 32;
+pub const LEFT: usize = BANDS + bands::SET_SIZE;
 
-pub const RIGHT: usize = 75;
+pub const RIGHT: usize = LEFT + unit::CHANNEL_SIZE;
+
+// How many numbers a unit has.
+pub const UNIT_SIZE: usize = RIGHT + unit::CHANNEL_SIZE;
 
 // The unit that the numbers stand for.
-pub fn unit_of(numbers: &[i32; 118]) -> Unit
+pub fn unit_of(numbers: &[i32; UNIT_SIZE]) -> Unit
     ensures { λ r. ⌜ r ≡ unitOf (now (numbers .entry)) ⌝ }
 {
     let present = number_at(numbers, 0);
@@ -41,7 +46,7 @@ pub fn unit_of(numbers: &[i32; 118]) -> Unit
 }
 
 // The ten bands.
-fn bands_of(numbers: &[i32; 118]) -> [Band; 10]
+fn bands_of(numbers: &[i32; UNIT_SIZE]) -> [Band; bands::BAND_COUNT]
     ensures { λ r. ⌜ r ≡ bandsOf (drop bandsPlace (now (numbers .entry))) ⌝ }
 {
     let zero = Band {
@@ -49,9 +54,9 @@ fn bands_of(numbers: &[i32; 118]) -> [Band; 10]
         beta: 0,
         gamma: 0,
     };
-    let mut bands = [zero; 10];
+    let mut bands = [zero; bands::BAND_COUNT];
     let mut b = 0;
-    while b < 10 {
+    while b < bands::BAND_COUNT {
         let band = band_at(numbers, b);
         bands[b] = band;
         b += 1;
@@ -60,11 +65,11 @@ fn bands_of(numbers: &[i32; 118]) -> [Band; 10]
 }
 
 // Band b.
-fn band_at(numbers: &[i32; 118], b: usize) -> Band
-    requires { ⌜ b < 10 ⌝ }
+fn band_at(numbers: &[i32; UNIT_SIZE], b: usize) -> Band
+    requires { ⌜ b < bandCount ⌝ }
     ensures { λ r. ⌜ r ≡ bandAt (drop bandsPlace (now (numbers .entry))) b ⌝ }
 {
-    let at = 3 * b + BANDS;
+    let at = bands::BAND_SIZE * b + BANDS;
     Band {
         alpha: numbers[at],
         beta: numbers[at + 1],
@@ -73,13 +78,13 @@ fn band_at(numbers: &[i32; 118], b: usize) -> Band
 }
 
 // The channel whose numbers begin at start.
-fn channel_of(numbers: &[i32; 118], start: usize) -> Channel
+fn channel_of(numbers: &[i32; UNIT_SIZE], start: usize) -> Channel
     requires { ⌜ start ≤ rightPlace ⌝ }
     ensures { λ r. ⌜ r ≡ channelOf (drop start (now (numbers .entry))) ⌝ }
 {
     let x1 = number_at(numbers, start);
     let x2 = number_at(numbers, start + 1);
-    let flag = number_at(numbers, start + 2);
+    let flag = number_at(numbers, start + unit::FLAG);
     let sections = sections_of(numbers, start);
     Channel {
         x1,
@@ -90,7 +95,7 @@ fn channel_of(numbers: &[i32; 118], start: usize) -> Channel
 }
 
 // Its ten sections.
-fn sections_of(numbers: &[i32; 118], start: usize) -> [BandSection; 10]
+fn sections_of(numbers: &[i32; UNIT_SIZE], start: usize) -> [BandSection; bands::BAND_COUNT]
     requires { ⌜ start ≤ rightPlace ⌝ }
     ensures { λ r. ⌜ r ≡ channelOf (drop start (now (numbers .entry))) .sections ⌝ }
 {
@@ -103,9 +108,9 @@ fn sections_of(numbers: &[i32; 118], start: usize) -> [BandSection; 10]
         y2: 0,
         gain: zero,
     };
-    let mut sections = [empty; 10];
+    let mut sections = [empty; bands::BAND_COUNT];
     let mut b = 0;
-    while b < 10 {
+    while b < bands::BAND_COUNT {
         let section = section_at(numbers, start, b);
         sections[b] = section;
         b += 1;
@@ -114,11 +119,11 @@ fn sections_of(numbers: &[i32; 118], start: usize) -> [BandSection; 10]
 }
 
 // Its section b.
-fn section_at(numbers: &[i32; 118], start: usize, b: usize) -> BandSection
-    requires { ⌜ (start ≤ rightPlace) × (b < 10) ⌝ }
+fn section_at(numbers: &[i32; UNIT_SIZE], start: usize, b: usize) -> BandSection
+    requires { ⌜ (start ≤ rightPlace) × (b < bandCount) ⌝ }
     ensures { λ r. ⌜ r ≡ sectionAt (drop start (now (numbers .entry))) b ⌝ }
 {
-    let at = start + 4 * b + 3;
+    let at = start + unit::SECTION_SIZE * b + unit::HEAD_SIZE;
     let y1 = number_at(numbers, at);
     let y2 = number_at(numbers, at + 1);
     let present = number_at(numbers, at + 2);
@@ -128,7 +133,7 @@ fn section_at(numbers: &[i32; 118], start: usize, b: usize) -> BandSection
 }
 
 // The number at a place.
-fn number_at(numbers: &[i32; 118], at: usize) -> i64
+fn number_at(numbers: &[i32; UNIT_SIZE], at: usize) -> i64
     requires { ⌜ at < unitSize ⌝ }
     ensures { λ r. ⌜ r ≡ getD (now (numbers .entry)) at (pos 0) ⌝ }
 {
@@ -136,14 +141,14 @@ fn number_at(numbers: &[i32; 118], at: usize) -> i64
 }
 
 // The numbers of a fit unit.
-pub fn numbers_of(unit: Unit) -> [i32; 118]
+pub fn numbers_of(unit: Unit) -> [i32; UNIT_SIZE]
     requires { ⌜ Fit unit ⌝ }
     ensures { λ r. ⌜ r ≡ numbersOf unit ⌝ }
 {
     let volume = unit.volume;
     let bands = unit.bands;
     let channels = unit.channels;
-    let mut out = [0i32; 118];
+    let mut out = [0i32; UNIT_SIZE];
     put_volume(&mut out, volume);
     put_bands(&mut out, bands);
     put_channels(&mut out, channels);
@@ -151,7 +156,7 @@ pub fn numbers_of(unit: Unit) -> [i32; 118]
 }
 
 // Stores the volume.
-fn put_volume(out: &mut [i32; 118], volume: Level)
+fn put_volume(out: &mut [i32; UNIT_SIZE], volume: Level)
     requires { ⌜ (length (now out) ≡ unitSize) × VolumeFit volume ⌝ }
     ensures { λ r. ⌜ PutGives (now (out .entry)) 0 (volumeNumbers volume) bandsPlace (now (out .exit)) ⌝ }
 {
@@ -162,22 +167,22 @@ fn put_volume(out: &mut [i32; 118], volume: Level)
 }
 
 // Stores the ten bands.
-fn put_bands(out: &mut [i32; 118], bands: [Band; 10])
+fn put_bands(out: &mut [i32; UNIT_SIZE], bands: [Band; bands::BAND_COUNT])
     requires { ⌜ length (now out) ≡ unitSize ⌝ }
     ensures { λ r. ⌜ PutGives (now (out .entry)) bandsPlace (joined bandNumbers bands) leftPlace (now (out .exit)) ⌝ }
 {
     let mut b = 0;
-    while b < 10 {
+    while b < bands::BAND_COUNT {
         let band = bands[b];
-        put_band(out, 3 * b + BANDS, band);
+        put_band(out, bands::BAND_SIZE * b + BANDS, band);
         b += 1;
     }
 }
 
 // Stores a band from place at on.
-fn put_band(out: &mut [i32; 118], at: usize, band: Band)
-    requires { ⌜ (length (now out) ≡ unitSize) × (at + 3 ≤ unitSize) ⌝ }
-    ensures { λ r. ⌜ PutGives (now (out .entry)) at (bandNumbers band) (at + 3) (now (out .exit)) ⌝ }
+fn put_band(out: &mut [i32; UNIT_SIZE], at: usize, band: Band)
+    requires { ⌜ (length (now out) ≡ unitSize) × (at + bandSize ≤ unitSize) ⌝ }
+    ensures { λ r. ⌜ PutGives (now (out .entry)) at (bandNumbers band) (at + bandSize) (now (out .exit)) ⌝ }
 {
     let alpha = band.alpha;
     let beta = band.beta;
@@ -188,7 +193,7 @@ fn put_band(out: &mut [i32; 118], at: usize, band: Band)
 }
 
 // Stores both channels.
-fn put_channels(out: &mut [i32; 118], channels: [Channel; 2])
+fn put_channels(out: &mut [i32; UNIT_SIZE], channels: [Channel; unit::CHANNEL_COUNT])
     requires { ⌜ (length (now out) ≡ unitSize) × Each ChannelFit channels ⌝ }
     ensures { λ r. ⌜ PutGives (now (out .entry)) leftPlace (joined channelNumbers channels) unitSize (now (out .exit)) ⌝ }
 {
@@ -199,9 +204,9 @@ fn put_channels(out: &mut [i32; 118], channels: [Channel; 2])
 }
 
 // Stores a channel from place start on.
-fn put_channel(out: &mut [i32; 118], start: usize, channel: Channel)
+fn put_channel(out: &mut [i32; UNIT_SIZE], start: usize, channel: Channel)
     requires { ⌜ (length (now out) ≡ unitSize) × (start ≤ rightPlace) × ChannelFit channel ⌝ }
-    ensures { λ r. ⌜ PutGives (now (out .entry)) start (channelNumbers channel) (start + 43) (now (out .exit)) ⌝ }
+    ensures { λ r. ⌜ PutGives (now (out .entry)) start (channelNumbers channel) (start + channelSize) (now (out .exit)) ⌝ }
 {
     let x1 = channel.x1 as i32;
     let x2 = channel.x2 as i32;
@@ -209,27 +214,31 @@ fn put_channel(out: &mut [i32; 118], start: usize, channel: Channel)
     let sections = channel.sections;
     out[start] = x1;
     out[start + 1] = x2;
-    out[start + 2] = flag;
-    put_sections(out, start + 3, sections);
+    out[start + unit::FLAG] = flag;
+    put_sections(out, start + unit::HEAD_SIZE, sections);
 }
 
 // Stores ten sections from place start on.
-fn put_sections(out: &mut [i32; 118], start: usize, sections: [BandSection; 10])
-    requires { ⌜ (length (now out) ≡ unitSize) × (start + 40 ≤ unitSize) × Each SectionFit sections ⌝ }
-    ensures { λ r. ⌜ PutGives (now (out .entry)) start (joined sectionNumbers sections) (start + 40) (now (out .exit)) ⌝ }
+fn put_sections(
+    out: &mut [i32; UNIT_SIZE],
+    start: usize,
+    sections: [BandSection; bands::BAND_COUNT],
+)
+    requires { ⌜ (length (now out) ≡ unitSize) × (start + sectionSize * bandCount ≤ unitSize) × Each SectionFit sections ⌝ }
+    ensures { λ r. ⌜ PutGives (now (out .entry)) start (joined sectionNumbers sections) (start + sectionSize * bandCount) (now (out .exit)) ⌝ }
 {
     let mut b = 0;
-    while b < 10 {
+    while b < bands::BAND_COUNT {
         let section = sections[b];
-        put_section(out, start + 4 * b, section);
+        put_section(out, start + unit::SECTION_SIZE * b, section);
         b += 1;
     }
 }
 
 // Stores a section from place at on.
-fn put_section(out: &mut [i32; 118], at: usize, section: BandSection)
-    requires { ⌜ (length (now out) ≡ unitSize) × (at + 4 ≤ unitSize) × SectionFit section ⌝ }
-    ensures { λ r. ⌜ PutGives (now (out .entry)) at (sectionNumbers section) (at + 4) (now (out .exit)) ⌝ }
+fn put_section(out: &mut [i32; UNIT_SIZE], at: usize, section: BandSection)
+    requires { ⌜ (length (now out) ≡ unitSize) × (at + sectionSize ≤ unitSize) × SectionFit section ⌝ }
+    ensures { λ r. ⌜ PutGives (now (out .entry)) at (sectionNumbers section) (at + sectionSize) (now (out .exit)) ⌝ }
 {
     let y1 = section.y1 as i32;
     let y2 = section.y2 as i32;

@@ -10,6 +10,7 @@ use lib.Dec.{T, eqb, leb, ltb}
 use lib.IntN.{ℤ, pos, _-ℤ_, _*ℤ_}
 use lib.Ieee.{Float}
 use borrow.Author.Tests.{ltb-true, ltb-false, lt-ltb, le-ltb, ne-eqb, leb-true, leb-false, eqb-true, eq-eqb}
+use Rattle.bands.specs.Bands.{bandCount}
 use Rattle.integers.proofs.Parts.{linear, var, _⊖_, _⊗_}
 use Rattle.rounding.specs.Rounding.{within}
 use Rattle.rounding.proofs.Limit.{within-bounds, bounds-within}
@@ -19,7 +20,6 @@ use Rattle.refusals.proofs.Laws.{unless-accepted}
 use Rattle.floats.proofs.Laws.{volume-band, target-word as factor-word, volume-target}
 use Rattle.floats.specs.Value.{isFinite, inRange, isFactor, bandLowest, volumeLowest}
 use Rattle.bands.specs.Words.{wordLow, wordHigh, isWord}
-use Rattle.unit.specs.Cleared.{bandCount}
 use Rattle.unit.specs.Fit.{isVolume, SectionFit, ChannelFit, Fit, unitFits}
 use Rattle.unit.specs.declared.BandSection.{BandSection}
 use Rattle.unit.specs.declared.Channel.{Channel}

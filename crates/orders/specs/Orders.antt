@@ -4,13 +4,13 @@ use mathlib.Core.Bool.{Bool, cond, _&&_, _||_}
 use Prim.Native.Nat.{ℕ}
 use lib.Dec.{eqb, leb, ltb}
 use lib.IntN.{ℤ, pos, _-ℤ_, _*ℤ_}
+use Rattle.bands.specs.Bands.{bandCount}
 use Rattle.refusals.specs.Numbers.{unless, isAccepted}
 use Rattle.refusals.specs.declared.Verdict.{Verdict}
 use Rattle.refusals.specs.declared.Verdict.the-variants.{Accepted, NoPlace, PositionOver, NotFinite, FactorRange, Unfit}
 use Rattle.floats.specs.Value.{isFinite, inRange, bandLowest, volumeLowest, factorTarget}
 use Rattle.levels.specs.Levels.{aimed}
 use Rattle.unit.specs.Lists.{changed}
-use Rattle.unit.specs.Cleared.{bandCount}
 use Rattle.unit.specs.Fit.{unitFits}
 use Rattle.unit.specs.declared.BandSection.{BandSection}
 use Rattle.unit.specs.declared.Channel.{Channel}

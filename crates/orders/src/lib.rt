@@ -3,11 +3,11 @@ ghost use mathlib.Core.Path.{_≡_};
 ghost use mathlib.Core.Bool.{true, cond};
 ghost use Prim.Native.Nat.{_<_};
 ghost use lib.Dec.{eqb, leb};
+ghost use Rattle.bands.specs.Bands.{bandCount};
 ghost use Rattle.refusals.specs.Numbers.{isAccepted, unless};
 ghost use Rattle.floats.specs.Value.{isFactor};
 ghost use Rattle.levels.specs.Levels.{aimed};
 ghost use Rattle.unit.specs.Lists.{changed};
-ghost use Rattle.unit.specs.Cleared.{bandCount};
 ghost use Rattle.orders.specs.Orders.{isPlace, names, lastPosition, bandStep, targetOf, lowest, levelVerdict, orderArguments, aimedSection, aimedChannel, aimedUnit, ordered};
 use levels::Level;
 use refusals::Verdict;
@@ -193,7 +193,12 @@ fn aim_unit(unit: Unit, side: u32, band: u32, target: i64) -> Unit
 }
 
 // The channels, the band's target set on each that the side names.
-fn aim_channels(channels: [Channel; 2], side: u32, band: usize, target: i64) -> [Channel; 2]
+fn aim_channels(
+    channels: [Channel; unit::CHANNEL_COUNT],
+    side: u32,
+    band: usize,
+    target: i64,
+) -> [Channel; unit::CHANNEL_COUNT]
     requires { ⌜ band < bandCount ⌝ }
     ensures { λ r. ⌜ r ≡ changed (names side) (aimedChannel band target) channels ⌝ }
 {
@@ -234,7 +239,11 @@ fn aim_channel(channel: Channel, band: usize, target: i64) -> Channel
 }
 
 // The sections with the target of one set.
-fn aim_sections(sections: [BandSection; 10], band: usize, target: i64) -> [BandSection; 10]
+fn aim_sections(
+    sections: [BandSection; bands::BAND_COUNT],
+    band: usize,
+    target: i64,
+) -> [BandSection; bands::BAND_COUNT]
     requires { ⌜ band < bandCount ⌝ }
     ensures { λ r. ⌜ r ≡ changed (eqb band) (aimedSection target) sections ⌝ }
 {

@@ -4,11 +4,12 @@ use mathlib.Core.List.{List}
 use Prim.Native.Nat.{ℕ, _<_}
 use lib.IntN.{ℤ, pos}
 use lib.ListN.{length, getD}
+use Rattle.unit.specs.Sizes.{channelSize}
+use Rattle.bands.specs.Bands.{bandCount}
 use Rattle.unit.specs.declared.BandSection.{BandSection}
 use Rattle.unit.specs.declared.Channel.{Channel}
 use Rattle.unit.specs.Lists.{tabulate}
-use Rattle.unit.specs.Cleared.{bandCount}
-use Rattle.engine.specs.Numbers.{channelSize, sectionAt, channelOf}
+use Rattle.engine.specs.Numbers.{sectionAt, channelOf}
 
 -- the numbers stand for the channel, and there are as many as a channel has
 pub record ChannelNumbersGives (c : Channel) (l : List ℤ) : Type 0 where

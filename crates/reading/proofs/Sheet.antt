@@ -5,8 +5,8 @@ use mathlib.Core.List.{List, _∷_, _++_}
 use Prim.Native.Nat.{ℕ, _+_}
 use lib.ListN.{length, drop, replicate, length-append}
 use lib.Seq.{drop-drop}
+use Rattle.bands.specs.Bands.{bandCount}
 use Rattle.refusals.specs.Numbers.{isAccepted}
-use Rattle.unit.specs.Cleared.{bandCount}
 use Rattle.sheet.specs.declared.Line.{Line}
 use Rattle.sheet.specs.declared.Line.the-variants.{Volume, Band, Left, Section, Right}
 use Rattle.sheet.specs.Lines.{lines, channelRanges}

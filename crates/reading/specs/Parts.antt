@@ -8,11 +8,11 @@ use lib.Dec.{eqb}
 use lib.IntN.{ℤ}
 use lib.ListN.{length, getD, take, drop, replicate}
 use lib.Seq.{sets}
+use Rattle.bands.specs.Bands.{bandCount}
 use Rattle.refusals.specs.Numbers.{isAccepted, unless, firstOf}
 use Rattle.refusals.specs.declared.Verdict.{Verdict}
 use Rattle.refusals.specs.declared.Verdict.the-variants.{Accepted, SheetLength}
 use Rattle.fields.specs.Fields.{fieldSize, numberIn}
-use Rattle.unit.specs.Cleared.{bandCount}
 use Rattle.sheet.specs.declared.Line.{Line}
 use Rattle.sheet.specs.declared.Line.the-variants.{Left, Section}
 use Rattle.sheet.specs.Lines.{sheetSize, lineFeed, lines, letterOf, channelRanges, rangesOf, together, lineSize}

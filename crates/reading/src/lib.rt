@@ -3,11 +3,10 @@
 ghost use mathlib.Core.Path.{_≡_};
 ghost use Prim.Native.Nat.{_+_, _*_, _≤_};
 ghost use lib.ListN.{length, take, drop, replicate};
+ghost use Rattle.unit.specs.Sizes.{channelSize};
 ghost use Rattle.rounding.specs.Rounding.{within};
-ghost use Rattle.bands.specs.Bands.{bandVerdict, bandAt};
-ghost use Rattle.unit.specs.Cleared.{bandCount};
+ghost use Rattle.bands.specs.Bands.{bandSize, bandCount, bandVerdict, bandAt};
 ghost use Rattle.unit.specs.Fit.{isInput};
-ghost use Rattle.engine.specs.Numbers.{channelSize};
 ghost use Rattle.numbers.specs.Layout.{unitSize, bandsPlace};
 ghost use Rattle.fields.specs.Fields.{fieldSize};
 ghost use Rattle.sheet.specs.Lines.{sheetSize, lines, channelRanges, fieldCount, lineSize};
@@ -27,7 +26,7 @@ const MOST: i64 = 999_999_999;
 const VOLUME_LEAST: i64 = 0;
 
 // Where the flag of an L or an R line stands behind its first field.
-const FLAG_AT: usize = 18;
+const FLAG_AT: usize = fields::FIELD_SIZE * unit::FLAG;
 
 // What reading a sheet gives.
 pub struct SheetRead {
@@ -39,7 +38,7 @@ pub struct SheetRead {
 pub fn read(bytes: &[u8], given: Unit) -> SheetRead
     ensures { λ r. ⌜ r ≡ sheetRead (now (bytes .entry)) given ⌝ }
 {
-    let mut numbers = [0i32; 118];
+    let mut numbers = [0i32; numbers::UNIT_SIZE];
     let verdict = read_numbers(bytes, &mut numbers);
     if refusals::accepted(verdict) {
         let unit = numbers::unit_of(&numbers);
@@ -52,7 +51,7 @@ pub fn read(bytes: &[u8], given: Unit) -> SheetRead
 }
 
 // Reads a sheet into a unit's numbers: 11 for a wrong length, then the first refusal from the first byte on.
-pub fn read_numbers(bytes: &[u8], numbers: &mut [i32; 118]) -> Verdict
+pub fn read_numbers(bytes: &[u8], numbers: &mut [i32; numbers::UNIT_SIZE]) -> Verdict
     requires { ⌜ length (now numbers) ≡ unitSize ⌝ }
     ensures { λ r. ⌜ ReadGives (sheetPart (now (bytes .entry))) (now (numbers .entry)) 0 r (now (numbers .exit)) ⌝ }
 {
@@ -63,7 +62,7 @@ pub fn read_numbers(bytes: &[u8], numbers: &mut [i32; 118]) -> Verdict
 }
 
 // Reads all lines: the V line, ten C lines, then the lines of the left and of the right channel.
-fn read_lines(bytes: &[u8], numbers: &mut [i32; 118]) -> Verdict
+fn read_lines(bytes: &[u8], numbers: &mut [i32; numbers::UNIT_SIZE]) -> Verdict
     requires { ⌜ (length (now bytes) ≡ sheetSize) × (length (now numbers) ≡ unitSize) ⌝ }
     ensures { λ r. ⌜ ReadGives (linesPart lines (now (bytes .entry))) (now (numbers .entry)) 0 r (now (numbers .exit)) ⌝ }
 {
@@ -104,12 +103,12 @@ fn read_lines(bytes: &[u8], numbers: &mut [i32; 118]) -> Verdict
 }
 
 // Reads the ten C lines.
-fn read_bands(bytes: &[u8], numbers: &mut [i32; 118]) -> Verdict
+fn read_bands(bytes: &[u8], numbers: &mut [i32; numbers::UNIT_SIZE]) -> Verdict
     requires { ⌜ (length (now bytes) ≡ sheetSize) × (length (now numbers) ≡ unitSize) ⌝ }
     ensures { λ r. ⌜ ReadGives (linesPart (replicate bandCount Line.Band) (drop (lineSize Line.Volume) (now (bytes .entry)))) (now (numbers .entry)) bandsPlace r (now (numbers .exit)) ⌝ }
 {
     let mut i = 0;
-    while i < 10 {
+    while i < bands::BAND_COUNT {
         let at = sheet::BAND_LINE * i + sheet::BANDS_AT;
         let found = read_band(bytes, at, numbers, sheet::BAND_FIELDS * i + numbers::BANDS);
         if !refusals::accepted(found) {
@@ -121,7 +120,12 @@ fn read_bands(bytes: &[u8], numbers: &mut [i32; 118]) -> Verdict
 }
 
 // Reads a C line from place at on: 8 to 10 stand behind its fields and ahead of its line end.
-fn read_band(bytes: &[u8], at: usize, numbers: &mut [i32; 118], place: usize) -> Verdict
+fn read_band(
+    bytes: &[u8],
+    at: usize,
+    numbers: &mut [i32; numbers::UNIT_SIZE],
+    place: usize,
+) -> Verdict
     requires { ⌜ (at + lineSize Line.Band ≤ length (now bytes)) × (length (now numbers) ≡ unitSize) × (place + fieldCount Line.Band ≤ unitSize) ⌝ }
     ensures { λ r. ⌜ ReadGives (linePart Line.Band (drop at (now (bytes .entry)))) (now (numbers .entry)) place r (now (numbers .exit)) ⌝ }
 {
@@ -153,7 +157,7 @@ fn read_channel(
     bytes: &[u8],
     at: usize,
     letter: u8,
-    numbers: &mut [i32; 118],
+    numbers: &mut [i32; numbers::UNIT_SIZE],
     place: usize,
 ) -> Verdict
     requires { ⌜ (at + (lineSize Line.Left + lineSize Line.Section * bandCount) ≤ length (now bytes)) × (length (now numbers) ≡ unitSize) × (place + channelSize ≤ unitSize) ⌝ }
@@ -165,14 +169,20 @@ fn read_channel(
     }
     read_sections(
         bytes,
-        at + sheet::BAND_LINE,
+        at + sheet::CHANNEL_LINE,
         numbers,
         place + sheet::CHANNEL_FIELDS,
     )
 }
 
 // Reads an L or an R line from place at on.
-fn read_head(bytes: &[u8], at: usize, letter: u8, numbers: &mut [i32; 118], place: usize) -> Verdict
+fn read_head(
+    bytes: &[u8],
+    at: usize,
+    letter: u8,
+    numbers: &mut [i32; numbers::UNIT_SIZE],
+    place: usize,
+) -> Verdict
     requires { ⌜ (at + lineSize Line.Left ≤ length (now bytes)) × (length (now numbers) ≡ unitSize) × (place + fieldCount Line.Left ≤ unitSize) ⌝ }
     ensures { λ r. ⌜ ReadGives (plainPart letter channelRanges (drop at (now (bytes .entry)))) (now (numbers .entry)) place r (now (numbers .exit)) ⌝ }
 {
@@ -184,11 +194,16 @@ fn read_head(bytes: &[u8], at: usize, letter: u8, numbers: &mut [i32; 118], plac
     if !refusals::accepted(middle) {
         return middle;
     }
-    check_mark(bytes[at + sheet::BAND_END], sheet::LINE_FEED)
+    check_mark(bytes[at + sheet::CHANNEL_END], sheet::LINE_FEED)
 }
 
 // Reads the fields of an L or an R line from place at on: two inputs and a flag.
-fn read_state(bytes: &[u8], at: usize, numbers: &mut [i32; 118], place: usize) -> Verdict
+fn read_state(
+    bytes: &[u8],
+    at: usize,
+    numbers: &mut [i32; numbers::UNIT_SIZE],
+    place: usize,
+) -> Verdict
     requires { ⌜ (at + fieldSize * fieldCount Line.Left ≤ length (now bytes)) × (length (now numbers) ≡ unitSize) × (place + fieldCount Line.Left ≤ unitSize) ⌝ }
     ensures { λ r. ⌜ ReadGives (fieldsPart channelRanges (drop at (now (bytes .entry)))) (now (numbers .entry)) place r (now (numbers .exit)) ⌝ }
 {
@@ -200,11 +215,16 @@ fn read_state(bytes: &[u8], at: usize, numbers: &mut [i32; 118], place: usize) -
     if !refusals::accepted(second) {
         return second;
     }
-    read_fields(bytes, at + FLAG_AT, 1, 0, 1, numbers, place + 2)
+    read_fields(bytes, at + FLAG_AT, 1, 0, 1, numbers, place + unit::FLAG)
 }
 
 // Reads the field of an input from place at on.
-fn read_input(bytes: &[u8], at: usize, numbers: &mut [i32; 118], place: usize) -> Verdict
+fn read_input(
+    bytes: &[u8],
+    at: usize,
+    numbers: &mut [i32; numbers::UNIT_SIZE],
+    place: usize,
+) -> Verdict
     requires { ⌜ (at + fieldSize ≤ length (now bytes)) × (length (now numbers) ≡ unitSize) × (place + 1 ≤ unitSize) ⌝ }
     ensures { λ r. ⌜ ReadGives (fieldPart isInput (take fieldSize (drop at (now (bytes .entry))))) (now (numbers .entry)) place r (now (numbers .exit)) ⌝ }
 {
@@ -220,12 +240,17 @@ fn read_input(bytes: &[u8], at: usize, numbers: &mut [i32; 118], place: usize) -
 }
 
 // Reads the ten S lines from place at on.
-fn read_sections(bytes: &[u8], at: usize, numbers: &mut [i32; 118], place: usize) -> Verdict
+fn read_sections(
+    bytes: &[u8],
+    at: usize,
+    numbers: &mut [i32; numbers::UNIT_SIZE],
+    place: usize,
+) -> Verdict
     requires { ⌜ (at + lineSize Line.Section * bandCount ≤ length (now bytes)) × (length (now numbers) ≡ unitSize) × (place + fieldCount Line.Section * bandCount ≤ unitSize) ⌝ }
     ensures { λ r. ⌜ ReadGives (linesPart (replicate bandCount Line.Section) (drop at (now (bytes .entry)))) (now (numbers .entry)) place r (now (numbers .exit)) ⌝ }
 {
     let mut i = 0;
-    while i < 10 {
+    while i < bands::BAND_COUNT {
         let start = sheet::SECTION_LINE * i + at;
         let found = read_words(bytes, start, numbers, sheet::SECTION_FIELDS * i + place);
         if !refusals::accepted(found) {
@@ -237,7 +262,12 @@ fn read_sections(bytes: &[u8], at: usize, numbers: &mut [i32; 118], place: usize
 }
 
 // Reads an S line from place at on.
-fn read_words(bytes: &[u8], at: usize, numbers: &mut [i32; 118], place: usize) -> Verdict
+fn read_words(
+    bytes: &[u8],
+    at: usize,
+    numbers: &mut [i32; numbers::UNIT_SIZE],
+    place: usize,
+) -> Verdict
     requires { ⌜ (at + lineSize Line.Section ≤ length (now bytes)) × (length (now numbers) ≡ unitSize) × (place + fieldCount Line.Section ≤ unitSize) ⌝ }
     ensures { λ r. ⌜ ReadGives (linePart Line.Section (drop at (now (bytes .entry)))) (now (numbers .entry)) place r (now (numbers .exit)) ⌝ }
 {
@@ -261,7 +291,7 @@ fn read_line(
     count: usize,
     low: i64,
     high: i64,
-    numbers: &mut [i32; 118],
+    numbers: &mut [i32; numbers::UNIT_SIZE],
     place: usize,
 ) -> Verdict
     requires { ⌜ (at + (fieldSize * count + 2) ≤ length (now bytes)) × (length (now numbers) ≡ unitSize) × (place + count ≤ unitSize) ⌝ }
@@ -285,7 +315,7 @@ fn read_fields(
     count: usize,
     low: i64,
     high: i64,
-    numbers: &mut [i32; 118],
+    numbers: &mut [i32; numbers::UNIT_SIZE],
     place: usize,
 ) -> Verdict
     requires { ⌜ (at + fieldSize * count ≤ length (now bytes)) × (length (now numbers) ≡ unitSize) × (place + count ≤ unitSize) ⌝ }
@@ -317,9 +347,9 @@ fn check_mark(byte: u8, wanted: u8) -> Verdict
 }
 
 // 8 to 10 for the three numbers from `place` on.
-fn check_band_at(numbers: &[i32; 118], place: usize) -> Verdict
-    requires { ⌜ (length (now numbers) ≡ unitSize) × (place + 3 ≤ unitSize) ⌝ }
-    ensures { λ r. ⌜ r ≡ bandVerdict (bandAt (take 3 (drop place (now (numbers .entry)))) 0) ⌝ }
+fn check_band_at(numbers: &[i32; numbers::UNIT_SIZE], place: usize) -> Verdict
+    requires { ⌜ (length (now numbers) ≡ unitSize) × (place + bandSize ≤ unitSize) ⌝ }
+    ensures { λ r. ⌜ r ≡ bandVerdict (bandAt (take bandSize (drop place (now (numbers .entry)))) 0) ⌝ }
 {
     let band = Band {
         alpha: numbers[place],

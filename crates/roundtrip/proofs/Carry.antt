@@ -7,11 +7,11 @@ use native.Mathlib.Omega.{arith}
 use lib.IntN.{ℤ}
 use lib.ListN.{length, replicate}
 use lib.Seq.{take-at, drop-at}
+use Rattle.bands.specs.Bands.{bandCount}
 use Rattle.refusals.specs.Numbers.{isAccepted}
 use Rattle.bands.specs.declared.Band.{Band}
 use Rattle.levels.specs.declared.Level.{Level}
 use Rattle.unit.specs.Lists.{Each}
-use Rattle.unit.specs.Cleared.{bandCount}
 use Rattle.unit.specs.Fit.{VolumeFit, BandFit, SectionFit, ChannelFit, Fit}
 use Rattle.unit.specs.declared.BandSection.{BandSection}
 use Rattle.unit.specs.declared.Channel.{Channel}

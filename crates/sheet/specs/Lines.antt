@@ -7,8 +7,7 @@ use lib.ListN.{length, replicate}
 use Rattle.refusals.specs.declared.Verdict.{Verdict}
 use Rattle.refusals.specs.declared.Verdict.the-variants.{Accepted}
 use Rattle.bands.specs.Words.{isWord}
-use Rattle.bands.specs.Bands.{bandVerdict, bandAt}
-use Rattle.unit.specs.Cleared.{bandCount}
+use Rattle.bands.specs.Bands.{bandCount, bandVerdict, bandAt}
 use Rattle.unit.specs.Fit.{isVolume, isInput, isFlag}
 use Rattle.fields.specs.Fields.{fieldSize}
 use Rattle.sheet.specs.declared.Line.{Line}

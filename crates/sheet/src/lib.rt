@@ -1,12 +1,36 @@
 // The lines of the strip sheet: their kinds, their bytes, and where they begin.
 
-// The bytes of a sheet.
-pub const SHEET_SIZE: usize = 1128;
+// How many fields the V line, a C line, an L or an R line, and an S line have.
+pub const VOLUME_FIELDS: usize = 2;
 
-// The bytes of a C line, and of an S line. An L or an R line has as many as a C line.
-pub const BAND_LINE: usize = 29;
+pub const BAND_FIELDS: usize = bands::BAND_SIZE;
 
-pub const SECTION_LINE: usize = 38;
+pub const CHANNEL_FIELDS: usize = unit::HEAD_SIZE;
+
+pub const SECTION_FIELDS: usize = unit::SECTION_SIZE;
+
+// The bytes of these lines: a letter, fields, a line feed.
+pub const VOLUME_LINE: usize = fields::FIELD_SIZE * VOLUME_FIELDS + 2;
+
+pub const BAND_LINE: usize = fields::FIELD_SIZE * BAND_FIELDS + 2;
+
+pub const CHANNEL_LINE: usize = fields::FIELD_SIZE * CHANNEL_FIELDS + 2;
+
+pub const SECTION_LINE: usize = fields::FIELD_SIZE * SECTION_FIELDS + 2;
+
+// Where the line feed of a C line, and of an L or an R line, stands.
+pub const BAND_END: usize = BAND_LINE - 1;
+
+pub const CHANNEL_END: usize = CHANNEL_LINE - 1;
+
+// Where the C lines, the L line and the R line begin, and how many bytes a sheet has.
+pub const BANDS_AT: usize = VOLUME_LINE;
+
+pub const LEFT_AT: usize = BANDS_AT + BAND_LINE * bands::BAND_COUNT;
+
+pub const RIGHT_AT: usize = LEFT_AT + CHANNEL_LINE + SECTION_LINE * bands::BAND_COUNT;
+
+pub const SHEET_SIZE: usize = RIGHT_AT + CHANNEL_LINE + SECTION_LINE * bands::BAND_COUNT;
 
 // The letters of the lines.
 pub const VOLUME_LETTER: u8 = b'V';
@@ -18,25 +42,6 @@ pub const LEFT_LETTER: u8 = b'L';
 pub const SECTION_LETTER: u8 = b'S';
 
 pub const RIGHT_LETTER: u8 = b'R';
-
-// How many fields the V line, a C line, an L or an R line, and an S line have.
-pub const VOLUME_FIELDS: usize = 2;
-
-pub const BAND_FIELDS: usize = 3;
-
-pub const CHANNEL_FIELDS: usize = 3;
-
-pub const SECTION_FIELDS: usize = 4;
-
-// Where the line feed of a C, an L or an R line stands.
-pub const BAND_END: usize = 28;
-
-// Where the C lines, the L line and the R line begin.
-pub const BANDS_AT: usize = 20;
-
-pub const LEFT_AT: usize = 310;
-
-pub const RIGHT_AT: usize = 719;
 
 // The byte that ends a line.
 pub const LINE_FEED: u8 = 10;

@@ -1,7 +1,7 @@
 // The example of document 01: ten bands, all 31 Hz. Prints the sheet of the cleared unit, the sheet after the frame (1000, 0), and that one
 // again, of the unit that it is read as.
 // The band set: ten times A, B, G of 31 Hz.
-const SET: [i32; 30] = [
+const SET: [i32; bands::SET_SIZE] = [
     6606,
     4181093,
     8375315,

@@ -4,6 +4,8 @@ ghost use mathlib.Core.Path.{_≡_};
 ghost use mathlib.Core.List.{_++_};
 ghost use Prim.Native.Nat.{_+_, _≤_};
 ghost use lib.ListN.{length, drop};
+ghost use Rattle.blocks.specs.Bytes.{frameSize};
+ghost use Rattle.unit.specs.Sizes.{channelCount};
 ghost use Rattle.stream.specs.Advance.{advanced, advancedOutput, advancedInput};
 use refusals::Verdict;
 use unit::Unit;
@@ -20,9 +22,9 @@ pub struct Advanced {
 // input with the tail behind them. 14 for an unfit unit, 6 where the output is shorter than the frames; refused, unit, input and output
 // are unchanged.
 pub fn advance(unit: Unit, input: &mut [u8], output: &mut [u8]) -> Advanced
-    ensures { λ r. ⌜ (r ≡ advanced 2 unit (now (input .entry)) (length (now (output .entry)))) × (now (output .exit) ≡ advancedOutput 2 unit (now (input .entry)) (now (output .entry))) × (now (input .exit) ≡ advancedInput 2 unit (now (input .entry)) (length (now (output .entry)))) ⌝ }
+    ensures { λ r. ⌜ (r ≡ advanced channelCount unit (now (input .entry)) (length (now (output .entry)))) × (now (output .exit) ≡ advancedOutput channelCount unit (now (input .entry)) (now (output .entry))) × (now (input .exit) ≡ advancedInput channelCount unit (now (input .entry)) (length (now (output .entry)))) ⌝ }
 {
-    let held = input.len() % 4;
+    let held = input.len() % blocks::FRAME_SIZE;
     let whole = input.len() - held;
     let played = blocks::play(unit, &input[..whole], output);
     let verdict = played.verdict;
@@ -38,12 +40,12 @@ pub fn advance(unit: Unit, input: &mut [u8], output: &mut [u8]) -> Advanced
     }
 }
 
-// Moves the tail, at most four bytes from here on, to the front.
+// Moves the tail, at most a frame's bytes from here on, to the front.
 fn keep_tail(input: &mut [u8], from: usize)
-    requires { ⌜ (from ≤ length (now input)) × (length (now input) ≤ from + 4) ⌝ }
+    requires { ⌜ (from ≤ length (now input)) × (length (now input) ≤ from + frameSize channelCount) ⌝ }
     ensures { λ r. ⌜ now (input .exit) ≡ drop from (now (input .entry)) ++ drop (length (drop from (now (input .entry)))) (now (input .entry)) ⌝ }
 {
-    let mut tail = [0u8; 4];
+    let mut tail = [0u8; blocks::FRAME_SIZE];
     let count = bytes::copy(&input[from..], &mut tail);
     bytes::copy(&tail[..count], input);
 }

@@ -8,7 +8,7 @@ use native.Mathlib.Omega.{arith}
 use lib.IntN.{ℤ, pos}
 use lib.ListN.{length, getD, take, drop, set, length-drop}
 use lib.Seq.{sets, take-suc, length-take-le, drop-drop}
-use Rattle.unit.specs.Cleared.{bandCount}
+use Rattle.bands.specs.Bands.{bandCount}
 use Rattle.numbers.specs.Layout.{joined}
 use Rattle.fields.specs.Fields.{fieldSize, field}
 use Rattle.fields.proofs.Stores.{sets-append}

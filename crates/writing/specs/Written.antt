@@ -5,8 +5,8 @@ use Prim.Native.Nat.{ℕ, zero, suc}
 use lib.Dec.{leb}
 use lib.IntN.{ℤ}
 use lib.ListN.{length, take, drop}
+use Rattle.bands.specs.Bands.{bandCount}
 use Rattle.unit.specs.declared.Unit.{Unit}
-use Rattle.unit.specs.Cleared.{bandCount}
 use Rattle.unit.specs.Fit.{unitFits}
 use Rattle.numbers.specs.Layout.{joined, numbersOf}
 use Rattle.fields.specs.Fields.{field}

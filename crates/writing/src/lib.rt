@@ -5,8 +5,8 @@ ghost use Prim.Native.Nat.{_+_, _*_, _≤_};
 ghost use denote.Ref.{ptr};
 ghost use lib.ListN.{length, take, drop};
 ghost use lib.Seq.{sets};
-ghost use Rattle.unit.specs.Cleared.{bandCount};
-ghost use Rattle.engine.specs.Numbers.{channelSize};
+ghost use Rattle.unit.specs.Sizes.{channelSize};
+ghost use Rattle.bands.specs.Bands.{bandCount};
 ghost use Rattle.numbers.specs.Layout.{unitSize, joined, unitOf};
 ghost use Rattle.fields.specs.Fields.{fieldSize, field};
 ghost use Rattle.sheet.specs.declared.Line.the-variants.{Left, Section};
@@ -41,7 +41,7 @@ pub fn fill(unit: Unit, out: &mut [u8]) -> usize
 
 // Fills the front of the buffer with the sheet of the unit that the numbers stand for, and gives the count of its bytes. From a shorter
 // buffer, or for an unfit unit, the count is 0 and nothing is written.
-pub fn fill_numbers(numbers: &[i32; 118], buffer: &mut [u8]) -> usize
+pub fn fill_numbers(numbers: &[i32; numbers::UNIT_SIZE], buffer: &mut [u8]) -> usize
     ensures { λ r. ⌜ (r ≡ filledCount (unitOf (now (numbers .entry))) (length (now (buffer .entry)))) × (now (buffer .exit) ≡ filled (unitOf (now (numbers .entry))) (now (buffer .entry))) ⌝ }
 {
     if buffer.len() < sheet::SHEET_SIZE {
@@ -50,14 +50,14 @@ pub fn fill_numbers(numbers: &[i32; 118], buffer: &mut [u8]) -> usize
     if !fitness::is_fit(numbers::unit_of(numbers)) {
         return 0;
     }
-    // As a slice the numbers are known to be 118.
+    // As a slice the numbers are known to be as many as a unit has.
     let all: &[i32] = numbers;
     put_lines(buffer, numbers);
     sheet::SHEET_SIZE
 }
 
 // Writes the lines of a unit's numbers to the front of the buffer.
-fn put_lines(out: &mut [u8], numbers: &[i32; 118])
+fn put_lines(out: &mut [u8], numbers: &[i32; numbers::UNIT_SIZE])
     requires { ⌜ (sheetSize ≤ length (now out)) × (length (now numbers) ≡ unitSize) ⌝ }
     ensures { λ r. ⌜ now (out .exit) ≡ sets (now (out .entry)) 0 (written lines (now (numbers .entry))) ⌝ }
 {
@@ -94,14 +94,20 @@ fn put_lines(out: &mut [u8], numbers: &[i32; 118])
 }
 
 // Writes the lines of a channel from place at on, the numbers from `place` on: an L or an R line, and ten S lines.
-fn put_channel(out: &mut [u8], at: usize, letter: u8, numbers: &[i32; 118], place: usize)
+fn put_channel(
+    out: &mut [u8],
+    at: usize,
+    letter: u8,
+    numbers: &[i32; numbers::UNIT_SIZE],
+    place: usize,
+)
     requires { ⌜ (at + (lineSize Left + lineSize Section * bandCount) ≤ length (now out)) × (length (now numbers) ≡ unitSize) × (place + channelSize ≤ unitSize) ⌝ }
     ensures { λ r. ⌜ now (out .exit) ≡ sets (now (out .entry)) at (channelText letter (drop place (now (numbers .entry)))) ⌝ }
 {
     put_line(out, at, letter, numbers, place, sheet::CHANNEL_FIELDS);
     put_group(
         out,
-        at + sheet::BAND_LINE,
+        at + sheet::CHANNEL_LINE,
         sheet::SECTION_LETTER,
         numbers,
         place + sheet::CHANNEL_FIELDS,
@@ -114,7 +120,7 @@ fn put_group(
     out: &mut [u8],
     at: usize,
     letter: u8,
-    numbers: &[i32; 118],
+    numbers: &[i32; numbers::UNIT_SIZE],
     place: usize,
     count: usize,
 )
@@ -122,7 +128,7 @@ fn put_group(
     ensures { λ r. ⌜ now (out .exit) ≡ sets (now (out .entry)) at (groupText letter count bandCount (drop place (now (numbers .entry)))) ⌝ }
 {
     let mut i = 0;
-    while i < 10 {
+    while i < bands::BAND_COUNT {
         put_line(
             out,
             at + (fields::FIELD_SIZE * count + 2) * i,
@@ -136,7 +142,14 @@ fn put_group(
 }
 
 // Writes a line from place at on: a letter, so many fields, the numbers from `place` on, and a line feed.
-fn put_line(out: &mut [u8], at: usize, letter: u8, numbers: &[i32; 118], place: usize, count: usize)
+fn put_line(
+    out: &mut [u8],
+    at: usize,
+    letter: u8,
+    numbers: &[i32; numbers::UNIT_SIZE],
+    place: usize,
+    count: usize,
+)
     requires { ⌜ (at + (fieldSize * count + 2) ≤ length (now out)) × (length (now numbers) ≡ unitSize) × (place + count ≤ unitSize) ⌝ }
     ensures { λ r. ⌜ now (out .exit) ≡ sets (now (out .entry)) at (lineText letter (take count (drop place (now (numbers .entry))))) ⌝ }
 {
@@ -146,7 +159,13 @@ fn put_line(out: &mut [u8], at: usize, letter: u8, numbers: &[i32; 118], place: 
 }
 
 // Writes so many fields from place at on: the numbers from `place` on.
-fn put_fields(out: &mut [u8], at: usize, numbers: &[i32; 118], place: usize, count: usize)
+fn put_fields(
+    out: &mut [u8],
+    at: usize,
+    numbers: &[i32; numbers::UNIT_SIZE],
+    place: usize,
+    count: usize,
+)
     requires { ⌜ (at + fieldSize * count ≤ length (now out)) × (length (now numbers) ≡ unitSize) × (place + count ≤ unitSize) ⌝ }
     ensures { λ r. ⌜ now (out .exit) ≡ sets (now (out .entry)) at (joined field (take count (drop place (now (numbers .entry))))) ⌝ }
 {

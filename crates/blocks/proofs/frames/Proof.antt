@@ -13,6 +13,7 @@ use borrow.Author.Needs.{needs}
 use mir.Syntax.{w64}
 use mir.Val.{toZ, ofZ}
 use mir.Facts.{toZ-ofZ}
+use Rattle.unit.specs.Sizes.{channelSize}
 use Rattle.integers.proofs.Machine.{below-fits}
 use Rattle.bands.specs.Words.{wordSize}
 use Rattle.levels.specs.declared.Level.{Level}
@@ -22,7 +23,7 @@ use Rattle.unit.specs.Frame.{mix, output}
 use Rattle.unit.specs.Fit.{Fit}
 use Rattle.unit.proofs.Ranges.{volume-size}
 use Rattle.unit.proofs.Stays.{volume-stays}
-use Rattle.engine.specs.Numbers.{channelSize, channelOf, mixSize, OutputAsks}
+use Rattle.engine.specs.Numbers.{channelOf, mixSize, OutputAsks}
 use Rattle.blocks.specs.Block.{played, sound}
 use Rattle.blocks.specs.Run.{putSample, ChannelMixAsks, unitWith}
 use Rattle.blocks.proofs.Block.{played-fit, sound-length, unit-more, bytes-more}

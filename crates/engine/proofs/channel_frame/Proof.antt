@@ -13,12 +13,13 @@ use borrow.Author.Needs.{needs}
 use mir.Syntax.{w64}
 use mir.Val.{SFits, toZ, ofZ}
 use mir.Facts.{toZ-ofZ}
+use Rattle.bands.specs.Bands.{bandCount}
 use Rattle.integers.proofs.Parts.{terms-eq, var, _⊕_}
 use Rattle.integers.proofs.Machine.{Num, Bounded, literal, below-fits, binary, binary-need, product, result, result-need}
 use Rattle.rounding.specs.Rounding.{nearest}
 use Rattle.bands.specs.Words.{wordSize}
 use Rattle.unit.specs.Lists.{tabulate}
-use Rattle.unit.specs.Cleared.{bandCount, bandsOf}
+use Rattle.unit.specs.Cleared.{bandsOf}
 use Rattle.unit.specs.Frame.{share, sumOf, channelFrame, mix}
 use Rattle.unit.proofs.Ranges.{input-size}
 use Rattle.engine.specs.Numbers.{channelOf, turnedSection, turned, SectionTurnAsks, ChannelFrameAsks}

@@ -4,7 +4,7 @@ use native.Mathlib.Omega.{arith}
 use lib.ListN.{take}
 use denote.Ref.{now}
 use borrow.Author.Needs.{needs}
-use Rattle.unit.specs.Cleared.{bandCount}
+use Rattle.bands.specs.Bands.{bandCount}
 use Rattle.unit.proofs.PastEnd.{zeroBand}
 use Rattle.numbers.specs.Layout.{bandsPlace, leftPlace, joined, bandNumbers, PutGives}
 use Rattle.numbers.proofs.Put.{put-none, put-entry, put-entries}

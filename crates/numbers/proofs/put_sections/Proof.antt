@@ -5,9 +5,10 @@ use lib.ListN.{take}
 use denote.Ref.{now}
 use mathlib.Core.Path.{_≡_, subst}
 use mathlib.Core.List.{[]}
+use Rattle.bands.specs.Bands.{bandCount}
 use Rattle.unit.specs.Fit.{SectionFit}
 use borrow.Author.Needs.{needs}
-use Rattle.unit.specs.Cleared.{bandCount, clearedBandSection}
+use Rattle.unit.specs.Cleared.{clearedBandSection}
 use Rattle.numbers.specs.Layout.{joined, sectionNumbers, PutGives}
 use Rattle.numbers.proofs.Put.{put-none, put-entry, put-entries, each-getD}
 use Rattle.numbers.proofs.put_sections.Statement.{statement}

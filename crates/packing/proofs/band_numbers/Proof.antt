@@ -14,8 +14,7 @@ use mir.Syntax.{w32, w64}
 use mir.Val.{toZ, ofZ}
 use Rattle.integers.proofs.Machine.{widened, widen-need}
 use Rattle.bands.specs.declared.Band.{Band}
-use Rattle.bands.specs.Bands.{bandOf, bandAt}
-use Rattle.unit.specs.Cleared.{bandCount}
+use Rattle.bands.specs.Bands.{bandCount, bandOf, bandAt}
 use Rattle.unit.proofs.Tabulate.{tabulate-cong, tabulate-all}
 use Rattle.packing.proofs.band_numbers.Statement.{statement}
 use Rattle.packing.proofs.band_numbers.Tie as tie

@@ -10,10 +10,12 @@ use lib.ListN.{length, getD}
 use denote.Ref.{now}
 use borrow.Author.Needs.{needs}
 use borrow.Author.Tests.{eqb-true, eqb-false}
+use Rattle.unit.specs.Sizes.{channelSize}
+use Rattle.bands.specs.Bands.{bandCount}
 use Rattle.unit.specs.declared.BandSection.{BandSection}
-use Rattle.unit.specs.Cleared.{bandCount, clearedBandSection}
+use Rattle.unit.specs.Cleared.{clearedBandSection}
 use Rattle.unit.proofs.Tabulate.{tabulate-cong, tabulate-all}
-use Rattle.engine.specs.Numbers.{channelSize, sectionAt, putSection}
+use Rattle.engine.specs.Numbers.{sectionAt, putSection}
 use Rattle.engine.proofs.Numbers.{put-same, put-other, put-outside, put-length}
 use Rattle.packing.proofs.put_sections.Statement.{statement}
 use Rattle.packing.proofs.put_sections.Tie as tie

@@ -8,8 +8,8 @@ use lib.Seq.{drop-drop}
 use denote.Ref.{now}
 use borrow.Author.Needs.{needs}
 use borrow.Author.Tests.{not-true, not-false}
+use Rattle.bands.specs.Bands.{bandCount}
 use Rattle.refusals.specs.Numbers.{isAccepted}
-use Rattle.unit.specs.Cleared.{bandCount}
 use Rattle.sheet.specs.declared.Line.the-variants.{Section}
 use Rattle.sheet.specs.Lines.{channelRanges}
 use Rattle.reading.specs.Parts.{Part, plainPart, linesPart}

@@ -9,9 +9,9 @@ use lib.ListN.{length, drop, replicate}
 use denote.Ref.{now}
 use borrow.Author.Needs.{needs}
 use borrow.Author.Tests.{not-true, not-false}
+use Rattle.bands.specs.Bands.{bandCount}
 use Rattle.refusals.specs.Numbers.{isAccepted}
 use Rattle.refusals.specs.declared.Verdict.{Verdict}
-use Rattle.unit.specs.Cleared.{bandCount}
 use Rattle.sheet.specs.declared.Line.the-variants.{Section}
 use Rattle.reading.specs.Parts.{linePart, linesPart, ReadGives}
 use Rattle.reading.proofs.Parts.{restored, stored-length}

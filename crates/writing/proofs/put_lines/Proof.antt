@@ -8,7 +8,7 @@ use lib.ListN.{take, replicate}
 use lib.Seq.{sets}
 use denote.Ref.{now}
 use borrow.Author.Needs.{needs}
-use Rattle.unit.specs.Cleared.{bandCount}
+use Rattle.bands.specs.Bands.{bandCount}
 use Rattle.sheet.specs.declared.Line.{Line}
 use Rattle.sheet.specs.declared.Line.the-variants.{Volume, Band, Left, Section, Right}
 use Rattle.writing.specs.Written.{lineBytes, groupText}
