@@ -1,2 +1,1 @@
--- How the static library passes its values.
-pub mod Layout
+-- The definitions are those of the crates below.

@@ -1,25 +1,20 @@
 // The static library: thin functions under C names, for tests, benchmarks and programs in other languages. Each promises what the
 // function that it calls promises. A lent array passes as a pointer to its first number, a slice as a pointer and a length.
 ghost use mathlib.Core.Path.{_≡_};
-ghost use mathlib.Core.Bool.{true};
 ghost use Rattle.rounding.specs.Rounding.{nearest, limit};
-ghost use Rattle.refusals.specs.Numbers.{numberOf, isAccepted};
+ghost use Rattle.refusals.specs.Numbers.{numberOf};
 ghost use Rattle.bands.specs.Bands.{bandVerdict, bandOf};
 ghost use Rattle.bands.specs.House.{houseSet};
 ghost use Rattle.levels.specs.Levels.{ramp};
 ghost use Rattle.section.specs.Equation.{flag};
 ghost use Rattle.section.specs.Step.{stepped};
-ghost use Rattle.unit.specs.Fit.{Fit, unitFits};
+ghost use Rattle.unit.specs.Fit.{unitFits};
 ghost use Rattle.loading.specs.Loading.{loaded};
 ghost use Rattle.numbers.specs.Layout.{unitOf, numbersOf};
-ghost use Rattle.exports.specs.Layout.{loneSection, loneNumbers, packed, PreviewGives, numbersAfter, BlockGives, OrderGives, SheetWriteGives, SheetReadGives};
+ghost use Rattle.lending.specs.Layout.{loneSection, loneNumbers, packed, PreviewGives, BlockGives, OrderGives, SheetWriteGives, SheetReadGives};
 use bands::Band;
 use levels::Level;
 use orders::Setting;
-use refusals::Verdict;
-use section::Section;
-use section::Stepped;
-use unit::Unit;
 
 // The nearest whole number to v / 2^k, halves to even.
 #[no_mangle]
@@ -57,37 +52,13 @@ pub extern "C" fn fonddrys_house_set(words: &mut [i32; bands::SET_SIZE])
 // refused, they stay as they are. The answer is one number: 2^32 times the sum of the mark for limiting and twice the refusal's number, and
 // y added, which may be negative.
 #[no_mangle]
-pub extern "C" fn fonddrys_section_step(numbers: &mut [i32; 7], x: i32) -> i64
+pub extern "C" fn fonddrys_section_step(
+    numbers: &mut [i32; lending::SECTION_NUMBERS],
+    x: i32,
+) -> i64
     ensures { λ r. ⌜ (r ≡ packed (stepped (loneSection (now (numbers .entry))) x)) × (now (numbers .exit) ≡ loneNumbers (stepped (loneSection (now (numbers .entry))) x .section)) ⌝ }
 {
-    let alpha = numbers[0];
-    let beta = numbers[1];
-    let gamma = numbers[2];
-    let x1 = numbers[3];
-    let x2 = numbers[4];
-    let y1 = numbers[5];
-    let y2 = numbers[6];
-    let answer = section::step(
-        Section {
-            band: Band { alpha, beta, gamma },
-            x1,
-            x2,
-            y1,
-            y2,
-        },
-        x,
-    );
-    let after = answer.section;
-    *numbers = [
-        after.band.alpha,
-        after.band.beta,
-        after.band.gamma,
-        after.x1,
-        after.x2,
-        after.y1,
-        after.y2,
-    ];
-    pack(answer)
+    lending::section_step(numbers, x)
 }
 
 // The floating preview of the section with the band A, B, G, over a list of words from a cleared start. The results fill the front of the
@@ -133,11 +104,7 @@ pub extern "C" fn fonddrys_unit_fit(numbers: &[i32; numbers::UNIT_SIZE]) -> u32
 pub extern "C" fn fonddrys_load(numbers: &mut [i32; numbers::UNIT_SIZE], set: &[i32]) -> u32
     ensures { λ r. ⌜ (r ≡ numberOf (loaded (now (set .entry)) .verdict)) × (now (numbers .exit) ≡ numbersOf (loaded (now (set .entry)) .unit)) ⌝ }
 {
-    let answer = loading::load(set);
-    let verdict = answer.verdict;
-    let unit = answer.unit;
-    *numbers = numbers::numbers_of(unit);
-    refusals::number(verdict)
+    lending::load(numbers, set)
 }
 
 // Plays a block of frames through the unit whose numbers are lent: they are then those of the unit after it, and the output begins with
@@ -150,11 +117,7 @@ pub extern "C" fn fonddrys_block(
 ) -> u32
     ensures { λ r. ⌜ BlockGives (now (numbers .entry)) (now (input .entry)) (now (output .entry)) r (now (numbers .exit)) (now (output .exit)) ⌝ }
 {
-    let unit = numbers::unit_of(numbers);
-    let answer = blocks::play(unit, input, output);
-    let verdict = answer.verdict;
-    let after = answer.unit;
-    store(numbers, verdict, after)
+    lending::block(numbers, input, output)
 }
 
 // Orders a band of a side, or the volume (band 10 of side 2), to a position from 0 to 31. The lent numbers are then those of the unit
@@ -168,7 +131,7 @@ pub extern "C" fn fonddrys_order_position(
 ) -> u32
     ensures { λ r. ⌜ OrderGives (now (numbers .entry)) side band (Setting.Position position) r (now (numbers .exit)) ⌝ }
 {
-    give_order(numbers, side, band, Setting::Position(position))
+    lending::order(numbers, side, band, Setting::Position(position))
 }
 
 // The same, to a factor from -1 (from 0 for the volume) to below 1.
@@ -181,7 +144,7 @@ pub extern "C" fn fonddrys_order_factor(
 ) -> u32
     ensures { λ r. ⌜ OrderGives (now (numbers .entry)) side band (Setting.Factor factor) r (now (numbers .exit)) ⌝ }
 {
-    give_order(numbers, side, band, Setting::Factor(factor))
+    lending::order(numbers, side, band, Setting::Factor(factor))
 }
 
 // The same, to mute: the target 0.
@@ -193,7 +156,7 @@ pub extern "C" fn fonddrys_order_mute(
 ) -> u32
     ensures { λ r. ⌜ OrderGives (now (numbers .entry)) side band Setting.Mute r (now (numbers .exit)) ⌝ }
 {
-    give_order(numbers, side, band, Setting::Mute)
+    lending::order(numbers, side, band, Setting::Mute)
 }
 
 // Writes the strip sheet of the unit whose numbers are lent to the front of the buffer, and gives the count of its bytes, 1,128. From a
@@ -214,49 +177,5 @@ pub extern "C" fn fonddrys_sheet_write(
 pub extern "C" fn fonddrys_sheet_read(numbers: &mut [i32; numbers::UNIT_SIZE], bytes: &[u8]) -> u32
     ensures { λ r. ⌜ SheetReadGives (now (numbers .entry)) (now (bytes .entry)) r (now (numbers .exit)) ⌝ }
 {
-    let mut carried = [0i32; numbers::UNIT_SIZE];
-    let found = reading::read_numbers(bytes, &mut carried);
-    if !refusals::accepted(found) {
-        return refusals::number(found);
-    }
-    *numbers = carried;
-    refusals::number(found)
-}
-
-// Gives an order to the unit whose numbers are lent.
-fn give_order(
-    numbers: &mut [i32; numbers::UNIT_SIZE],
-    side: u32,
-    band: u32,
-    setting: Setting,
-) -> u32
-    ensures { λ r. ⌜ OrderGives (now (numbers .entry)) side band setting r (now (numbers .exit)) ⌝ }
-{
-    let unit = numbers::unit_of(numbers);
-    let answer = orders::order(unit, side, band, setting);
-    let verdict = answer.verdict;
-    let after = answer.unit;
-    store(numbers, verdict, after)
-}
-
-// Replaces the lent numbers by those of the unit after an accepted call, and answers the verdict's number.
-fn store(numbers: &mut [i32; numbers::UNIT_SIZE], verdict: Verdict, after: Unit) -> u32
-    requires { ⌜ (isAccepted verdict ≡ true → Fit after) ⌝ }
-    ensures { λ r. ⌜ (r ≡ numberOf verdict) × (now (numbers .exit) ≡ numbersAfter (now (numbers .entry)) verdict after) ⌝ }
-{
-    if !refusals::accepted(verdict) {
-        return refusals::number(verdict);
-    }
-    *numbers = numbers::numbers_of(after);
-    refusals::number(verdict)
-}
-
-// An answer in one number.
-fn pack(answer: Stepped) -> i64
-    ensures { λ r. ⌜ r ≡ packed answer ⌝ }
-{
-    let verdict = answer.verdict;
-    let number = refusals::number(verdict) as i64;
-    let limited = answer.limited as i64;
-    (2 * number + limited) * 0x1_0000_0000 + answer.y as i64
+    lending::sheet_read(numbers, bytes)
 }

@@ -3,7 +3,7 @@ use mathlib.Core.Path.{ap, _∙_}
 use borrow.Author.Needs.{needs}
 use Rattle.refusals.specs.Numbers.{numberOf}
 use Rattle.bands.specs.Bands.{bandVerdict}
-use Rattle.exports.proofs.Laws.{band-reads}
+use Rattle.lending.proofs.Laws.{band-reads}
 use Rattle.exports.proofs.fonddrys_band_refusal.Statement.{statement}
 use Rattle.exports.proofs.fonddrys_band_refusal.Tie as tie
 

@@ -11,7 +11,7 @@ use Rattle.refusals.specs.Numbers.{numberOf}
 use Rattle.bands.specs.Bands.{bandOf}
 use Rattle.bands.specs.declared.Band.{Band}
 use Rattle.preview.specs.Preview.{previewVerdict, previewed}
-use Rattle.exports.proofs.Laws.{band-reads}
+use Rattle.lending.proofs.Laws.{band-reads}
 use Rattle.exports.proofs.fonddrys_preview.Statement.{statement}
 use Rattle.exports.proofs.fonddrys_preview.Tie as tie
 use Rattle.exports.proofs.fonddrys_preview.Reads as reads

@@ -1,4 +1,4 @@
--- `exports::fonddrys_sheet_read` meets its contract: the numbers of an accepted sheet are those of the unit that it carries.
+-- `lending::sheet_read` meets its contract: the numbers of an accepted sheet are those of the unit that it carries.
 use mathlib.Core.Path.{_≡_, sym, ap, _∙_}
 use mathlib.Core.Bool.{Bool, true, cond}
 use mathlib.Core.List.{List}
@@ -15,10 +15,10 @@ use Rattle.sheet.specs.Lines.{lines}
 use Rattle.reading.specs.Reading.{numbersIn, sheetVerdict, unitIn, sheetRead}
 use Rattle.reading.proofs.Laws.{sheet-verdict, sheet-numbers}
 use Rattle.reading.proofs.Whole.{numbers-in-length}
-use Rattle.exports.proofs.fonddrys_sheet_read.Statement.{statement}
-use Rattle.exports.proofs.fonddrys_sheet_read.Tie as tie
-use Rattle.exports.proofs.fonddrys_sheet_read.Reads as reads
-use Rattle.exports.proofs.fonddrys_sheet_read.Lts as lts
+use Rattle.lending.proofs.sheet_read.Statement.{statement}
+use Rattle.lending.proofs.sheet_read.Tie as tie
+use Rattle.lending.proofs.sheet_read.Reads as reads
+use Rattle.lending.proofs.sheet_read.Lts as lts
 use Rattle.reading.proofs.read_numbers.Reads as read-numbers-reads
 use Rattle.refusals.proofs.accepted.Reads as accepted-reads
 use Rattle.refusals.proofs.number.Reads as number-reads
@@ -71,8 +71,8 @@ returns-2 c =
       numbers-are = carried s e ∙ sym (ap (after s) (sym (sheet-test s) ∙ e));
     }
 
-pub fonddrys-sheet-read-spec : {M : Type 1} → statement M
-fonddrys-sheet-read-spec =
+pub sheet-read-spec : {M : Type 1} → statement M
+sheet-read-spec =
     tie.close
     (tie.spec
     (λ c κs. search needs)

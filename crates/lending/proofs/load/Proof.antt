@@ -1,4 +1,4 @@
--- `exports::fonddrys_load` meets its contract: whatever the set, the loaded unit is fit, so that its numbers can be stored.
+-- `lending::load` meets its contract: whatever the set, the loaded unit is fit, so that its numbers can be stored.
 use mathlib.Core.Path.{sym, ap, _∙_, subst}
 use denote.Ref.{now}
 use Rattle.refusals.specs.Numbers.{numberOf}
@@ -7,8 +7,8 @@ use Rattle.loading.specs.declared.Loaded.{Loaded}
 use Rattle.loading.proofs.Laws.{loaded-fit}
 use Rattle.numbers.specs.Layout.{numbersOf}
 use borrow.Author.Needs.{needs}
-use Rattle.exports.proofs.fonddrys_load.Statement.{statement}
-use Rattle.exports.proofs.fonddrys_load.Tie as tie
+use Rattle.lending.proofs.load.Statement.{statement}
+use Rattle.lending.proofs.load.Tie as tie
 
 numbers-of-requires : tie.Need-numbers-of-requires
 numbers-of-requires c κs =
@@ -20,5 +20,5 @@ returns c = (
   c .before .numbers-of .ensures ∙ ap (λ (l : Loaded). numbersOf (l .unit)) (c .before .before .before .load .ensures),
 )
 
-pub fonddrys-load-spec : {M : Type 1} → statement M
-fonddrys-load-spec = tie.close (tie.spec (λ c κs. search needs) numbers-of-requires (λ c κs. search needs) returns)
+pub load-spec : {M : Type 1} → statement M
+load-spec = tie.close (tie.spec (λ c κs. search needs) numbers-of-requires (λ c κs. search needs) returns)

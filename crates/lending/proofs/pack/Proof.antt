@@ -1,4 +1,4 @@
--- `exports::pack` meets its contract: a refusal's number has five bits, so that the packed answer fits.
+-- `lending::pack` meets its contract: a refusal's number has five bits, so that the packed answer fits.
 use mathlib.Core.Path.{_≡_, refl, ap, _∙_}
 use mathlib.Core.Bool.{Bool, true, false}
 use Prim.Native.Nat.{_≤_, _^_}
@@ -16,10 +16,10 @@ use Rattle.refusals.specs.Numbers.{numberOf}
 use Rattle.refusals.specs.declared.Verdict.{Verdict}
 use Rattle.refusals.proofs.Laws.{number-small}
 use Rattle.section.specs.Equation.{flag}
-use Rattle.exports.proofs.pack.Statement.{statement}
-use Rattle.exports.proofs.pack.Tie as tie
-use Rattle.exports.proofs.pack.Reads as reads
-use Rattle.exports.proofs.pack.Lts as lts
+use Rattle.lending.proofs.pack.Statement.{statement}
+use Rattle.lending.proofs.pack.Tie as tie
+use Rattle.lending.proofs.pack.Reads as reads
+use Rattle.lending.proofs.pack.Lts as lts
 use Rattle.refusals.proofs.number.Reads as number-reads
 
 flag-reads : (b : Bool) → toZ w64 (boolByte b) ≡ pos (flag b)

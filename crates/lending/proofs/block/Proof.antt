@@ -1,4 +1,4 @@
--- `exports::fonddrys_block` meets its contract: the lent numbers stand for the unit that is played, and an accepted block leaves a fit one.
+-- `lending::block` meets its contract: the lent numbers stand for the unit that is played, and an accepted block leaves a fit one.
 use mathlib.Core.Path.{_≡_, sym, ap, _∙_, subst}
 use mathlib.Core.Bool.{true}
 use mathlib.Core.List.{List}
@@ -14,14 +14,14 @@ use Rattle.blocks.specs.Block.{blockPlayed, blockOutput}
 use Rattle.blocks.proofs.Block.{block-accepted}
 use Rattle.blocks.proofs.Append.{block-fit}
 use Rattle.numbers.specs.Layout.{unitOf}
-use Rattle.exports.specs.Layout.{numbersAfter}
+use Rattle.lending.specs.Layout.{numbersAfter}
 use borrow.Author.Needs.{needs}
-use Rattle.exports.proofs.fonddrys_block.Statement.{statement}
-use Rattle.exports.proofs.fonddrys_block.Tie as tie
-use Rattle.exports.proofs.fonddrys_block.Reads as reads
-use Rattle.exports.proofs.fonddrys_block.Lts as lts
+use Rattle.lending.proofs.block.Statement.{statement}
+use Rattle.lending.proofs.block.Tie as tie
+use Rattle.lending.proofs.block.Reads as reads
+use Rattle.lending.proofs.block.Lts as lts
 use Rattle.blocks.proofs.play.Reads as play-reads
-use Rattle.exports.proofs.store.Reads as store-reads
+use Rattle.lending.proofs.store.Reads as store-reads
 use Rattle.numbers.proofs.unit_of.Reads as unit-of-reads
 
 -- the answer is that of the unit as lent
@@ -73,6 +73,6 @@ returns c =
     p : lts.After-play (unit-of-reads.Asked, unit-of-reads.Learnt, play-reads.Asked, play-reads.Learnt, store-reads.Asked, store-reads.Learnt) reads.Pre reads.Post
     p = c .before .before .before .before .before
 
-pub fonddrys-block-spec : {M : Type 1} → statement M
-fonddrys-block-spec =
+pub block-spec : {M : Type 1} → statement M
+block-spec =
     tie.close (tie.spec (λ c κs. search needs) (λ c κs. search needs) store-requires (λ c. search needs) returns)

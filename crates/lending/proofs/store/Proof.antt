@@ -1,4 +1,4 @@
--- `exports::store` meets its contract: the lent numbers are replaced just where the verdict is an acceptance.
+-- `lending::store` meets its contract: the lent numbers are replaced just where the verdict is an acceptance.
 use mathlib.Core.Path.{_≡_, sym, _∙_}
 use mathlib.Core.Bool.{true}
 use denote.Ref.{now}
@@ -7,10 +7,10 @@ use Rattle.refusals.proofs.Laws.{passed, failed}
 use Rattle.refusals.specs.Numbers.{isAccepted}
 use Rattle.numbers.specs.Layout.{numbersOf}
 use borrow.Author.Needs.{needs}
-use Rattle.exports.proofs.store.Statement.{statement}
-use Rattle.exports.proofs.store.Tie as tie
-use Rattle.exports.proofs.store.Reads as reads
-use Rattle.exports.proofs.store.Lts as lts
+use Rattle.lending.proofs.store.Statement.{statement}
+use Rattle.lending.proofs.store.Tie as tie
+use Rattle.lending.proofs.store.Reads as reads
+use Rattle.lending.proofs.store.Lts as lts
 use Rattle.numbers.proofs.numbers_of.Reads as numbers-of-reads
 use Rattle.refusals.proofs.accepted.Reads as accepted-reads
 use Rattle.refusals.proofs.number.Reads as number-reads

@@ -1,4 +1,4 @@
--- `exports::give_order` meets its contract: the lent numbers stand for the unit that is ordered, and an accepted order leaves a fit one.
+-- `lending::order` meets its contract: the lent numbers stand for the unit that is ordered, and an accepted order leaves a fit one.
 use mathlib.Core.Path.{_≡_, sym, ap, _∙_, subst}
 use mathlib.Core.Bool.{true}
 use mathlib.Core.List.{List}
@@ -11,13 +11,13 @@ use Rattle.orders.specs.declared.Ordered.{Ordered}
 use Rattle.orders.specs.Orders.{ordered}
 use Rattle.orders.proofs.Laws.{accepted-fit, order-fit}
 use Rattle.numbers.specs.Layout.{unitOf}
-use Rattle.exports.specs.Layout.{numbersAfter}
+use Rattle.lending.specs.Layout.{numbersAfter}
 use borrow.Author.Needs.{needs}
-use Rattle.exports.proofs.give_order.Statement.{statement}
-use Rattle.exports.proofs.give_order.Tie as tie
-use Rattle.exports.proofs.give_order.Reads as reads
-use Rattle.exports.proofs.give_order.Lts as lts
-use Rattle.exports.proofs.store.Reads as store-reads
+use Rattle.lending.proofs.order.Statement.{statement}
+use Rattle.lending.proofs.order.Tie as tie
+use Rattle.lending.proofs.order.Reads as reads
+use Rattle.lending.proofs.order.Lts as lts
+use Rattle.lending.proofs.store.Reads as store-reads
 use Rattle.numbers.proofs.unit_of.Reads as unit-of-reads
 use Rattle.orders.proofs.order.Reads as order-reads
 
@@ -60,5 +60,5 @@ returns c =
     o : lts.After-order (unit-of-reads.Asked, unit-of-reads.Learnt, order-reads.Asked, order-reads.Learnt, store-reads.Asked, store-reads.Learnt) reads.Pre reads.Post
     o = c .before .before .before
 
-pub give-order-spec : {M : Type 1} → statement M
-give-order-spec = tie.close (tie.spec (λ c κs. search needs) (λ c κs. search needs) store-requires returns)
+pub order-spec : {M : Type 1} → statement M
+order-spec = tie.close (tie.spec (λ c κs. search needs) (λ c κs. search needs) store-requires returns)

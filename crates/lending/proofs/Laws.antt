@@ -12,7 +12,7 @@ use Rattle.bands.specs.Bands.{bandOf}
 use Rattle.section.specs.declared.Section.{Section}
 use Rattle.section.specs.declared.Stepped.{Stepped}
 use Rattle.section.specs.Step.{stepVerdict, acceptedStep, refused, stepped}
-use Rattle.exports.specs.Layout.{loneSection, loneNumbers, packed}
+use Rattle.lending.specs.Layout.{loneSection, loneNumbers, packed}
 
 -- the band of three words that were passed
 pub band-reads : {a b g : ℤ} → SFits w32 a → SFits w32 b → SFits w32 g → bandOf (toZ w32 (ofZ w32 a)) (toZ w32 (ofZ w32 b)) (toZ w32 (ofZ w32 g)) ≡ bandOf a b g

@@ -1,0 +1,2 @@
+-- What the static library passes to other languages, as numbers.
+pub mod Layout

@@ -1,0 +1,125 @@
+// What the functions of the static library share: calls on a unit, or on a section, whose numbers are lent.
+ghost use mathlib.Core.Path.{_≡_};
+ghost use mathlib.Core.Bool.{true};
+ghost use Rattle.refusals.specs.Numbers.{numberOf, isAccepted};
+ghost use Rattle.section.specs.Step.{stepped};
+ghost use Rattle.unit.specs.Fit.{Fit};
+ghost use Rattle.loading.specs.Loading.{loaded};
+ghost use Rattle.numbers.specs.Layout.{numbersOf};
+ghost use Rattle.lending.specs.Layout.{loneSection, loneNumbers, packed, numbersAfter, BlockGives, OrderGives, SheetReadGives};
+use bands::Band;
+use orders::Setting;
+use refusals::Verdict;
+use section::Section;
+use section::Stepped;
+use unit::Unit;
+
+// A section as numbers: A, B, G, x1, x2, y1, y2.
+pub const SECTION_NUMBERS: usize = 7;
+
+// One step of the section whose seven numbers are lent: A, B, G, x1, x2, y1, y2. They are those of the section after the step;
+// refused, they stay as they are. The answer is one number: 2^32 times the sum of the mark for limiting and twice the refusal's number, and
+// y added, which may be negative.
+pub fn section_step(numbers: &mut [i32; SECTION_NUMBERS], x: i32) -> i64
+    ensures { λ r. ⌜ (r ≡ packed (stepped (loneSection (now (numbers .entry))) x)) × (now (numbers .exit) ≡ loneNumbers (stepped (loneSection (now (numbers .entry))) x .section)) ⌝ }
+{
+    let alpha = numbers[0];
+    let beta = numbers[1];
+    let gamma = numbers[2];
+    let x1 = numbers[3];
+    let x2 = numbers[4];
+    let y1 = numbers[5];
+    let y2 = numbers[6];
+    let answer = section::step(
+        Section {
+            band: Band { alpha, beta, gamma },
+            x1,
+            x2,
+            y1,
+            y2,
+        },
+        x,
+    );
+    let after = answer.section;
+    *numbers = [
+        after.band.alpha,
+        after.band.beta,
+        after.band.gamma,
+        after.x1,
+        after.x2,
+        after.y1,
+        after.y2,
+    ];
+    pack(answer)
+}
+
+// Loads a band set: the lent numbers are then those of the loaded unit. 0 for an accepted set, else the number of its refusal.
+pub fn load(numbers: &mut [i32; numbers::UNIT_SIZE], set: &[i32]) -> u32
+    ensures { λ r. ⌜ (r ≡ numberOf (loaded (now (set .entry)) .verdict)) × (now (numbers .exit) ≡ numbersOf (loaded (now (set .entry)) .unit)) ⌝ }
+{
+    let answer = loading::load(set);
+    let verdict = answer.verdict;
+    let unit = answer.unit;
+    *numbers = numbers::numbers_of(unit);
+    refusals::number(verdict)
+}
+
+// Plays a block of frames through the unit whose numbers are lent: they are then those of the unit after it, and the output begins with
+// the frames. 0 for an accepted block, else the number of its refusal: the lent numbers and the output are then as they were.
+pub fn block(numbers: &mut [i32; numbers::UNIT_SIZE], input: &[u8], output: &mut [u8]) -> u32
+    ensures { λ r. ⌜ BlockGives (now (numbers .entry)) (now (input .entry)) (now (output .entry)) r (now (numbers .exit)) (now (output .exit)) ⌝ }
+{
+    let unit = numbers::unit_of(numbers);
+    let answer = blocks::play(unit, input, output);
+    let verdict = answer.verdict;
+    let after = answer.unit;
+    store(numbers, verdict, after)
+}
+
+// Gives a level order to the unit whose numbers are lent: they are then those of the unit after the order. 0 for an accepted order, else the
+// number of its refusal: the lent numbers are then as they were.
+pub fn order(numbers: &mut [i32; numbers::UNIT_SIZE], side: u32, band: u32, setting: Setting) -> u32
+    ensures { λ r. ⌜ OrderGives (now (numbers .entry)) side band setting r (now (numbers .exit)) ⌝ }
+{
+    let unit = numbers::unit_of(numbers);
+    let answer = orders::order(unit, side, band, setting);
+    let verdict = answer.verdict;
+    let after = answer.unit;
+    store(numbers, verdict, after)
+}
+
+// Reads a strip sheet: the lent numbers are then those of the unit that it carries. 0 for an accepted sheet, else the number of its
+// refusal: the lent numbers are then as they were.
+pub fn sheet_read(numbers: &mut [i32; numbers::UNIT_SIZE], bytes: &[u8]) -> u32
+    ensures { λ r. ⌜ SheetReadGives (now (numbers .entry)) (now (bytes .entry)) r (now (numbers .exit)) ⌝ }
+{
+    let mut carried = [0i32; numbers::UNIT_SIZE];
+    let found = reading::read_numbers(bytes, &mut carried);
+    if !refusals::accepted(found) {
+        return refusals::number(found);
+    }
+    *numbers = carried;
+    refusals::number(found)
+}
+
+// Replaces the lent numbers by those of the unit after an accepted call, and answers the verdict's number.
+fn store(numbers: &mut [i32; numbers::UNIT_SIZE], verdict: Verdict, after: Unit) -> u32
+    requires { ⌜ (isAccepted verdict ≡ true → Fit after) ⌝ }
+    ensures { λ r. ⌜ (r ≡ numberOf verdict) × (now (numbers .exit) ≡ numbersAfter (now (numbers .entry)) verdict after) ⌝ }
+{
+    if !refusals::accepted(verdict) {
+        return refusals::number(verdict);
+    }
+    *numbers = numbers::numbers_of(after);
+    refusals::number(verdict)
+}
+
+// An answer in one number.
+fn pack(answer: Stepped) -> i64
+    ensures { λ r. ⌜ r ≡ packed answer ⌝ }
+{
+    let verdict = answer.verdict;
+    let number = refusals::number(verdict) as i64;
+    let limited = answer.limited as i64;
+    (2 * number + limited) * 0x1_0000_0000 + answer.y as i64
+}
