@@ -18,7 +18,8 @@ use Rattle.unit.specs.Cleared.{bandsOf}
 use Rattle.unit.specs.Frame.{sectionFrame, channelFrame, exactMix, mix, output, unitFrame}
 use Rattle.unit.specs.Fit.{isVolume, isInput, isFlag, unitFits}
 use Rattle.loading.specs.Loading.{setVerdict}
-use Rattle.orders.specs.Orders.{isPlace, names, bandPosition, volumePosition, targetOf, levelVerdict, orderVerdict, aimedUnit, ordered}
+use Rattle.settings.specs.Settings.{isPlace, names, bandPosition, volumePosition, targetOf, levelVerdict}
+use Rattle.orders.specs.Orders.{orderVerdict, aimedUnit, ordered}
 use Rattle.blocks.specs.Bytes.{sampleOf, sampleAt, bitsOf}
 use Rattle.blocks.specs.Block.{blockVerdict, played, sound, blockPlayed, blockOutput}
 use Rattle.closeness.specs.Claim.{exactFrame, exactMixed, exactOutput, exactPlayed, bound, Close, allSamples, allLimits}

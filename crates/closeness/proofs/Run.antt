@@ -22,8 +22,9 @@ use Rattle.unit.specs.Fit.{Fit}
 use Rattle.unit.proofs.Fitness.{test-of-fit}
 use Rattle.unit.proofs.Tabulate.{any-append, any-snoc, tabulate-length}
 use Rattle.unit.proofs.Changed.{changed-length, changed-at}
-use Rattle.orders.specs.declared.Setting.{Setting}
-use Rattle.orders.specs.Orders.{volumeBand, names, targetOf, orderArguments, aimedSection, aimedChannel, aimedVolume, aimedBand, aimedUnit, ordered}
+use Rattle.settings.specs.declared.Setting.{Setting}
+use Rattle.settings.specs.Settings.{volumeBand, names, targetOf, orderArguments}
+use Rattle.orders.specs.Orders.{aimedSection, aimedChannel, aimedVolume, aimedBand, aimedUnit, ordered}
 use Rattle.orders.proofs.Laws.{aimed-fit, order-accepts}
 use Rattle.blocks.specs.Bytes.{sampleAt, wordAt, frameCount}
 use Rattle.blocks.specs.Block.{blockArguments, blockVerdict, played, blockPlayed, blockOutput}

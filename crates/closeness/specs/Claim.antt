@@ -30,8 +30,9 @@ use Rattle.unit.specs.Cleared.{clearedLevel, clearedChannel, clearedUnit, bands
 use Rattle.unit.specs.Frame.{anyLimits, sampleLow, sampleHigh}
 use Rattle.unit.specs.Fit.{Fit}
 use Rattle.loading.specs.Loading.{setVerdict, loaded}
-use Rattle.orders.specs.declared.Setting.{Setting}
-use Rattle.orders.specs.Orders.{volumeBand, names, targetOf, orderArguments, ordered}
+use Rattle.settings.specs.declared.Setting.{Setting}
+use Rattle.settings.specs.Settings.{volumeBand, names, targetOf, orderArguments}
+use Rattle.orders.specs.Orders.{ordered}
 use Rattle.blocks.specs.Bytes.{sampleAt, wordAt, frameSize, frameCount}
 use Rattle.blocks.specs.Block.{blockArguments, played, blockPlayed, blockOutput}
 

@@ -6,7 +6,7 @@ use lib.IntN.{ℤ, pos, negℤ, negsuc}
 use lib.Ieee.{fin}
 use lib.ListN.{getD, replicate}
 use Rattle.bands.specs.House.{houseSet}
-use Rattle.orders.specs.declared.Setting.the-variants.{Position, Factor, Mute}
+use Rattle.settings.specs.declared.Setting.the-variants.{Position, Factor, Mute}
 use Rattle.closeness.specs.Claim.{Call, order, block, Exact, silent, allExacts}
 
 -- with the house set: the volume to position 31; the left 16 kHz band to the factor 1/2; an order for a side that is not there; a block

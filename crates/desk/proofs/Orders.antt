@@ -6,7 +6,7 @@ use Prim.Native.Nat.{ℕ}
 use Rattle.refusals.specs.Numbers.{isAccepted}
 use Rattle.refusals.proofs.Laws.{passed, failed}
 use Rattle.unit.specs.declared.Unit.{Unit}
-use Rattle.orders.specs.declared.Setting.{Setting}
+use Rattle.settings.specs.declared.Setting.{Setting}
 use Rattle.orders.specs.declared.Ordered.{Ordered}
 use Rattle.orders.specs.Orders.{ordered}
 use Rattle.writing.specs.Written.{filled}

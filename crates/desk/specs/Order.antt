@@ -4,7 +4,7 @@ use mathlib.Core.List.{List}
 use Prim.Native.Nat.{ℕ}
 use Rattle.refusals.specs.Numbers.{isAccepted}
 use Rattle.refusals.specs.declared.Verdict.{Verdict}
-use Rattle.orders.specs.declared.Setting.{Setting}
+use Rattle.settings.specs.declared.Setting.{Setting}
 use Rattle.orders.specs.declared.Ordered.{Ordered}
 use Rattle.orders.specs.Orders.{ordered}
 use Rattle.writing.specs.Written.{filled}

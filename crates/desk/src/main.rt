@@ -7,8 +7,8 @@ ghost use Rattle.desk.specs.Order.{deskVerdict, deskSheet};
 mod arguments;
 
 use arguments::NONE;
-use orders::Setting;
 use refusals::Verdict;
+use settings::Setting;
 
 // One byte more than a sheet has, so that a longer one shows.
 const SHEET_ROOM: usize = sheet::SHEET_SIZE + 1;

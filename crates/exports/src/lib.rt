@@ -14,7 +14,7 @@ ghost use Rattle.numbers.specs.Layout.{unitOf, numbersOf};
 ghost use Rattle.lending.specs.Layout.{loneSection, loneNumbers, packed, PreviewGives, BlockGives, OrderGives, SheetWriteGives, SheetReadGives};
 use bands::Band;
 use levels::Level;
-use orders::Setting;
+use settings::Setting;
 
 // The nearest whole number to v / 2^k, halves to even.
 #[no_mangle]

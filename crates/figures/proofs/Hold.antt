@@ -9,7 +9,7 @@ use Rattle.section.specs.Step.{allWords, stepVerdict, acceptedStep, stepped, re
 use Rattle.levels.specs.Levels.{ramp}
 use Rattle.unit.specs.Frame.{sectionFrame, channelFrame, exactMix, mix, output, unitFrame}
 use Rattle.floats.specs.Value.{inUnits, factorTarget}
-use Rattle.orders.specs.Orders.{targetOf}
+use Rattle.settings.specs.Settings.{targetOf}
 use Rattle.figures.specs.Figures.{Figure, starred}
 
 pub starred-hold : map (λ (f : Figure). f .given) starred ≡ map (λ (f : Figure). f .printed) starred

@@ -12,8 +12,8 @@ use Rattle.section.specs.Step.{clearedSection, resultsOver}
 use Rattle.unit.specs.declared.Unit.{Unit}
 use Rattle.unit.specs.Cleared.{clearedChannel, bandsOf}
 use Rattle.unit.specs.Frame.{unitFrame, heard}
-use Rattle.orders.specs.declared.Setting.the-variants.{Factor}
-use Rattle.orders.specs.Orders.{targetOf}
+use Rattle.settings.specs.declared.Setting.the-variants.{Factor}
+use Rattle.settings.specs.Settings.{targetOf}
 
 pub record Figure : Type 0 where
   pub given : ℤ

@@ -14,7 +14,7 @@ use Rattle.section.specs.declared.Section.{Section}
 use Rattle.section.specs.declared.Stepped.{Stepped}
 use Rattle.preview.specs.Preview.{previewVerdict, previewed}
 use Rattle.unit.specs.declared.Unit.{Unit}
-use Rattle.orders.specs.declared.Setting.{Setting}
+use Rattle.settings.specs.declared.Setting.{Setting}
 use Rattle.orders.specs.Orders.{ordered}
 use Rattle.blocks.specs.Block.{blockPlayed, blockOutput}
 use Rattle.writing.specs.Written.{filledCount, filled}

@@ -8,10 +8,10 @@ ghost use Rattle.loading.specs.Loading.{loaded};
 ghost use Rattle.numbers.specs.Layout.{numbersOf};
 ghost use Rattle.lending.specs.Layout.{loneSection, loneNumbers, packed, numbersAfter, BlockGives, OrderGives, SheetReadGives};
 use bands::Band;
-use orders::Setting;
 use refusals::Verdict;
 use section::Section;
 use section::Stepped;
+use settings::Setting;
 use unit::Unit;
 
 // A section as numbers: A, B, G, x1, x2, y1, y2.

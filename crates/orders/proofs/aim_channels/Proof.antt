@@ -9,7 +9,8 @@ use mir.Facts.{toZ-ofZ}
 use Rattle.unit.specs.Lists.{changed}
 use Rattle.unit.proofs.Tabulate.{tabulate-all}
 use Rattle.unit.proofs.PastEnd.{zeroChannel}
-use Rattle.orders.specs.Orders.{names, aimedChannel}
+use Rattle.settings.specs.Settings.{names}
+use Rattle.orders.specs.Orders.{aimedChannel}
 use borrow.Author.Needs.{needs}
 use Rattle.orders.proofs.aim_channels.Statement.{statement}
 use Rattle.orders.proofs.aim_channels.Tie as tie

@@ -8,7 +8,8 @@ use mir.Facts.{toZ-ofZ}
 use borrow.Author.Tests.{eq-eqb, ne-eqb}
 use Rattle.refusals.proofs.Laws.{passed}
 use Rattle.unit.specs.declared.Channel.{Channel}
-use Rattle.orders.specs.Orders.{bothSides, names, aimedChannel}
+use Rattle.settings.specs.Settings.{bothSides, names}
+use Rattle.orders.specs.Orders.{aimedChannel}
 use borrow.Author.Needs.{needs}
 use Rattle.orders.proofs.aim_named.Statement.{statement}
 use Rattle.orders.proofs.aim_named.Tie as tie

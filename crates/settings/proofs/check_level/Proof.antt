@@ -1,9 +1,9 @@
--- `orders::check_level` meets its contract, case by case.
+-- `settings::check_level` meets its contract, case by case.
 use mathlib.Core.Path.{sym, ap, _∙_}
-use Rattle.orders.specs.Orders.{levelVerdict}
+use Rattle.settings.specs.Settings.{levelVerdict}
 use borrow.Author.Needs.{needs}
-use Rattle.orders.proofs.check_level.Statement.{statement}
-use Rattle.orders.proofs.check_level.Tie as tie
+use Rattle.settings.proofs.check_level.Statement.{statement}
+use Rattle.settings.proofs.check_level.Tie as tie
 
 returns : tie.Need-returns
 unfolding levelVerdict

@@ -1,9 +1,9 @@
--- `orders::check_position` meets its contract: its test is that of the definition.
+-- `settings::check_position` meets its contract: its test is that of the definition.
 use mathlib.Core.Path.{sym}
 use native.Mathlib.Omega.{arith}
 use borrow.Author.Tests.{le-leb, lt-leb}
-use Rattle.orders.proofs.check_position.Statement.{statement}
-use Rattle.orders.proofs.check_position.Tie as tie
+use Rattle.settings.proofs.check_position.Statement.{statement}
+use Rattle.settings.proofs.check_position.Tie as tie
 
 returns : tie.Need-returns
 returns c = sym (simp (le-leb (c .before .args .position) 31 (omega arith)))

@@ -1,16 +1,16 @@
--- `orders::check_factor` meets its contract: its two tests are those of the definition, in that order.
+-- `settings::check_factor` meets its contract: its two tests are those of the definition, in that order.
 use mathlib.Core.Path.{_≡_, sym, _∙_}
 use mathlib.Core.Bool.{true}
 use borrow.Author.Tests.{not-true, not-false}
 use Rattle.floats.specs.Value.{isFinite, inRange}
-use Rattle.orders.specs.Orders.{lowest, levelVerdict}
+use Rattle.settings.specs.Settings.{lowest, levelVerdict}
 use borrow.Author.Needs.{needs}
-use Rattle.orders.proofs.check_factor.Statement.{statement}
-use Rattle.orders.proofs.check_factor.Tie as tie
-use Rattle.orders.proofs.check_factor.Reads as reads
-use Rattle.orders.proofs.check_factor.Lts as lts
+use Rattle.settings.proofs.check_factor.Statement.{statement}
+use Rattle.settings.proofs.check_factor.Tie as tie
+use Rattle.settings.proofs.check_factor.Reads as reads
+use Rattle.settings.proofs.check_factor.Lts as lts
 use Rattle.floats.proofs.is_finite.Reads as is-finite-reads
-use Rattle.orders.proofs.is_factor.Reads as is-factor-reads
+use Rattle.settings.proofs.is_factor.Reads as is-factor-reads
 
 -- what the first test has shown, and what the second then tells
 module _ (c : lts.After-is-factor (is-finite-reads.Asked, is-finite-reads.Learnt, is-factor-reads.Asked, is-factor-reads.Learnt) reads.Pre reads.Post) where

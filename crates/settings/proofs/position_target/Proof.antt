@@ -1,4 +1,4 @@
--- `orders::position_target` meets its contract: with a position of one byte nothing comes near the ends of 64 bits.
+-- `settings::position_target` meets its contract: with a position of one byte nothing comes near the ends of 64 bits.
 use mathlib.Core.Path.{sym, ap, _∙_, subst}
 use mathlib.Core.Bool.{Bool, true, false, cond}
 use Prim.Native.Nat.{ℕ, _≤_}
@@ -11,12 +11,12 @@ use borrow.Author.Needs.{needs}
 use borrow.Author.Tests.{eq-eqb, ne-eqb}
 use Rattle.integers.proofs.Machine.{Bounded, literal, num, difference, product, result, result-need}
 use Rattle.refusals.proofs.Laws.{passed, failed}
-use Rattle.orders.specs.Orders.{volumeBand, bandStep, bandPosition, volumePosition, targetOf}
-use Rattle.orders.proofs.position_target.Statement.{statement}
-use Rattle.orders.proofs.position_target.Tie as tie
-use Rattle.orders.proofs.position_target.Reads as reads
-use Rattle.orders.proofs.position_target.Lts as lts
-use Rattle.orders.proofs.band_step.Reads as band-step-reads
+use Rattle.settings.specs.Settings.{volumeBand, bandStep, bandPosition, volumePosition, targetOf}
+use Rattle.settings.proofs.position_target.Statement.{statement}
+use Rattle.settings.proofs.position_target.Tie as tie
+use Rattle.settings.proofs.position_target.Reads as reads
+use Rattle.settings.proofs.position_target.Lts as lts
+use Rattle.settings.proofs.band_step.Reads as band-step-reads
 
 -- ---- the numbers
 

@@ -1,12 +1,12 @@
--- `orders::is_place` meets its contract: below 10 any of the three sides will do, at 10 side 2 alone.
+-- `settings::is_place` meets its contract: below 10 any of the three sides will do, at 10 side 2 alone.
 use mathlib.Core.Path.{sym}
 use mathlib.Core.Logic.{⊎-elim}
 use Prim.Native.Nat.{_<_}
 use native.Mathlib.Nat.{eq-or-lt-of-le}
-use Rattle.orders.specs.Orders.{volumeBand}
-use Rattle.orders.proofs.Laws.{band-place, volume-place, no-place}
-use Rattle.orders.proofs.is_place.Statement.{statement}
-use Rattle.orders.proofs.is_place.Tie as tie
+use Rattle.settings.specs.Settings.{volumeBand}
+use Rattle.settings.proofs.Laws.{band-place, volume-place, no-place}
+use Rattle.settings.proofs.is_place.Statement.{statement}
+use Rattle.settings.proofs.is_place.Tie as tie
 
 returns : tie.Need-returns
 returns c = sym (band-place (c .before .args .side) (c .before .args .band) (c .if1 .taken))

@@ -1,14 +1,14 @@
--- `orders::is_factor` meets its contract: the range of the volume, or that of a band.
+-- `settings::is_factor` meets its contract: the range of the volume, or that of a band.
 use mathlib.Core.Path.{ap, _∙_}
 use lib.Dec.{eqb}
 use lib.IntN.{ℤ}
 use borrow.Author.Tests.{eq-eqb, ne-eqb}
 use Rattle.refusals.proofs.Laws.{passed, failed}
 use Rattle.floats.specs.Value.{isFactor, bandLowest, volumeLowest}
-use Rattle.orders.specs.Orders.{volumeBand}
+use Rattle.settings.specs.Settings.{volumeBand}
 use borrow.Author.Needs.{needs}
-use Rattle.orders.proofs.is_factor.Statement.{statement}
-use Rattle.orders.proofs.is_factor.Tie as tie
+use Rattle.settings.proofs.is_factor.Statement.{statement}
+use Rattle.settings.proofs.is_factor.Tie as tie
 
 returns : tie.Need-returns
 returns c =

@@ -1,9 +1,9 @@
--- `orders::check_order` meets its contract: the place first, then the level.
+-- `settings::check_order` meets its contract: the place first, then the level.
 use mathlib.Core.Path.{sym, _∙_}
 use borrow.Author.Tests.{not-true, not-false}
 use borrow.Author.Needs.{needs}
-use Rattle.orders.proofs.check_order.Statement.{statement}
-use Rattle.orders.proofs.check_order.Tie as tie
+use Rattle.settings.proofs.check_order.Statement.{statement}
+use Rattle.settings.proofs.check_order.Tie as tie
 
 returns : tie.Need-returns
 returns c = sym (simp (sym (c .before .is-place .ensures) ∙ not-true _ (c .if1 .taken)))

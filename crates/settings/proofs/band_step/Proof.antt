@@ -1,10 +1,10 @@
--- `orders::band_step` meets its contract: its test is that of the definition.
+-- `settings::band_step` meets its contract: its test is that of the definition.
 use native.Mathlib.Omega.{arith}
 use borrow.Author.Tests.{le-leb, lt-leb}
 use lib.Dec.{leb}
 use Rattle.refusals.proofs.Laws.{passed, failed}
-use Rattle.orders.proofs.band_step.Statement.{statement}
-use Rattle.orders.proofs.band_step.Tie as tie
+use Rattle.settings.proofs.band_step.Statement.{statement}
+use Rattle.settings.proofs.band_step.Tie as tie
 
 returns : tie.Need-returns
 returns c = passed (leb 16 (c .before .args .position)) _ _ (le-leb 16 (c .before .args .position) (omega arith))

@@ -1,15 +1,15 @@
--- `orders::target_of` meets its contract, case by case. An accepted factor is one that a band takes, whatever the place.
+-- `settings::target_of` meets its contract, case by case. An accepted factor is one that a band takes, whatever the place.
 use mathlib.Core.Path.{_≡_, sym, ap, _∙_, subst}
 use mathlib.Core.Bool.{true}
 use mir.Syntax.{w64}
 use mir.Facts.{toZ-ofZ}
 use Rattle.refusals.specs.Numbers.{isAccepted}
-use Rattle.orders.specs.declared.Setting.{Setting}
-use Rattle.orders.specs.Orders.{levelVerdict, targetOf}
-use Rattle.orders.proofs.Laws.{factor-fits}
+use Rattle.settings.specs.declared.Setting.{Setting}
+use Rattle.settings.specs.Settings.{levelVerdict, targetOf}
+use Rattle.settings.proofs.Laws.{factor-fits}
 use borrow.Author.Needs.{needs}
-use Rattle.orders.proofs.target_of.Statement.{statement}
-use Rattle.orders.proofs.target_of.Tie as tie
+use Rattle.settings.proofs.target_of.Statement.{statement}
+use Rattle.settings.proofs.target_of.Tie as tie
 
 factor-target-requires : tie.Need-factor-target-requires
 factor-target-requires c κs =

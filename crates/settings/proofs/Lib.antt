@@ -1,0 +1,2 @@
+-- The laws of what an order asks.
+pub mod Laws

@@ -1,0 +1,2 @@
+-- What a level order asks.
+pub mod Settings
