@@ -15,9 +15,11 @@ use Rattle.unit.specs.declared.Unit.{Unit}
 use Rattle.unit.specs.Frame.{unitFrame, heard}
 use Rattle.unit.specs.Fit.{Fit}
 use Rattle.unit.proofs.Fitness.{test-of-fit}
-use Rattle.blocks.specs.Bytes.{sampleAt, wordsAt, frameSize, frameCount, bytesOf}
-use Rattle.blocks.specs.Block.{blockVerdict, played, sound, blockPlayed, blockOutput}
-use Rattle.blocks.proofs.Block.{BlockAccepts, played-fit, four-a-frame}
+use Rattle.frames.specs.Bytes.{sampleAt, wordsAt, frameSize, frameCount, bytesOf}
+use Rattle.frames.specs.Played.{played, sound}
+use Rattle.blocks.specs.Block.{blockVerdict, blockPlayed, blockOutput}
+use Rattle.frames.proofs.Many.{played-fit}
+use Rattle.blocks.proofs.Block.{BlockAccepts, four-a-frame}
 
 -- ---- the input words of a ++ b
 

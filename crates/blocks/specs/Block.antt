@@ -1,17 +1,17 @@
 -- Playing a block of frames, for any number of channels. Definitions only.
 use mathlib.Core.Bool.{cond}
-use mathlib.Core.List.{List, [], _++_}
-use Prim.Native.Nat.{ℕ, zero, suc, _*_, _%_}
+use mathlib.Core.List.{List, _++_}
+use Prim.Native.Nat.{ℕ, _%_}
 use lib.Dec.{eqb, leb}
 use lib.ListN.{length, drop}
 use Rattle.refusals.specs.Numbers.{unless, isAccepted}
 use Rattle.refusals.specs.declared.Verdict.{Verdict}
 use Rattle.refusals.specs.declared.Verdict.the-variants.{Accepted, InputLength, OutputShort, Unfit}
 use Rattle.unit.specs.declared.Unit.{Unit}
-use Rattle.unit.specs.Frame.{unitFrame, heard}
 use Rattle.unit.specs.Fit.{unitFits}
 use Rattle.blocks.specs.declared.Played.{Played}
-use Rattle.blocks.specs.Bytes.{wordsAt, frameSize, frameCount, bytesOf}
+use Rattle.frames.specs.Bytes.{frameSize, frameCount}
+use Rattle.frames.specs.Played.{played, sound}
 
 -- "5 input bytes no multiple of four; 6 output shorter than input": what a block is refused for, whatever the unit
 abbrev pub blockArguments : ℕ → ℕ → ℕ → Verdict
@@ -23,25 +23,15 @@ unfoldable pub blockVerdict : ℕ → Unit → ℕ → ℕ → Verdict
 blockVerdict channels u given room = unless (unitFits u) Unfit (blockArguments channels given room)
 
 module _ (channels : ℕ) (u : Unit) (input : List ℕ) where
-  -- the unit after the first n frames of the input
-  unfoldable pub played : ℕ → Unit
-  played zero = u
-  played (suc n) = unitFrame (wordsAt channels input (frameSize channels * n)) (played n)
-
-  -- what is heard of them
-  unfoldable pub sound : ℕ → List ℕ
-  sound zero = []
-  sound (suc n) = sound n ++ bytesOf (heard (played (suc n)))
-
   -- the answer: accepted, the unit after all frames; refused, "unit and output unchanged"
   unfoldable pub blockPlayed : ℕ → Played
   blockPlayed room =
       record {
         verdict = blockVerdict channels u (length input) room;
-        unit = cond (isAccepted (blockVerdict channels u (length input) room)) (played (frameCount channels input)) u;
+        unit = cond (isAccepted (blockVerdict channels u (length input) room)) (played channels u input (frameCount channels input)) u;
       }
 
   -- the output: accepted, the frames, and "output bytes beyond the block keep their contents"
   unfoldable pub blockOutput : List ℕ → List ℕ
   blockOutput room =
-      cond (isAccepted (blockVerdict channels u (length input) (length room))) (sound (frameCount channels input) ++ drop (length input) room) room
+      cond (isAccepted (blockVerdict channels u (length input) (length room))) (sound channels u input (frameCount channels input) ++ drop (length input) room) room

@@ -1,4 +1,3 @@
 -- Blocks of frames.
-pub mod Bytes
 pub mod Block
 pub mod Run

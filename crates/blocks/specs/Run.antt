@@ -1,63 +1,15 @@
--- What the routines within a block ask and promise. Definitions only.
+-- An accepted block. Definitions only.
 use mathlib.Core.Path.{_≡_}
-use mathlib.Core.List.{List, [], _∷_, _++_}
-use Prim.Native.Nat.{ℕ, _+_, _*_, _≤_, _<_}
-use lib.IntN.{ℤ, natAbs}
-use lib.ListN.{length, set, drop}
-use Rattle.unit.specs.Sizes.{channelSize}
+use mathlib.Core.List.{List, _++_}
+use Prim.Native.Nat.{ℕ}
+use lib.ListN.{length, drop}
 use Rattle.bands.specs.declared.Band.{Band}
 use Rattle.levels.specs.declared.Level.{Level}
 use Rattle.unit.specs.declared.Channel.{Channel}
 use Rattle.unit.specs.declared.Unit.{Unit}
-use Rattle.unit.specs.Lists.{Each}
-use Rattle.unit.specs.Cleared.{bandsOf}
-use Rattle.unit.specs.Frame.{channelFrame, mix}
-use Rattle.unit.specs.Fit.{BandFit, ChannelFit, Fit}
-use Rattle.engine.specs.Numbers.{channelOf, mixSize}
-use Rattle.blocks.specs.Bytes.{wordAt, frameCount, lowByte, highByte}
-use Rattle.blocks.specs.Block.{played, sound}
-
--- a sample stored as two bytes
-abbrev pub putSample : List ℕ → ℕ → ℤ → List ℕ
-putSample bytes at s = set (set bytes at (lowByte s)) (at + 1) (highByte s)
-
--- ---- one channel's part in a frame
-
--- what it asks
-pub record ChannelMixAsks (bands l : List ℤ) (input : List ℕ) (at : ℕ) : Type 0 where
-  pub bands-fit : Each BandFit (bandsOf bands)
-  pub size : length l ≡ channelSize
-  pub channel-fit : ChannelFit (channelOf l)
-  pub input-has : at + 1 < length input
-
--- what it gives: the numbers of the channel after the frame, and its m
-pub record ChannelMixGives (bands l : List ℤ) (input : List ℕ) (at : ℕ) (after : List ℤ) (m : ℤ) : Type 0 where
-  pub size : length after ≡ channelSize
-  pub channel : channelOf after ≡ channelFrame (bandsOf bands) (wordAt input at) (channelOf l)
-  pub mixed : m ≡ mix (channelFrame (bandsOf bands) (wordAt input at) (channelOf l))
-  pub small : natAbs m ≤ mixSize
-
--- ---- all frames
-
--- the unit of flat numbers
-abbrev pub unitWith : Level → List ℤ → List ℤ → List ℤ → Unit
-unitWith volume bands left right =
-    record { volume = volume; bands = bandsOf bands; channels = channelOf left ∷ channelOf right ∷ [] }
-
--- what playing so many frames asks: a fit unit, and bytes enough
-pub record FramesAsks (volume : Level) (bands left right : List ℤ) (frames : ℕ) (input room : List ℕ) : Type 0 where
-  pub left-size : length left ≡ channelSize
-  pub right-size : length right ≡ channelSize
-  pub fit : Fit (unitWith volume bands left right)
-  pub input-has : 4 * frames ≤ length input
-  pub room-has : 4 * frames ≤ length room
-
--- what it gives: the numbers of the unit after them, and their sound, with the bytes beyond as they were
-pub record FramesGives (volume : Level) (bands left right : List ℤ) (frames : ℕ) (input room : List ℕ) (volume' : Level) (left' right' : List ℤ) (filled : List ℕ) : Type 0 where
-  pub unit : unitWith volume' bands left' right' ≡ played 2 (unitWith volume bands left right) input frames
-  pub bytes : filled ≡ sound 2 (unitWith volume bands left right) input frames ++ drop (4 * frames) room
-
--- ---- an accepted block
+use Rattle.unit.specs.Sizes.{channelCount}
+use Rattle.frames.specs.Bytes.{frameCount}
+use Rattle.frames.specs.Played.{played, sound}
 
 -- a unit by its parts
 abbrev pub unitOfParts : Level → List Band → List Channel → Unit
@@ -65,5 +17,5 @@ unitOfParts volume bands channels = record { volume = volume; bands = bands; cha
 
 -- the unit after all frames, and the output
 pub record RunGives (u : Unit) (input room : List ℕ) (after : Unit) (filled : List ℕ) : Type 0 where
-  pub unit : after ≡ played 2 u input (frameCount 2 input)
-  pub bytes : filled ≡ sound 2 u input (frameCount 2 input) ++ drop (length input) room
+  pub unit : after ≡ played channelCount u input (frameCount channelCount input)
+  pub bytes : filled ≡ sound channelCount u input (frameCount channelCount input) ++ drop (length input) room

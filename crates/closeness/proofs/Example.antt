@@ -20,8 +20,9 @@ use Rattle.unit.specs.Fit.{isVolume, isInput, isFlag, unitFits}
 use Rattle.loading.specs.Loading.{setVerdict}
 use Rattle.settings.specs.Settings.{isPlace, names, bandPosition, volumePosition, targetOf, levelVerdict}
 use Rattle.orders.specs.Orders.{orderVerdict, aimedUnit, ordered}
-use Rattle.blocks.specs.Bytes.{sampleOf, sampleAt, bitsOf}
-use Rattle.blocks.specs.Block.{blockVerdict, played, sound, blockPlayed, blockOutput}
+use Rattle.frames.specs.Bytes.{sampleOf, sampleAt, bitsOf}
+use Rattle.frames.specs.Played.{played, sound}
+use Rattle.blocks.specs.Block.{blockVerdict, blockPlayed, blockOutput}
 use Rattle.closeness.specs.Claim.{exactFrame, exactMixed, exactOutput, exactPlayed, bound, Close, allSamples, allLimits}
 use Rattle.closeness.specs.Example.{exampleCalls, leftSamples, leftLimits, second, secondOutput, secondBound, loudSet, loudCalls}
 use Rattle.closeness.proofs.Holds.{demand3}

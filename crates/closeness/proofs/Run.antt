@@ -26,9 +26,11 @@ use Rattle.settings.specs.declared.Setting.{Setting}
 use Rattle.settings.specs.Settings.{volumeBand, names, targetOf, orderArguments}
 use Rattle.orders.specs.Orders.{aimedSection, aimedChannel, aimedVolume, aimedBand, aimedUnit, ordered}
 use Rattle.orders.proofs.Laws.{aimed-fit, order-accepts}
-use Rattle.blocks.specs.Bytes.{sampleAt, wordAt, frameCount}
-use Rattle.blocks.specs.Block.{blockArguments, blockVerdict, played, blockPlayed, blockOutput}
-use Rattle.blocks.proofs.Block.{BlockAccepts, played-fit, played-channels, block-accepted}
+use Rattle.frames.specs.Bytes.{sampleAt, wordAt, frameCount}
+use Rattle.frames.specs.Played.{played}
+use Rattle.blocks.specs.Block.{blockArguments, blockVerdict, blockPlayed, blockOutput}
+use Rattle.frames.proofs.Many.{played-fit, played-channels}
+use Rattle.blocks.proofs.Block.{BlockAccepts, block-accepted}
 use Rattle.blocks.proofs.Read.{played-channel, output-sample}
 use Rattle.closeness.specs.Claim.{Call, order, block, placeOf, unitAfter, samplesOf, samples, channelIn, limitsOn, limitsOf, limits, handedBack, Results, Exact, exactFrame, exactAimed, exactPlayed, exactAfter, exactsOf, exacts, Close}
 use Rattle.closeness.proofs.Band.{Near}

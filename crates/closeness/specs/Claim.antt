@@ -33,8 +33,9 @@ use Rattle.loading.specs.Loading.{setVerdict, loaded}
 use Rattle.settings.specs.declared.Setting.{Setting}
 use Rattle.settings.specs.Settings.{volumeBand, names, targetOf, orderArguments}
 use Rattle.orders.specs.Orders.{ordered}
-use Rattle.blocks.specs.Bytes.{sampleAt, wordAt, frameSize, frameCount}
-use Rattle.blocks.specs.Block.{blockArguments, played, blockPlayed, blockOutput}
+use Rattle.frames.specs.Bytes.{sampleAt, wordAt, frameSize, frameCount}
+use Rattle.frames.specs.Played.{played}
+use Rattle.blocks.specs.Block.{blockArguments, blockPlayed, blockOutput}
 
 -- ---- "a list of calls, each a level order or a block of frames, refused ones included"
 

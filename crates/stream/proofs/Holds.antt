@@ -11,9 +11,11 @@ use Rattle.refusals.proofs.Laws.{passed, accepted-only}
 use Rattle.refusals.specs.Numbers.{isAccepted}
 use Rattle.unit.specs.declared.Unit.{Unit}
 use Rattle.unit.specs.Fit.{Fit}
-use Rattle.blocks.specs.Bytes.{frameCount}
-use Rattle.blocks.specs.Block.{played, sound, blockVerdict, blockPlayed, blockOutput}
-use Rattle.blocks.proofs.Block.{BlockAccepts, four-a-frame, sound-length, played-channels}
+use Rattle.frames.specs.Bytes.{frameCount}
+use Rattle.frames.specs.Played.{played, sound}
+use Rattle.blocks.specs.Block.{blockVerdict, blockPlayed, blockOutput}
+use Rattle.frames.proofs.Many.{sound-length, played-channels}
+use Rattle.blocks.proofs.Block.{BlockAccepts, four-a-frame}
 use Rattle.blocks.proofs.Append.{accepts-block, accepted-unit, accepted-output, block-fit, block-append-unit, block-append-output}
 use Rattle.stream.specs.Advance.{wholeCount, wholeFrames, tailBytes, advanced, advancedOutput, advancedInput}
 use Rattle.stream.specs.Claim.{Stream, oneBlock, begun, next, streamed, allOf, Advances, Ready, CutAnywhere}

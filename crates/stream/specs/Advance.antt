@@ -6,7 +6,7 @@ use lib.ListN.{length, take, drop}
 use Rattle.refusals.specs.Numbers.{isAccepted}
 use Rattle.refusals.specs.declared.Verdict.{Verdict}
 use Rattle.unit.specs.declared.Unit.{Unit}
-use Rattle.blocks.specs.Bytes.{frameSize}
+use Rattle.frames.specs.Bytes.{frameSize}
 use Rattle.blocks.specs.Block.{blockPlayed, blockOutput}
 use Rattle.stream.specs.declared.Advanced.{Advanced}
 

@@ -4,7 +4,7 @@ ghost use mathlib.Core.Path.{_≡_};
 ghost use mathlib.Core.List.{_++_};
 ghost use Prim.Native.Nat.{_+_, _≤_};
 ghost use lib.ListN.{length, drop};
-ghost use Rattle.blocks.specs.Bytes.{frameSize};
+ghost use Rattle.frames.specs.Bytes.{frameSize};
 ghost use Rattle.unit.specs.Sizes.{channelCount};
 ghost use Rattle.stream.specs.Advance.{advanced, advancedOutput, advancedInput};
 use refusals::Verdict;
@@ -24,7 +24,7 @@ pub struct Advanced {
 pub fn advance(unit: Unit, input: &mut [u8], output: &mut [u8]) -> Advanced
     ensures { λ r. ⌜ (r ≡ advanced channelCount unit (now (input .entry)) (length (now (output .entry)))) × (now (output .exit) ≡ advancedOutput channelCount unit (now (input .entry)) (now (output .entry))) × (now (input .exit) ≡ advancedInput channelCount unit (now (input .entry)) (length (now (output .entry)))) ⌝ }
 {
-    let held = input.len() % blocks::FRAME_SIZE;
+    let held = input.len() % frames::FRAME_SIZE;
     let whole = input.len() - held;
     let played = blocks::play(unit, &input[..whole], output);
     let verdict = played.verdict;
@@ -45,7 +45,7 @@ fn keep_tail(input: &mut [u8], from: usize)
     requires { ⌜ (from ≤ length (now input)) × (length (now input) ≤ from + frameSize channelCount) ⌝ }
     ensures { λ r. ⌜ now (input .exit) ≡ drop from (now (input .entry)) ++ drop (length (drop from (now (input .entry)))) (now (input .entry)) ⌝ }
 {
-    let mut tail = [0u8; blocks::FRAME_SIZE];
+    let mut tail = [0u8; frames::FRAME_SIZE];
     let count = bytes::copy(&input[from..], &mut tail);
     bytes::copy(&tail[..count], input);
 }

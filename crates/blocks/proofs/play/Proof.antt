@@ -10,8 +10,9 @@ use Rattle.refusals.proofs.Laws.{passed, failed}
 use Rattle.refusals.specs.Numbers.{isAccepted}
 use Rattle.refusals.specs.declared.Verdict.{Verdict}
 use Rattle.unit.specs.declared.Unit.{Unit}
-use Rattle.blocks.specs.Bytes.{frameCount}
-use Rattle.blocks.specs.Block.{blockVerdict, played, sound, blockPlayed, blockOutput}
+use Rattle.frames.specs.Bytes.{frameCount}
+use Rattle.frames.specs.Played.{played, sound}
+use Rattle.blocks.specs.Block.{blockVerdict, blockPlayed, blockOutput}
 use Rattle.blocks.proofs.play.Statement.{statement}
 use Rattle.blocks.proofs.play.Tie as tie
 use Rattle.blocks.proofs.play.Reads as reads

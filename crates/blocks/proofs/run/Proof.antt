@@ -11,15 +11,16 @@ use Rattle.unit.specs.declared.Unit.{Unit}
 use Rattle.unit.specs.Fit.{Fit}
 use Rattle.unit.proofs.Tabulate.{tabulate-all}
 use Rattle.unit.proofs.PastEnd.{zeroChannel}
-use Rattle.blocks.specs.Block.{played, sound}
-use Rattle.blocks.specs.Run.{unitWith, unitOfParts}
+use Rattle.frames.specs.Played.{played, sound}
+use Rattle.frames.specs.Run.{unitWith}
+use Rattle.blocks.specs.Run.{unitOfParts}
 use Rattle.blocks.proofs.Block.{BlockAccepts, block-accepted, four-a-frame}
 use borrow.Author.Needs.{needs}
 use Rattle.blocks.proofs.run.Statement.{statement}
 use Rattle.blocks.proofs.run.Tie as tie
 use Rattle.blocks.proofs.run.Reads as reads
 use Rattle.blocks.proofs.run.Lts as lts
-use Rattle.blocks.proofs.frames.Reads as frames-reads
+use Rattle.frames.proofs.frames.Reads as frames-reads
 use Rattle.packing.proofs.band_numbers.Reads as band-numbers-reads
 use Rattle.packing.proofs.channel_numbers.Reads as channel-numbers-reads
 use Rattle.packing.proofs.channel_of.Reads as channel-of-reads

@@ -1,4 +1,4 @@
--- `blocks::sample` meets its contract: two bytes make 16 bits.
+-- `frames::sample` meets its contract: two bytes make 16 bits.
 use mathlib.Core.Path.{_≡_, sym, ap, _∙_}
 use Prim.Native.Nat.{ℕ, _+_, _*_, _<_}
 use native.Mathlib.Nat.{mod-eq-of-lt}
@@ -13,11 +13,11 @@ use mir.Val.{SFits}
 use mir.Facts.{toZ-pos}
 use Rattle.integers.proofs.Parts.{linear, var, _⊖_}
 use Rattle.integers.proofs.Machine.{Num, literal, binary, binary-need, range-fits}
-use Rattle.blocks.specs.Bytes.{sampleOf, sampleAt}
-use Rattle.blocks.proofs.sample.Statement.{statement}
-use Rattle.blocks.proofs.sample.Tie as tie
-use Rattle.blocks.proofs.sample.Reads as reads
-use Rattle.blocks.proofs.sample.Lts as lts
+use Rattle.frames.specs.Bytes.{sampleOf, sampleAt}
+use Rattle.frames.proofs.sample.Statement.{statement}
+use Rattle.frames.proofs.sample.Tie as tie
+use Rattle.frames.proofs.sample.Reads as reads
+use Rattle.frames.proofs.sample.Lts as lts
 
 module _ (c : lts.After-shared-slice-known2 reads.Pre reads.Post) where
   abbrev low : ℕ

@@ -1,4 +1,4 @@
--- `blocks::put_sound` meets its contract: an output is a sample.
+-- `frames::put_sound` meets its contract: an output is a sample.
 use mathlib.Core.Path.{_≡_, sym, ap, ap₂, _∙_, subst}
 use lib.IntN.{ℤ}
 use lib.Signed.{_≤ℤ_, leZ-yes}
@@ -10,12 +10,12 @@ use mir.Facts.{toZ-ofZ}
 use Rattle.rounding.proofs.Limit.{limit-low, limit-high}
 use Rattle.unit.specs.Frame.{output, sampleLow, sampleHigh}
 use Rattle.engine.specs.Numbers.{OutputAsks}
-use Rattle.blocks.specs.Run.{putSample}
-use Rattle.blocks.proofs.put_sound.Statement.{statement}
-use Rattle.blocks.proofs.put_sound.Tie as tie
-use Rattle.blocks.proofs.put_sound.Reads as reads
-use Rattle.blocks.proofs.put_sound.Lts as lts
-use Rattle.blocks.proofs.put_sample.Reads as put-sample-reads
+use Rattle.frames.specs.Run.{putSample}
+use Rattle.frames.proofs.put_sound.Statement.{statement}
+use Rattle.frames.proofs.put_sound.Tie as tie
+use Rattle.frames.proofs.put_sound.Reads as reads
+use Rattle.frames.proofs.put_sound.Lts as lts
+use Rattle.frames.proofs.put_sample.Reads as put-sample-reads
 use Rattle.engine.proofs.output.Reads as output-reads
 
 -- an output is a sample

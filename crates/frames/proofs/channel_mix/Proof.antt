@@ -1,4 +1,4 @@
--- `blocks::channel_mix` meets its contract: 256 × the sample is an input word, and the frame's m is small.
+-- `frames::channel_mix` meets its contract: 256 × the sample is an input word, and the frame's m is small.
 use mathlib.Core.Path.{_≡_, sym, ap, _∙_, subst}
 use mathlib.Core.List.{List}
 use Prim.Native.Nat.{_≤_}
@@ -19,14 +19,14 @@ use Rattle.unit.proofs.Ranges.{input-size}
 use Rattle.unit.proofs.Mix.{mix-size}
 use Rattle.unit.proofs.Stays.{channel-stays}
 use Rattle.engine.specs.Numbers.{channelOf, mixSize, ChannelFrameAsks}
-use Rattle.blocks.specs.Bytes.{sampleAt, wordAt}
-use Rattle.blocks.proofs.Bytes.{word-input}
+use Rattle.frames.specs.Bytes.{sampleAt, wordAt}
+use Rattle.frames.proofs.Bytes.{word-input}
 use borrow.Author.Needs.{needs}
-use Rattle.blocks.proofs.channel_mix.Statement.{statement}
-use Rattle.blocks.proofs.channel_mix.Tie as tie
-use Rattle.blocks.proofs.channel_mix.Reads as reads
-use Rattle.blocks.proofs.channel_mix.Lts as lts
-use Rattle.blocks.proofs.sample.Reads as sample-reads
+use Rattle.frames.proofs.channel_mix.Statement.{statement}
+use Rattle.frames.proofs.channel_mix.Tie as tie
+use Rattle.frames.proofs.channel_mix.Reads as reads
+use Rattle.frames.proofs.channel_mix.Lts as lts
+use Rattle.frames.proofs.sample.Reads as sample-reads
 use Rattle.engine.proofs.channel_frame.Reads as channel-frame-reads
 
 -- ---- the input word

@@ -1,4 +1,4 @@
--- `blocks::put_sample` meets its contract: s + 2^16 lies between 2^15 and 2^17.
+-- `frames::put_sample` meets its contract: s + 2^16 lies between 2^15 and 2^17.
 use mathlib.Core.Path.{ap, subst, sym}
 use Prim.Native.Nat.{ℕ, _+_, _/_, _%_}
 use native.Mathlib.Omega.{arith}
@@ -12,12 +12,12 @@ use mir.Val.{SFits, Fits}
 use Rattle.integers.proofs.Parts.{linear, var, _⊕_}
 use Rattle.integers.proofs.Abs.{abs-le}
 use Rattle.integers.proofs.Machine.{Num, num, literal, binary, binary-need, range-fits}
-use Rattle.blocks.specs.Bytes.{bitsOf}
+use Rattle.frames.specs.Bytes.{bitsOf}
 use borrow.Author.Needs.{needs}
-use Rattle.blocks.proofs.put_sample.Statement.{statement}
-use Rattle.blocks.proofs.put_sample.Tie as tie
-use Rattle.blocks.proofs.put_sample.Reads as reads
-use Rattle.blocks.proofs.put_sample.Lts as lts
+use Rattle.frames.proofs.put_sample.Statement.{statement}
+use Rattle.frames.proofs.put_sample.Tie as tie
+use Rattle.frames.proofs.put_sample.Reads as reads
+use Rattle.frames.proofs.put_sample.Lts as lts
 
 module _ (c : lts.Start reads.Pre reads.Post) where
   abbrev raised : ℤ

@@ -1,4 +1,4 @@
--- `blocks::frames` meets its contract. The loop's invariant: the numbers stand for the unit after i frames, and the output begins with their sound.
+-- `frames::frames` meets its contract. The loop's invariant: the numbers stand for the unit after i frames, and the output begins with their sound.
 use mathlib.Core.Path.{_≡_, refl, sym, ap, ap₂, _∙_, subst}
 use mathlib.Core.List.{List, _++_}
 use Prim.Native.Nat.{ℕ, suc, _+_, _-_, _*_, _^_, _≤_, _<_}
@@ -24,15 +24,15 @@ use Rattle.unit.specs.Fit.{Fit}
 use Rattle.unit.proofs.Ranges.{volume-size}
 use Rattle.unit.proofs.Stays.{volume-stays}
 use Rattle.engine.specs.Numbers.{channelOf, mixSize, OutputAsks}
-use Rattle.blocks.specs.Block.{played, sound}
-use Rattle.blocks.specs.Run.{putSample, ChannelMixAsks, unitWith}
-use Rattle.blocks.proofs.Block.{played-fit, sound-length, unit-more, bytes-more}
-use Rattle.blocks.proofs.frames.Statement.{statement}
-use Rattle.blocks.proofs.frames.Tie as tie
-use Rattle.blocks.proofs.frames.Reads as reads
-use Rattle.blocks.proofs.frames.Lts as lts
-use Rattle.blocks.proofs.channel_mix.Reads as channel-mix-reads
-use Rattle.blocks.proofs.put_sound.Reads as put-sound-reads
+use Rattle.frames.specs.Played.{played, sound}
+use Rattle.frames.specs.Run.{putSample, ChannelMixAsks, unitWith}
+use Rattle.frames.proofs.Many.{played-fit, sound-length, unit-more, bytes-more}
+use Rattle.frames.proofs.frames.Statement.{statement}
+use Rattle.frames.proofs.frames.Tie as tie
+use Rattle.frames.proofs.frames.Reads as reads
+use Rattle.frames.proofs.frames.Lts as lts
+use Rattle.frames.proofs.channel_mix.Reads as channel-mix-reads
+use Rattle.frames.proofs.put_sound.Reads as put-sound-reads
 use Rattle.levels.proofs.Level.moved.Reads as moved-reads
 
 pub record Inv (u : Unit) (bands : List ℤ) (count : ℕ) (input room : List ℕ) (l r : List ℤ) (out : List ℕ) (level : Level) (i : ℕ) : Type 0 where

@@ -1,0 +1,4 @@
+-- Frames of sound.
+pub mod Bytes
+pub mod Played
+pub mod Run
