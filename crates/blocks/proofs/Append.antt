@@ -19,7 +19,7 @@ use Rattle.frames.specs.Bytes.{sampleAt, wordsAt, frameSize, frameCount, bytesO
 use Rattle.frames.specs.Played.{played, sound}
 use Rattle.blocks.specs.Block.{blockVerdict, blockPlayed, blockOutput}
 use Rattle.frames.proofs.Many.{played-fit}
-use Rattle.blocks.proofs.Block.{BlockAccepts, four-a-frame}
+use Rattle.blocks.proofs.Block.{BlockAccepts, accepts-block, four-a-frame}
 
 -- ---- the input words of a ++ b
 
@@ -102,21 +102,15 @@ module _ (channels : ℕ) (u : Unit) (a b : List ℕ) where
 
 -- ---- the blocks themselves
 
-pub accepts-block : (channels : ℕ) (u : Unit) (given room : ℕ) → BlockAccepts channels u given room → isAccepted (blockVerdict channels u given room) ≡ true
-unfolding blockVerdict
-accepts-block channels u given room c =
-    simp (test-of-fit u (c .fit), eq-eqb (given % frameSize channels) 0 (c .frames), le-leb given room (c .enough))
-
 -- an accepted block's unit and output
 module _ (channels : ℕ) (u : Unit) (input : List ℕ) where
   pub accepted-unit : (room : ℕ) → BlockAccepts channels u (length input) room → blockPlayed channels u input room .unit ≡ played channels u input (frameCount channels input)
   unfolding blockPlayed
-  accepted-unit room c = ap (λ (t : Bool). cond t (played channels u input (frameCount channels input)) u) (accepts-block channels u (length input) room c)
+  accepted-unit room c = simp (accepts-block channels u (length input) room c)
 
   pub accepted-output : (room : List ℕ) → BlockAccepts channels u (length input) (length room) → blockOutput channels u input room ≡ sound channels u input (frameCount channels input) ++ drop (length input) room
   unfolding blockOutput
-  accepted-output room c =
-      ap (λ (t : Bool). cond t (sound channels u input (frameCount channels input) ++ drop (length input) room) room) (accepts-block channels u (length input) (length room) c)
+  accepted-output room c = simp (accepts-block channels u (length input) (length room) c)
 
   -- a fit unit stays fit
   pub block-fit : (room : ℕ) → Fit u → Fit (blockPlayed channels u input room .unit)

@@ -1,14 +1,15 @@
 -- `blocks::check_block` meets its contract: the unit first, then the lengths.
 use mathlib.Core.Path.{sym, _∙_}
 use borrow.Author.Tests.{not-true, not-false, eq-eqb, ne-eqb, le-leb, lt-leb}
+use Rattle.unit.specs.Sizes.{channelCount}
 use Rattle.blocks.specs.Block.{blockVerdict}
+use Rattle.blocks.proofs.Block.{unfit-first}
 use borrow.Author.Needs.{needs}
 use Rattle.blocks.proofs.check_block.Statement.{statement}
 use Rattle.blocks.proofs.check_block.Tie as tie
 
 returns : tie.Need-returns
-unfolding blockVerdict
-returns c = sym (simp (sym (c .before .is-fit .ensures) ∙ not-true _ (c .if1 .taken)))
+returns c = sym (unfit-first channelCount _ _ _ (sym (c .before .is-fit .ensures) ∙ not-true _ (c .if1 .taken)))
 
 returns-2 : tie.Need-returns-2
 unfolding blockVerdict

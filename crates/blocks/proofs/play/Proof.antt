@@ -6,13 +6,15 @@ use Prim.Native.Nat.{ℕ}
 use lib.ListN.{length, drop}
 use denote.Ref.{now}
 use borrow.Author.Needs.{needs}
-use Rattle.refusals.proofs.Laws.{passed, failed}
+use Rattle.refusals.proofs.Laws.{passed}
 use Rattle.refusals.specs.Numbers.{isAccepted}
 use Rattle.refusals.specs.declared.Verdict.{Verdict}
 use Rattle.unit.specs.declared.Unit.{Unit}
+use Rattle.unit.specs.Sizes.{channelCount}
 use Rattle.frames.specs.Bytes.{frameCount}
 use Rattle.frames.specs.Played.{played, sound}
 use Rattle.blocks.specs.Block.{blockVerdict, blockPlayed, blockOutput}
+use Rattle.blocks.proofs.Block.{refused-unit, refused-output}
 use Rattle.blocks.proofs.play.Statement.{statement}
 use Rattle.blocks.proofs.play.Tie as tie
 use Rattle.blocks.proofs.play.Reads as reads
@@ -64,21 +66,12 @@ returns c = (
     yes = accepted-is a ∙ r .before .before .before .before .before .if1 .taken
 
 returns-2 : tie.Need-returns-2
-unfolding blockPlayed blockOutput
+unfolding blockPlayed
 returns-2 c = (
-  (λ i. record { verdict = verdict-is (c .before) i; unit = failed (isAccepted (verdict (c .before))) (played 2 u input (frameCount 2 input)) u no i }),
-  failed (isAccepted (verdict (c .before))) (sound 2 u input (frameCount 2 input) ++ drop (length input) room) room no,
+  (λ i. record { verdict = verdict-is (c .before) i; unit = sym (refused-unit channelCount (s (c .before) .args .unit) (now (s (c .before) .args .input)) _ no) i }),
+  sym (refused-output channelCount (s (c .before) .args .unit) (now (s (c .before) .args .input)) _ no),
 )
   where
-    u : Unit
-    u = s (c .before) .args .unit
-
-    input : List ℕ
-    input = now (s (c .before) .args .input)
-
-    room : List ℕ
-    room = now (s (c .before) .args .output)
-
     no : isAccepted (verdict (c .before)) ≡ false
     no = accepted-is (c .before) ∙ c .if1 .left
 
