@@ -18,7 +18,7 @@ pub fn number(place: usize) -> u32 {
     }
     let mut field = [b' '; fields::FIELD_SIZE];
     put_right(&text[..count], &mut field);
-    unsigned(fields::read_field(&field, 0))
+    unsigned(field_reading::read_field(&field, 0))
 }
 
 // Puts the text at the right end of the columns.
