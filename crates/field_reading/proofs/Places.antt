@@ -6,13 +6,14 @@ use Prim.Native.Nat.{ℕ, zero, suc, _+_, _≤_, _<_}
 use native.Mathlib.Nat.{zero-add, suc-add, add-zero}
 use native.Mathlib.Omega.{arith}
 use lib.Dec.{eqb, ltb}
-use lib.ListN.{length, getD, take, drop, length-drop}
-use lib.Seq.{slice, take-take, drop-drop, take-nil, length-take-le, length-slice, getD-take, getD-drop}
+use lib.ListN.{length, getD, take, drop}
+use lib.Seq.{slice, take-take, drop-drop, take-nil, length-slice, getD-take, getD-drop}
 use mir.Val.{boolByte}
 use borrow.Author.Tests.{eq-eqb, ne-eqb, eqb-true, ltb-true}
 use Rattle.integers.proofs.Order.{both-true}
 use Rattle.fields.specs.Fields.{fieldSize, lastColumn, blank, minus, fieldAt, noNumber, fieldRead}
 use Rattle.field_reading.specs.Scan.{blanksOf, digitsRead, longAt}
+use Rattle.fields.proofs.Laws.{nine-columns}
 use Rattle.field_reading.proofs.Blanks.{blanks-le, one-more, no-more}
 use Rattle.field_reading.proofs.Reading.{headed, fieldRead-last, fieldRead-signed}
 
@@ -28,10 +29,6 @@ byte-le true = omega arith
 byte-le false = omega arith
 
 module _ (bytes : List ℕ) (at : ℕ) (long : at + fieldSize ≤ length bytes) where
-  -- they are nine
-  columns-long : length (fieldAt bytes at) ≡ fieldSize
-  columns-long = length-take-le fieldSize (drop at bytes) (omega (arith, length-drop at bytes))
-
   -- the first eight
   front : slice at (at + lastColumn) bytes ≡ take lastColumn (fieldAt bytes at)
   front = slice-take at lastColumn bytes ∙ sym (take-take lastColumn fieldSize (drop at bytes) (omega arith))
@@ -51,7 +48,7 @@ module _ (bytes : List ℕ) (at : ℕ) (long : at + fieldSize ≤ length bytes) 
   -- the last column, behind eight blanks
   pub read-last : blanks ≡ lastColumn → fieldRead (fieldAt bytes at) ≡ digitsRead false (slice (at + lastColumn) (at + fieldSize) bytes)
   read-last eight =
-      fieldRead-last (fieldAt bytes at) columns-long blanks (ap blanksOf front) eight
+      fieldRead-last (fieldAt bytes at) (nine-columns bytes at long) blanks (ap blanksOf front) eight
       ∙ ap (digitsRead false) (behind blanks ∙ ap (λ (n : ℕ). slice (at + n) (at + fieldSize) bytes) eight)
 
   module _ (start : ℕ) (skipped : start ≡ at + blanks) where
@@ -70,7 +67,7 @@ module _ (bytes : List ℕ) (at : ℕ) (long : at + fieldSize ≤ length bytes) 
     read-signed h =
         let column : getD (fieldAt bytes at) blanks 0 ≡ getD bytes start 0 = column-at blanks (omega arith) ∙ ap (λ (n : ℕ). getD bytes n 0) (sym skipped) in
         let place : at + (blanks + boolByte negative) ≡ from = omega arith in
-        fieldRead-signed (fieldAt bytes at) columns-long blanks (ap blanksOf front) (omega arith)
+        fieldRead-signed (fieldAt bytes at) (nine-columns bytes at long) blanks (ap blanksOf front) (omega arith)
         ∙ ap (λ (c : ℕ). headed (eqb c minus) (drop (boolByte (eqb c minus)) (drop blanks (fieldAt bytes at)))) column
         ∙ ap (headed negative)
         (drop-drop (boolByte negative) blanks (fieldAt bytes at) ∙ behind (blanks + boolByte negative)

@@ -12,7 +12,8 @@ use native.Mathlib.Nat.{add-zero}
 use mir.Val.{boolByte}
 use borrow.Author.Tests.{ne-eqb, eqb-true, eqb-false}
 use Rattle.integers.proofs.Order.{both-true}
-use Rattle.fields.specs.Fields.{fieldSize, blank, minus, isDigit, digitIn, valueFrom, hasMinus, signed, numberIn, noNumber, fieldRead}
+use Rattle.integers.specs.Signed.{signed}
+use Rattle.fields.specs.Fields.{fieldSize, blank, minus, isDigit, digitIn, valueFrom, hasMinus, numberIn, noNumber, fieldRead}
 use Rattle.field_reading.specs.Scan.{blanksOf, allDigits, digitsRead}
 use Rattle.fields.proofs.Bytes.{digit-low, digitIn-yes}
 use Rattle.field_reading.proofs.Fits.{fits, ends}

@@ -10,10 +10,11 @@ use lib.IntN.{pos}
 use lib.ListN.{length, length-append}
 use lib.Seq.{append-snoc}
 use lib.Signed.{ltZ}
-use Rattle.fields.specs.Fields.{fieldSize, minus, digit, digitIn, column, owedStill, columns, field, valueFrom, hasMinus, signed, numberIn, isField, sameBytes}
+use Rattle.integers.specs.Signed.{signed}
+use Rattle.integers.proofs.Signed.{abs-signed}
+use Rattle.fields.specs.Fields.{fieldSize, minus, digit, digitIn, column, owedStill, columns, field, valueFrom, hasMinus, numberIn, isField, sameBytes}
 use Rattle.fields.proofs.Bytes.{same-eq, digitIn-low, minus-append}
 use Rattle.fields.proofs.Columns.{columns-length, columns-none, still-some}
-use Rattle.fields.proofs.Laws.{abs-signed}
 use Rattle.field_reading.proofs.Fits.{fits, ends, column-fits, column-ends}
 
 -- one byte more

@@ -5,7 +5,8 @@ use Prim.Native.Nat.{ℕ, suc, _+_}
 use lib.Dec.{eqb, ltb}
 use lib.IntN.{ℤ}
 use lib.ListN.{getD}
-use Rattle.fields.specs.Fields.{blank, minus, digit, isDigit, valueFrom, signed, noNumber}
+use Rattle.integers.specs.Signed.{signed}
+use Rattle.fields.specs.Fields.{blank, minus, digit, isDigit, valueFrom, noNumber}
 
 -- how many blanks the bytes begin with
 abbrev pub blanksOf : List ℕ → ℕ

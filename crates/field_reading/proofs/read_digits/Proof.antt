@@ -15,7 +15,8 @@ use Rattle.integers.proofs.Machine.{reads-back}
 use denote.Ref.{now}
 use borrow.Author.Needs.{needs}
 use borrow.Author.Tests.{not-true, not-false}
-use Rattle.fields.specs.Fields.{isDigit, digitIn, valueFrom, signed}
+use Rattle.integers.specs.Signed.{signed}
+use Rattle.fields.specs.Fields.{isDigit, digitIn, valueFrom}
 use Rattle.field_reading.specs.Scan.{allDigits, digitsRead}
 use Rattle.fields.proofs.Bytes.{digitIn-yes, digit-low, digit-high}
 use Rattle.fields.proofs.Laws.{answer}

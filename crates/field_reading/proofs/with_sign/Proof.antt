@@ -7,7 +7,7 @@ use mir.Syntax.{w32}
 use mir.Facts.{toZ-pos}
 use mir.Val.{SFits}
 use Rattle.integers.proofs.Machine.{Num, literal, binary-need, binary-reads, below-fits, difference-sized}
-use Rattle.fields.specs.Fields.{signed}
+use Rattle.integers.specs.Signed.{signed}
 use borrow.Author.Needs.{needs}
 use Rattle.field_reading.proofs.with_sign.Statement.{statement}
 use Rattle.field_reading.proofs.with_sign.Tie as tie

@@ -4,13 +4,13 @@ use Prim.Native.Nat.{_+_}
 use native.Mathlib.Omega.{arith}
 use lib.Dec.{T}
 use lib.IntN.{ℤ, pos, negsuc, natAbs, _+ℤ_, _-ℤ_}
-use lib.Signed.{mag, natAbs-le, nonNeg, yes-nonNeg, ltZ, _<ℤ_}
+use lib.Signed.{mag, natAbs-le, nonNeg, ltZ, _<ℤ_}
 use mir.Syntax.{w32}
 use mir.Val.{SFits, Fits, toZ}
 use Rattle.integers.proofs.Parts.{linear, var, _⊕_, _⊖_}
 use Rattle.integers.proofs.Order.{ltZ-true, ltZ-false}
 use Rattle.integers.proofs.Abs.{mag-low}
-use Rattle.integers.proofs.Machine.{Num, num, literal, binary, binary-need, binary-reads, range-fits, test-of}
+use Rattle.integers.proofs.Machine.{Num, num, literal, binary, binary-need, binary-reads, unsigned-need, range-fits, test-of}
 use borrow.Author.Needs.{needs}
 use Rattle.field_writing.proofs.magnitude.Statement.{statement}
 use Rattle.field_writing.proofs.magnitude.Tie as tie
@@ -75,10 +75,8 @@ returns c = ap (λ (x : ℤ). natAbs x + 1) (rest-is c) ∙ abs-mag (z c) (negat
 cast-result-2 : tie.Need-cast-result-2
 cast-result-2 c =
     let entry = c .before in
-    subst (λ (x : ℤ). T (nonNeg x) × Fits w32 (natAbs x)) (sym (number entry .reads)) (
-      yes-nonNeg (ltZ-false (entry .args .number) (pos 0) (test-of ltZ (number entry) (literal 0) (c .if1 .left))),
-      record { fits = omega (arith, natAbs-le (entry .args .number) (entry .fits .number .sfits)) },
-    )
+    unsigned-need (number entry) (ltZ-false (entry .args .number) (pos 0) (test-of ltZ (number entry) (literal 0) (c .if1 .left)))
+    (omega (arith, natAbs-le (entry .args .number) (entry .fits .number .sfits)))
 
 pub magnitude-spec : {M : Type 1} → statement M
 magnitude-spec =
