@@ -1,18 +1,18 @@
 -- A stream, cut anywhere, is played as one block.
-use mathlib.Core.Path.{_≡_, refl, sym, ap, ap₂, _∙_, subst}
-use mathlib.Core.Bool.{Bool, true, cond}
+use mathlib.Core.Path.{_≡_, refl, sym, ap, _∙_}
+use mathlib.Core.Bool.{true}
 use mathlib.Core.List.{List, [], _∷_, _++_, append-assoc, append-nil}
 use Prim.Native.Nat.{ℕ, _%_, _≤_}
 use native.Mathlib.Nat.{le-refl}
 use native.Mathlib.Omega.{arith}
-use lib.ListN.{length, take, drop, length-append}
+use lib.ListN.{length, take, drop}
 use lib.Seq.{drop-length, take-at}
 use Rattle.refusals.proofs.Laws.{passed, accepted-only}
 use Rattle.refusals.specs.Numbers.{isAccepted}
 use Rattle.unit.specs.declared.Unit.{Unit}
 use Rattle.unit.specs.Fit.{Fit}
 use Rattle.blocks.specs.Bytes.{frameCount}
-use Rattle.blocks.specs.Block.{played, sound, blockVerdict, blockPlayed, blockOutput}
+use Rattle.blocks.specs.Block.{played, sound, blockPlayed, blockOutput}
 use Rattle.blocks.proofs.Block.{BlockAccepts, four-a-frame, sound-length, played-channels}
 use Rattle.blocks.proofs.Append.{accepts-block, accepted-unit, accepted-output, block-fit, block-append-unit, block-append-output}
 use Rattle.stream.specs.Advance.{wholeCount, wholeFrames, tailBytes, advanced, advancedOutput, advancedInput}
