@@ -14,6 +14,7 @@ use fields::MINUS;
 use fields::NO_NUMBER;
 use fields::ZERO;
 
+// The byte of the digit 9.
 const NINE: u8 = b'9';
 
 // Reads the nine columns from place at on: blanks, a minus or none, digits with no leading zero. NO_NUMBER where they are badly written.
