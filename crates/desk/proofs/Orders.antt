@@ -11,7 +11,7 @@ use Rattle.orders.specs.declared.Ordered.{Ordered}
 use Rattle.orders.specs.Orders.{ordered}
 use Rattle.writing.specs.Written.{filled}
 use Rattle.reading.specs.declared.SheetRead.{SheetRead}
-use Rattle.reading.specs.Reading.{sheetVerdict, unitIn, sheetRead}
+use Rattle.reading.specs.Reading.{sheetVerdict, sheetRead}
 use Rattle.reading.proofs.Laws.{read-accepted}
 use Rattle.desk.specs.Order.{given, deskVerdict, deskSheet}
 

@@ -1,12 +1,13 @@
 -- Arguments as numbers. Definitions only.
 use mathlib.Core.Bool.{cond}
-use Prim.Native.Nat.{ℕ, _+_}
+use Prim.Native.Nat.{ℕ}
 use lib.Dec.{leb}
-use lib.IntN.{ℤ, pos, negsuc}
+use lib.IntN.{ℤ, pos, negsuc, natAbs}
+use Rattle.fields.specs.Fields.{noNumber}
 
--- stands for no number: a field's number has nine digits at most
+-- stands for no number
 abbrev pub none : ℕ
-none = 1000000000
+none = natAbs noNumber
 
 -- a field's number, where it is not below zero
 unfoldable pub unsignedOf : ℤ → ℕ

@@ -5,8 +5,8 @@ ghost use Prim.Native.Nat.{_-_, _≤_};
 ghost use lib.ListN.{length, take};
 ghost use Rattle.desk.specs.Arguments.{unsignedOf, byteOf};
 
-// Stands for no number: a field's number has nine digits at most.
-pub const NONE: u32 = 1_000_000_000;
+// Stands for no number.
+pub const NONE: u32 = fields::NO_NUMBER as u32;
 
 // The number in the argument at this place, written as in a field of the strip sheet. None where there is no such argument, where it is not
 // a whole number of nine columns at most, or where it is below zero.
@@ -16,9 +16,9 @@ pub fn number(place: usize) -> u32 {
     if os::errno() != 0 {
         return NONE;
     }
-    let mut field = [b' '; fields::FIELD_SIZE];
+    let mut field = [fields::BLANK; fields::FIELD_SIZE];
     put_right(&text[..count], &mut field);
-    unsigned(fields::read_field(&field, 0))
+    unsigned(field_reading::read_field(&field, 0))
 }
 
 // Puts the text at the right end of the columns.

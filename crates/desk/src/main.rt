@@ -10,9 +10,6 @@ use arguments::NONE;
 use refusals::Verdict;
 use settings::Setting;
 
-// One byte more than a sheet has, so that a longer one shows.
-const SHEET_ROOM: usize = sheet::SHEET_SIZE + 1;
-
 fn main() {
     let side = arguments::number(1);
     let band = arguments::number(2);
@@ -41,7 +38,7 @@ fn say_usage() {
 
 // Reads the sheet, gives the order, and writes the sheet after it.
 fn read_sheet(side: u32, band: u32, setting: Setting) {
-    let mut bytes = [0u8; SHEET_ROOM];
+    let mut bytes = [0u8; sheet::SHEET_ROOM];
     let received = console::receive_all(libc::STDIN_FILENO, b"standard input", &mut bytes);
     if received.is_failed {
         return;

@@ -1,6 +1,6 @@
 -- A turn is the next read of the stream, and turns are one block of all that was read.
 use mathlib.Core.Path.{_≡_, refl, sym, ap, ap₂, _∙_, subst}
-use mathlib.Core.List.{List, [], _∷_, _++_, append-assoc, append-nil}
+use mathlib.Core.List.{List, [], _++_}
 use Prim.Native.Nat.{ℕ, _%_, _≤_, _<_}
 use native.Mathlib.Nat.{mod-lt}
 use native.Mathlib.Omega.{arith}
@@ -10,8 +10,8 @@ use lib.Seq.{length-take-le, take-append-le}
 use Rattle.unit.specs.declared.Unit.{Unit}
 use Rattle.unit.specs.Fit.{Fit}
 use Rattle.stream.specs.declared.Advanced.{Advanced}
-use Rattle.stream.specs.Advance.{tailBytes, advanced, advancedOutput, advancedInput}
-use Rattle.stream.specs.Claim.{Stream, oneBlock, begun, next, streamed, allOf, Advances, Ready}
+use Rattle.stream.specs.Advance.{advanced, advancedOutput, advancedInput}
+use Rattle.stream.specs.Claim.{Stream, oneBlock, begun, next, Advances, Ready}
 use Rattle.stream.proofs.Cuts.{tail-length}
 use Rattle.stream.proofs.Holds.{block-next, begun-empty, cut-anywhere}
 use Rattle.console.specs.declared.Received.{Received}

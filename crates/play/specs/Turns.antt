@@ -1,7 +1,7 @@
 -- What the play program does with its input. No contract can say which bytes a read of the C library brings; so each says that there are bytes
 -- of which it holds. Definitions only.
 use mathlib.Core.Path.{_≡_}
-use mathlib.Core.List.{List, [], _++_}
+use mathlib.Core.List.{List, []}
 use Prim.Native.Nat.{ℕ, _≤_, _<_}
 use lib.ListN.{length, take}
 use Rattle.unit.specs.declared.Unit.{Unit}

@@ -7,9 +7,6 @@ mod saving;
 
 use refusals::Verdict;
 
-// One byte more than a sheet has, so that a longer file shows.
-const SHEET_ROOM: usize = sheet::SHEET_SIZE + 1;
-
 fn main() {
     let fd = os::open_read(b"strip.sht");
     if fd < 0 {
@@ -22,7 +19,7 @@ fn main() {
 
 // Reads the sheet from its file, and plays through it.
 fn read_sheet(fd: i32) {
-    let mut bytes = [0u8; SHEET_ROOM];
+    let mut bytes = [0u8; sheet::SHEET_ROOM];
     let received = console::receive_all(fd, b"strip.sht", &mut bytes);
     libc::close(fd);
     if received.is_failed {

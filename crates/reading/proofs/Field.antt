@@ -19,15 +19,11 @@ use Rattle.refusals.specs.declared.Verdict.{Verdict}
 use Rattle.refusals.specs.declared.Verdict.the-variants.{Accepted, FieldForm, Unfit}
 use Rattle.fields.specs.Fields.{fieldSize, numberIn, isField, noNumber, fieldRead, fieldAt}
 use Rattle.sheet.specs.Lines.{anyNumber}
-use Rattle.fields.proofs.Laws.{none-read, some-read, number-low}
+use Rattle.fields.proofs.Laws.{nine-columns, number-low, none-read, some-read}
 use Rattle.reading.specs.Reading.{fieldVerdict}
 use Rattle.reading.specs.Parts.{Part, andThen, fieldPart, fieldsPart, ReadGives}
 use Rattle.reading.proofs.Parts.{restored, Leads, on}
 use Rattle.reading.proofs.Whole.{field-number}
-
--- nine columns stand there
-nine-columns : (bytes : List ℕ) (at : ℕ) → at + fieldSize ≤ length bytes → length (fieldAt bytes at) ≡ fieldSize
-nine-columns bytes at long = length-take-le fieldSize (drop at bytes) (omega (arith, length-drop at bytes))
 
 -- a number of 32 bits stands for none where its bits do
 is-none : (n : ℤ) → mag n < 2147483648 → ofZ w32 n ≡ 1000000000 → n ≡ noNumber

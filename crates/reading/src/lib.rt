@@ -228,7 +228,7 @@ fn read_input(
     requires { ⌜ (at + fieldSize ≤ length (now bytes)) × (length (now numbers) ≡ unitSize) × (place + 1 ≤ unitSize) ⌝ }
     ensures { λ r. ⌜ ReadGives (fieldPart isInput (take fieldSize (drop at (now (bytes .entry))))) (now (numbers .entry)) place r (now (numbers .exit)) ⌝ }
 {
-    let input = fields::read_field(bytes, at);
+    let input = field_reading::read_field(bytes, at);
     if input == fields::NO_NUMBER {
         return Verdict::FieldForm;
     }
@@ -323,7 +323,7 @@ fn read_fields(
 {
     let mut i = 0;
     while i < count {
-        let number = fields::read_field(bytes, at + fields::FIELD_SIZE * i);
+        let number = field_reading::read_field(bytes, at + fields::FIELD_SIZE * i);
         if number == fields::NO_NUMBER {
             return Verdict::FieldForm;
         }

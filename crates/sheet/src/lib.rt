@@ -32,6 +32,9 @@ pub const RIGHT_AT: usize = LEFT_AT + CHANNEL_LINE + SECTION_LINE * bands::BAND_
 
 pub const SHEET_SIZE: usize = RIGHT_AT + CHANNEL_LINE + SECTION_LINE * bands::BAND_COUNT;
 
+// Room to read a sheet: a byte more, so that a longer one shows.
+pub const SHEET_ROOM: usize = SHEET_SIZE + 1;
+
 // The letters of the lines.
 pub const VOLUME_LETTER: u8 = b'V';
 

@@ -1,10 +1,9 @@
 -- Bytes copied to the front of others, as `bytes::copy` leaves them.
-use mathlib.Core.Path.{_≡_, refl, sym, ap, ap₂, _∙_}
+use mathlib.Core.Path.{_≡_, sym, ap, ap₂, _∙_}
 use mathlib.Core.List.{List, _++_}
-use Prim.Native.Nat.{ℕ, _-_, _≤_}
-use native.Mathlib.Nat.{le-refl}
+use Prim.Native.Nat.{ℕ, _-_}
 use lib.ListN.{length, take, drop, length-drop}
-use lib.Seq.{take-all, take-length, take-append-seam}
+use lib.Seq.{take-length, take-append-seam}
 
 -- what was copied is at the front
 pub front-copied : (src room t : List ℕ) (n : ℕ) → n ≡ length src → t ≡ take (length src) src ++ drop (length src) room → take n t ≡ src

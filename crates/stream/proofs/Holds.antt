@@ -1,11 +1,11 @@
 -- A stream, cut anywhere, is played as one block.
-use mathlib.Core.Path.{_≡_, refl, sym, ap, ap₂, _∙_, subst}
-use mathlib.Core.Bool.{Bool, true, cond}
+use mathlib.Core.Path.{_≡_, refl, sym, ap, _∙_}
+use mathlib.Core.Bool.{true}
 use mathlib.Core.List.{List, [], _∷_, _++_, append-assoc, append-nil}
 use Prim.Native.Nat.{ℕ, _%_, _≤_}
 use native.Mathlib.Nat.{le-refl}
 use native.Mathlib.Omega.{arith}
-use lib.ListN.{length, take, drop, length-append}
+use lib.ListN.{length, take, drop}
 use lib.Seq.{drop-length, take-at}
 use Rattle.refusals.proofs.Laws.{passed, accepted-only}
 use Rattle.refusals.specs.Numbers.{isAccepted}
@@ -13,10 +13,10 @@ use Rattle.unit.specs.declared.Unit.{Unit}
 use Rattle.unit.specs.Fit.{Fit}
 use Rattle.frames.specs.Bytes.{frameCount}
 use Rattle.frames.specs.Played.{played, sound}
-use Rattle.blocks.specs.Block.{blockVerdict, blockPlayed, blockOutput}
+use Rattle.blocks.specs.Block.{blockPlayed, blockOutput}
 use Rattle.frames.proofs.Many.{sound-length, played-channels}
-use Rattle.blocks.proofs.Block.{BlockAccepts, four-a-frame}
-use Rattle.blocks.proofs.Append.{accepts-block, accepted-unit, accepted-output, block-fit, block-append-unit, block-append-output}
+use Rattle.blocks.proofs.Block.{BlockAccepts, accepts-block, four-a-frame}
+use Rattle.blocks.proofs.Append.{accepted-unit, accepted-output, block-fit, block-append-unit, block-append-output}
 use Rattle.stream.specs.Advance.{wholeCount, wholeFrames, tailBytes, advanced, advancedOutput, advancedInput}
 use Rattle.stream.specs.Claim.{Stream, oneBlock, begun, next, streamed, allOf, Advances, Ready, CutAnywhere}
 use Rattle.stream.proofs.Cuts.{whole-length, tail-length, whole-frames, cut-whole, cut-tail}

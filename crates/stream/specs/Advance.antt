@@ -4,7 +4,6 @@ use mathlib.Core.List.{List, _++_}
 use Prim.Native.Nat.{ℕ, _-_, _%_}
 use lib.ListN.{length, take, drop}
 use Rattle.refusals.specs.Numbers.{isAccepted}
-use Rattle.refusals.specs.declared.Verdict.{Verdict}
 use Rattle.unit.specs.declared.Unit.{Unit}
 use Rattle.frames.specs.Bytes.{frameSize}
 use Rattle.blocks.specs.Block.{blockPlayed, blockOutput}

@@ -171,7 +171,7 @@ fn put_fields(
 {
     let mut i = 0;
     while i < count {
-        fields::put_field(out, at + fields::FIELD_SIZE * i, numbers[place + i]);
+        field_writing::put_field(out, at + fields::FIELD_SIZE * i, numbers[place + i]);
         i += 1;
     }
 }

@@ -7,8 +7,6 @@ use lib.Seq.{length-take-le}
 use Rattle.console.proofs.receive_all.Statement.{statement}
 use Rattle.console.proofs.receive_all.Tie as tie
 use Rattle.console.proofs.receive_all.Reads as reads
-use Rattle.console.proofs.receive_all.Lts as lts
-use Rattle.console.proofs.receive.Reads as receive-reads
 
 abbrev Inv-loop : tie.InvT-loop
 Inv-loop fd name buffer₀ received₀ reads₀ buffer received reads = (received .count ≤ length buffer) × (length buffer ≡ length buffer₀)

@@ -1,17 +1,16 @@
 -- `frames::put_sample` meets its contract: s + 2^16 lies between 2^15 and 2^17.
-use mathlib.Core.Path.{ap, subst, sym}
+use mathlib.Core.Path.{ap}
 use Prim.Native.Nat.{ℕ, _+_, _/_, _%_}
 use native.Mathlib.Omega.{arith}
-use lib.Dec.{T}
 use lib.IntN.{ℤ, pos, natAbs, _+ℤ_}
 use lib.ListN.{set}
-use lib.Signed.{nonNeg, yes-nonNeg, _≤ℤ_}
+use lib.Signed.{_≤ℤ_}
 use denote.Ref.{now}
-use mir.Syntax.{w32, w64}
-use mir.Val.{SFits, Fits}
+use mir.Syntax.{w64}
+use mir.Val.{SFits}
 use Rattle.integers.proofs.Parts.{linear, var, _⊕_}
 use Rattle.integers.proofs.Abs.{abs-le}
-use Rattle.integers.proofs.Machine.{Num, num, literal, binary, binary-need, range-fits}
+use Rattle.integers.proofs.Machine.{Num, num, literal, binary, binary-need, unsigned-need, range-fits}
 use Rattle.frames.specs.Bytes.{bitsOf}
 use borrow.Author.Needs.{needs}
 use Rattle.frames.proofs.put_sample.Statement.{statement}
@@ -39,9 +38,7 @@ add-bits : tie.Need-add-bits
 add-bits c = binary-need _+ℤ_ (num (c .args .sample) (c .fits .sample)) (literal 65536) (raised-fits c)
 
 cast-bits : tie.Need-cast-bits
-cast-bits c =
-    subst (λ (z : ℤ). T (nonNeg z) × Fits w32 (natAbs z)) (sym (Raised c .reads))
-    (yes-nonNeg (low c), omega (arith, abs-le (raised c) 131072 (omega (linear, low c)) (high c)))
+cast-bits c = unsigned-need (Raised c) (low c) (omega (arith, abs-le (raised c) 131072 (omega (linear, low c)) (high c)))
 
 returns : tie.Need-returns
 unfolding bitsOf

@@ -27,7 +27,7 @@ use Rattle.reading.proofs.read_fields.Statement.{statement}
 use Rattle.reading.proofs.read_fields.Tie as tie
 use Rattle.reading.proofs.read_fields.Reads as reads
 use Rattle.reading.proofs.read_fields.Lts as lts
-use Rattle.fields.proofs.read_field.Reads as read-field-reads
+use Rattle.field_reading.proofs.read_field.Reads as read-field-reads
 use Rattle.rounding.proofs.in_range.Reads as in-range-reads
 
 -- the fields from the ith on are left; the range's ends are given by their bits

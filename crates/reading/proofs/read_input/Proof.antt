@@ -11,7 +11,7 @@ use Rattle.reading.proofs.read_input.Statement.{statement}
 use Rattle.reading.proofs.read_input.Tie as tie
 use Rattle.reading.proofs.read_input.Reads as reads
 use Rattle.reading.proofs.read_input.Lts as lts
-use Rattle.fields.proofs.read_field.Reads as read-field-reads
+use Rattle.field_reading.proofs.read_field.Reads as read-field-reads
 use Rattle.fitness.proofs.input_fits.Reads as input-fits-reads
 
 -- src/lib.rt:170:9

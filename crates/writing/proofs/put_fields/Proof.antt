@@ -18,7 +18,7 @@ use Rattle.writing.proofs.put_fields.Statement.{statement}
 use Rattle.writing.proofs.put_fields.Tie as tie
 use Rattle.writing.proofs.put_fields.Reads as reads
 use Rattle.writing.proofs.put_fields.Lts as lts
-use Rattle.fields.proofs.put_field.Reads as put-field-reads
+use Rattle.field_writing.proofs.put_field.Reads as put-field-reads
 
 abbrev Inv-loop : tie.InvT-loop
 Inv-loop out₀ at numbers place count i₀ out i = (i ≤ count) × (out ≡ sets out₀ at (joined field (take i (drop place numbers))))

@@ -8,8 +8,6 @@ use Rattle.desk.specs.Arguments.{byteOf}
 use borrow.Author.Needs.{needs}
 use Rattle.desk.proofs.arguments.byte.Statement.{statement}
 use Rattle.desk.proofs.arguments.byte.Tie as tie
-use Rattle.desk.proofs.arguments.byte.Reads as reads
-use Rattle.desk.proofs.arguments.byte.Lts as lts
 
 returns : tie.Need-returns
 unfolding byteOf

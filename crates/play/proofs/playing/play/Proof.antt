@@ -4,7 +4,6 @@ use native.Mathlib.Omega.{arith}
 use lib.ListN.{length}
 use Rattle.unit.specs.declared.Unit.{Unit}
 use Rattle.unit.specs.Fit.{Fit}
-use Rattle.play.specs.Turns.{TurnAsks}
 use Rattle.play.proofs.Turns.{Going, begin, go-on, done}
 use Rattle.play.proofs.playing.play.Statement.{statement}
 use Rattle.play.proofs.playing.play.Tie as tie

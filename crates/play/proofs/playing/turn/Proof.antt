@@ -1,5 +1,5 @@
 -- `playing::turn` meets its contract: the held bytes and those that were read are played, and what is sent is their sound.
-use mathlib.Core.Path.{_≡_, refl, sym, ap, _∙_}
+use mathlib.Core.Path.{refl, sym, ap}
 use Prim.Native.Nat.{_≤_}
 use native.Mathlib.Omega.{arith}
 use lib.ListN.{length}

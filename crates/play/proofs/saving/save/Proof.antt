@@ -4,12 +4,6 @@ use borrow.Author.Needs.{needs}
 use Rattle.play.proofs.Sheets.{part-sheet}
 use Rattle.play.proofs.saving.save.Statement.{statement}
 use Rattle.play.proofs.saving.save.Tie as tie
-use Rattle.play.proofs.saving.save.Reads as reads
-use Rattle.play.proofs.saving.save.Lts as lts
-use Rattle.io.proofs.write_all.Reads as write-all-reads
-use Rattle.os.proofs.unlink.Reads as unlink-reads
-use Rattle.play.proofs.saving.store.Reads as store-reads
-use Rattle.writing.proofs.write.Reads as write-reads
 
 store-requires : tie.Need-store-requires
 store-requires c κs = part-sheet (c .before .before .before .args .unit) 1128 _ (c .before .before .before .pre) (lit≤ tt) (c .before .write .ensures .0)

@@ -1,0 +1,2 @@
+-- Reading a field.
+pub mod Scan

@@ -1,0 +1,2 @@
+-- Writing a field.
+pub mod Front
