@@ -19,7 +19,7 @@ pub struct Played {
     pub unit: Unit,
 }
 
-// FramesAsks a block of frames: 14 for an unfit unit ahead of all, then 5 and 6. Refused, unit and output are unchanged. Accepted, the
+// Plays a block of frames: 14 for an unfit unit ahead of all, then 5 and 6. Refused, unit and output are unchanged. Accepted, the
 // output begins with the frames, and the bytes beyond them keep their contents.
 pub fn play(unit: Unit, input: &[u8], output: &mut [u8]) -> Played
     ensures { λ r. ⌜ (r ≡ blockPlayed channelCount unit (now (input .entry)) (length (now (output .entry)))) × (now (output .exit) ≡ blockOutput channelCount unit (now (input .entry)) (now (output .entry))) ⌝ }

@@ -1,14 +1,13 @@
 -- What the stores of a section's turn do to the numbers of a channel, and what ten turns make of them.
-use mathlib.Core.Path.{_≡_, refl, sym, ap, ap₂, _∙_, subst}
+use mathlib.Core.Path.{_≡_, refl, sym, ap, ap₂, _∙_}
 use mathlib.Core.Bool.{Bool, true, false, _||_}
 use mathlib.Core.List.{List}
 use Prim.Native.Nat.{ℕ, suc, _+_, _≤_, _<_}
 use native.Mathlib.Omega.{arith}
-use lib.Dec.{eqb}
+use borrow.Author.Count.{below-more}
 use lib.IntN.{ℤ, pos, _+ℤ_}
 use lib.ListN.{length, getD, set, length-set}
 use lib.Seq.{getD-set-same, getD-set-other}
-use borrow.Author.Tests.{eqb-true, eqb-false}
 use Rattle.unit.specs.Sizes.{channelSize}
 use Rattle.integers.proofs.Parts.{terms-eq, var, _⊕_}
 use Rattle.bands.specs.Bands.{bandCount, bandAt}
@@ -187,12 +186,10 @@ module _ (bands l : List ℤ) (x x2 : ℤ) where
     elsewhere k h = put-other flagged n (turnedSection bands m n x x2) k h ∙ mark-section (limitsAt bands m n x x2) m k
 
     section-done : (k : ℕ) → k < suc n → sectionAt after k ≡ sectionOf k
-    section-done k h = go (eqb k n) refl
-      where
-        go : (t : Bool) → eqb k n ≡ t → sectionAt after k ≡ sectionOf k
-        go true e =
-            subst (λ (j : ℕ). sectionAt after j ≡ sectionOf j) (sym (eqb-true k n e)) (put-same flagged n (turnedSection bands m n x x2) flagged-size small ∙ turn-section)
-        go false e = elsewhere k (eqb-false k n e) ∙ p .done k (omega (arith, eqb-false k n e))
+    section-done k h =
+        below-more (λ (j : ℕ). sectionAt after j ≡ sectionOf j) n (λ j e. elsewhere j (λ z. omega arith) ∙ p .done j e)
+        (put-same flagged n (turnedSection bands m n x x2) flagged-size small ∙ turn-section)
+        k (omega arith)
 
     pub progress-more : Progress (suc n) after
     progress-more =

@@ -2,9 +2,10 @@
 ghost use mathlib.Core.Path.{_≡_};
 ghost use Rattle.bands.specs.Words.{isWord};
 ghost use Rattle.unit.specs.Lists.{every};
-ghost use Rattle.unit.specs.Fit.{isInput, volumeFits, bandFits, sectionFits, channelFits, unitFits};
+ghost use Rattle.unit.specs.Fit.{isInput, volumeFits, sectionFits, channelFits, bandsVerdict, unitFits};
 use bands::Band;
 use levels::Level;
+use refusals::Verdict;
 use unit::BandSection;
 use unit::Channel;
 use unit::Unit;
@@ -18,7 +19,7 @@ pub fn is_fit(unit: Unit) -> bool
         return false;
     }
     let bands = unit.bands;
-    if !bands_fit(bands) {
+    if !refusals::accepted(check_bands(bands)) {
         return false;
     }
     let channels = unit.channels;
@@ -35,20 +36,20 @@ fn volume_fits(level: Level) -> bool
     rounding::in_range(0, bands::WORD_HIGH, level.target)
 }
 
-// Whether every band is accepted.
-fn bands_fit(bands: [Band; bands::BAND_COUNT]) -> bool
-    ensures { λ r. ⌜ r ≡ every bandFits bands ⌝ }
+// Accepted, or the first refusal, band by band.
+pub fn check_bands(bands: [Band; bands::BAND_COUNT]) -> Verdict
+    ensures { λ r. ⌜ r ≡ bandsVerdict bands ⌝ }
 {
     let mut i = 0;
     while i < bands::BAND_COUNT {
         let band = bands[i];
         let verdict = bands::check_band(band);
         if !refusals::accepted(verdict) {
-            return false;
+            return verdict;
         }
         i += 1;
     }
-    true
+    Verdict::Accepted
 }
 
 // Whether both channels are fit.

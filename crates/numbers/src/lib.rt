@@ -5,9 +5,8 @@ ghost use Prim.Native.Nat.{_*_, _+_, _<_, _≤_};
 ghost use lib.IntN.{pos};
 ghost use lib.ListN.{length, getD, drop};
 ghost use Rattle.unit.specs.Sizes.{sectionSize, channelSize};
-ghost use Rattle.bands.specs.Bands.{bandSize, bandCount, bandAt};
+ghost use Rattle.bands.specs.Bands.{bandSize, bandCount};
 ghost use Rattle.unit.specs.Lists.{Each};
-ghost use Rattle.unit.specs.Cleared.{bandsOf};
 ghost use Rattle.unit.specs.Fit.{VolumeFit, SectionFit, ChannelFit, Fit};
 ghost use Rattle.engine.specs.Numbers.{sectionAt, channelOf};
 ghost use Rattle.numbers.specs.Layout.{unitSize, bandsPlace, leftPlace, rightPlace, joined, volumeNumbers, bandNumbers, sectionNumbers, channelNumbers, numbersOf, unitOf, PutGives};
@@ -35,45 +34,14 @@ pub fn unit_of(numbers: &[i32; UNIT_SIZE]) -> Unit
     let present = number_at(numbers, 0);
     let target = number_at(numbers, 1);
     let volume = Level { present, target };
-    let bands = bands_of(numbers);
+    let all = &numbers[..];
+    let bands = unit::bands_of(&all[BANDS..]);
     let left = channel_of(numbers, LEFT);
     let right = channel_of(numbers, RIGHT);
     Unit {
         volume,
         bands,
         channels: [left, right],
-    }
-}
-
-// The ten bands.
-fn bands_of(numbers: &[i32; UNIT_SIZE]) -> [Band; bands::BAND_COUNT]
-    ensures { λ r. ⌜ r ≡ bandsOf (drop bandsPlace (now (numbers .entry))) ⌝ }
-{
-    let zero = Band {
-        alpha: 0,
-        beta: 0,
-        gamma: 0,
-    };
-    let mut bands = [zero; bands::BAND_COUNT];
-    let mut b = 0;
-    while b < bands::BAND_COUNT {
-        let band = band_at(numbers, b);
-        bands[b] = band;
-        b += 1;
-    }
-    bands
-}
-
-// Band b.
-fn band_at(numbers: &[i32; UNIT_SIZE], b: usize) -> Band
-    requires { ⌜ b < bandCount ⌝ }
-    ensures { λ r. ⌜ r ≡ bandAt (drop bandsPlace (now (numbers .entry))) b ⌝ }
-{
-    let at = bands::BAND_SIZE * b + BANDS;
-    Band {
-        alpha: numbers[at],
-        beta: numbers[at + 1],
-        gamma: numbers[at + 2],
     }
 }
 

@@ -12,7 +12,6 @@ ghost use Rattle.fields.specs.Fields.{fieldSize};
 ghost use Rattle.sheet.specs.Lines.{sheetSize, lines, channelRanges, fieldCount, lineSize};
 ghost use Rattle.reading.specs.Reading.{markVerdict, sheetRead};
 ghost use Rattle.reading.specs.Parts.{fieldPart, fieldsPart, plainPart, linePart, linesPart, channelPart, sheetPart, ReadGives};
-use bands::Band;
 use refusals::Verdict;
 use sheet::Line;
 use unit::Unit;
@@ -351,10 +350,7 @@ fn check_band_at(numbers: &[i32; numbers::UNIT_SIZE], place: usize) -> Verdict
     requires { ⌜ (length (now numbers) ≡ unitSize) × (place + bandSize ≤ unitSize) ⌝ }
     ensures { λ r. ⌜ r ≡ bandVerdict (bandAt (take bandSize (drop place (now (numbers .entry)))) 0) ⌝ }
 {
-    let band = Band {
-        alpha: numbers[place],
-        beta: numbers[place + 1],
-        gamma: numbers[place + 2],
-    };
+    let all = &numbers[..];
+    let band = bands::band_at(&all[place..place + bands::BAND_SIZE], 0);
     bands::check_band(band)
 }

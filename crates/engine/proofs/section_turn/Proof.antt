@@ -4,6 +4,7 @@ use mathlib.Core.Bool.{not}
 use mathlib.Core.List.{List}
 use Prim.Native.Nat.{ℕ, _≤_}
 use native.Mathlib.Nat.{le-trans}
+use native.Mathlib.Omega.{arith}
 use lib.Dec.{lit≤}
 use lib.IntN.{ℤ, natAbs}
 use denote.Ref.{now}
@@ -14,11 +15,12 @@ use Rattle.integers.proofs.Machine.{Bounded, below-fits, product, result, resul
 use Rattle.rounding.specs.Rounding.{nearest, limit}
 use Rattle.bands.specs.Words.{wordSize, wordLow, wordHigh, isWord}
 use Rattle.bands.specs.Bands.{bandOf, bandAt}
-use Rattle.bands.proofs.Laws.{Accepts, band-sizes, word-size}
+use Rattle.bands.proofs.Laws.{band-sizes, word-size}
 use Rattle.levels.specs.declared.Level.{Level}
 use Rattle.levels.specs.Levels.{gainSlope, moved, MovedAsks}
 use Rattle.levels.proofs.Laws.{ramp-size}
 use Rattle.section.specs.Equation.{exactSum, sumShift, worked}
+use Rattle.section.specs.Asks.{RoundedSumAsks}
 use Rattle.section.proofs.Laws.{worked-size}
 use Rattle.unit.specs.declared.BandSection.{BandSection}
 use Rattle.unit.specs.Frame.{sectionFrame}
@@ -65,23 +67,17 @@ module _ (c : lts.After-section-at (section-at-reads.Asked, section-at-reads.Lea
   fit : SectionFit S
   fit = start .pre .section
 
-  sizes : Accepts (bandAt bands b)
-  sizes = band-sizes (bandAt bands b) (start .pre .band)
-
-  alpha-size : natAbs (bandAt bands b .alpha) ≤ wordSize
-  alpha-size = le-trans (sizes .alpha-size) (lit≤ tt)
-
-  beta-size : natAbs (bandAt bands b .beta) ≤ wordSize
-  beta-size = le-trans (sizes .beta-size) (lit≤ tt)
-
-  gamma-size : natAbs (bandAt bands b .gamma) ≤ wordSize
-  gamma-size = le-trans (sizes .gamma-size) (lit≤ tt)
-
-  y1-size : natAbs (S .y1) ≤ wordSize
-  y1-size = word-size (S .y1) (fit .y1)
-
-  y2-size : natAbs (S .y2) ≤ wordSize
-  y2-size = word-size (S .y2) (fit .y2)
+  -- the coefficients and the numbers of the exact sum
+  small : RoundedSumAsks (bandAt bands b) x x2 (S .y1) (S .y2)
+  small =
+      omega (
+        arith,
+        band-sizes (bandAt bands b) (start .pre .band),
+        start .pre .x-size,
+        start .pre .x2-size,
+        word-size (S .y1) (fit .y1),
+        word-size (S .y2) (fit .y2),
+      )
 
   present-size : natAbs (S .gain .present) ≤ wordSize
   present-size = word-size (S .gain .present) (fit .present)
@@ -96,10 +92,6 @@ module _ (c : lts.After-section-at (section-at-reads.Asked, section-at-reads.Lea
 reads-small : (z : ℤ) → natAbs z ≤ wordSize → toZ w64 (ofZ w64 z) ≡ z
 reads-small z h = toZ-ofZ (below-fits h tt)
 
--- a size, of the number as read
-size-read : {z r : ℤ} → r ≡ z → natAbs z ≤ wordSize → natAbs r ≤ wordSize
-size-read e h = subst (λ (n : ℤ). natAbs n ≤ wordSize) (sym e) h
-
 -- ---- its numbers as they are used
 
 module _ (c : lts.After-beta (section-at-reads.Asked, section-at-reads.Learnt, moved-reads.Asked, moved-reads.Learnt, rounded-sum-reads.Asked, rounded-sum-reads.Learnt, limit-word-reads.Asked, limit-word-reads.Learnt, put-section-reads.Asked, put-section-reads.Learnt) reads.Pre reads.Post) where
@@ -107,25 +99,25 @@ module _ (c : lts.After-beta (section-at-reads.Asked, section-at-reads.Learnt, m
   a = c .before .before .before .before .before .before .before
 
   alpha-reads : toZ w64 (ofZ w64 (bandAt (bands a) (b a) .alpha)) ≡ bandAt (bands a) (b a) .alpha
-  alpha-reads = reads-small (bandAt (bands a) (b a) .alpha) (alpha-size a)
+  alpha-reads = reads-small (bandAt (bands a) (b a) .alpha) (small a .alpha-size)
 
   beta-reads : toZ w64 (ofZ w64 (bandAt (bands a) (b a) .beta)) ≡ bandAt (bands a) (b a) .beta
-  beta-reads = reads-small (bandAt (bands a) (b a) .beta) (beta-size a)
+  beta-reads = reads-small (bandAt (bands a) (b a) .beta) (small a .beta-size)
 
   gamma-reads : toZ w64 (ofZ w64 (bandAt (bands a) (b a) .gamma)) ≡ bandAt (bands a) (b a) .gamma
-  gamma-reads = reads-small (bandAt (bands a) (b a) .gamma) (gamma-size a)
+  gamma-reads = reads-small (bandAt (bands a) (b a) .gamma) (small a .gamma-size)
 
   x-reads : toZ w64 (ofZ w64 (x a)) ≡ x a
-  x-reads = reads-small (x a) (start a .pre .x-size)
+  x-reads = reads-small (x a) (small a .x-size)
 
   x2-reads : toZ w64 (ofZ w64 (x2 a)) ≡ x2 a
-  x2-reads = reads-small (x2 a) (start a .pre .x2-size)
+  x2-reads = reads-small (x2 a) (small a .x2-size)
 
   y1-reads : toZ w64 (ofZ w64 (a .section-at .result .y1)) ≡ S a .y1
-  y1-reads = ap (λ (s : BandSection). toZ w64 (ofZ w64 (s .y1))) (before-is a) ∙ reads-small (S a .y1) (y1-size a)
+  y1-reads = ap (λ (s : BandSection). toZ w64 (ofZ w64 (s .y1))) (before-is a) ∙ reads-small (S a .y1) (small a .y1-size)
 
   y2-reads : toZ w64 (ofZ w64 (a .section-at .result .y2)) ≡ S a .y2
-  y2-reads = ap (λ (s : BandSection). toZ w64 (ofZ w64 (s .y2))) (before-is a) ∙ reads-small (S a .y2) (y2-size a)
+  y2-reads = ap (λ (s : BandSection). toZ w64 (ofZ w64 (s .y2))) (before-is a) ∙ reads-small (S a .y2) (small a .y2-size)
 
   abbrev sum : ℤ
   sum = exactSum (bandAt (bands a) (b a)) (x a) (x2 a) (S a .y1) (S a .y2)
@@ -191,15 +183,7 @@ moved-requires c κs =
 
 rounded-sum-requires : tie.Need-rounded-sum-requires
 rounded-sum-requires c κs =
-    record {
-      alpha-size = size-read (alpha-reads c) (alpha-size (a c));
-      beta-size = size-read (beta-reads c) (beta-size (a c));
-      gamma-size = size-read (gamma-reads c) (gamma-size (a c));
-      x-size = size-read (x-reads c) (start (a c) .pre .x-size);
-      x2-size = size-read (x2-reads c) (start (a c) .pre .x2-size);
-      y1-size = size-read (y1-reads c) (y1-size (a c));
-      y2-size = size-read (y2-reads c) (y2-size (a c));
-    }
+    simp (alpha-reads c, beta-reads c, gamma-reads c, x-reads c, x2-reads c, y1-reads c, y2-reads c) (small (a c))
 
 abbrev late : lts.After-struct-told3 (section-at-reads.Asked, section-at-reads.Learnt, moved-reads.Asked, moved-reads.Learnt, rounded-sum-reads.Asked, rounded-sum-reads.Learnt, limit-word-reads.Asked, limit-word-reads.Learnt, put-section-reads.Asked, put-section-reads.Learnt) reads.Pre reads.Post → lts.After-limit-word (section-at-reads.Asked, section-at-reads.Learnt, moved-reads.Asked, moved-reads.Learnt, rounded-sum-reads.Asked, rounded-sum-reads.Learnt, limit-word-reads.Asked, limit-word-reads.Learnt, put-section-reads.Asked, put-section-reads.Learnt) reads.Pre reads.Post
 late c = c .before .before .before .before

@@ -1,12 +1,12 @@
 -- `fitness::input_fits` meets its contract: what is left at shift 8 is 0 up to 255.
-use mathlib.Core.Path.{_≡_, sym, ap, _∙_}
+use mathlib.Core.Path.{_≡_, ap, _∙_}
 use lib.IntN.{ℤ, pos, _-ℤ_, _*ℤ_}
 use lib.Signed.{leZ, shrZ}
-use borrow.Author.Tests.{not-true, not-false}
 use mir.Syntax.{w64}
 use mir.Val.{SFits}
 use mir.Facts.{toZ-ofZ}
 use Rattle.integers.proofs.Parts.{linear}
+use Rattle.integers.proofs.Order.{and-fails, and-passes}
 use Rattle.integers.proofs.Machine.{Num, num, literal, unary, binary, binary-need, shr-fits, range-fits}
 use Rattle.rounding.specs.Rounding.{floor, rest}
 use Rattle.rounding.proofs.Floor.{rest-low, rest-high, multiple-mag}
@@ -48,7 +48,7 @@ module _ (c : lts.After-is-word (is-word-reads.Asked, is-word-reads.Learnt) read
 
 returns : tie.Need-returns
 unfolding isInput
-returns c = sym (simp (sym (word-test (c .before)) ∙ not-true _ (c .if1 .taken)))
+returns c = and-fails (word-test (c .before)) _ (c .if1 .taken)
 
 mul-result : tie.Need-mul-result
 mul-result c = binary-need _*ℤ_ (literal 256) (Below (c .before)) (multiple-fits (c .before))
@@ -59,8 +59,8 @@ sub-result c = binary-need _-ℤ_ (Whole (c .before)) (Multiple (c .before)) (re
 returns-2 : tie.Need-returns-2
 unfolding isInput rest floor
 returns-2 c =
-    ap (λ (z : ℤ). leZ z (pos 0)) (binary _-ℤ_ (Whole (c .before)) (Multiple (c .before)) (rest-fits (c .before)) .reads)
-    ∙ sym (simp (sym (word-test (c .before)) ∙ not-false _ (c .if1 .left)))
+    and-passes (word-test (c .before)) (c .if1 .left)
+    (ap (λ (z : ℤ). leZ z (pos 0)) (binary _-ℤ_ (Whole (c .before)) (Multiple (c .before)) (rest-fits (c .before)) .reads))
 
 pub input-fits-spec : {M : Type 1} → statement M
 input-fits-spec = tie.close (tie.spec (λ c κs. search needs) returns mul-result sub-result returns-2)

@@ -1,29 +1,24 @@
 -- `packing::band_numbers` meets its contract. The loop's invariant: the bands below b are stored.
 use mathlib.Core.Path.{_≡_, refl, sym, _∙_, subst}
-use mathlib.Core.Bool.{Bool, true, false}
 use mathlib.Core.List.{List}
 use Prim.Native.Nat.{ℕ, _+_, _*_, _-_, _≤_, _<_}
 use native.Mathlib.Omega.{arith}
-use lib.Dec.{eqb}
 use lib.IntN.{ℤ, pos}
 use lib.ListN.{length, getD, set, length-set}
 use lib.Seq.{getD-set-same, getD-set-other}
 use borrow.Author.Needs.{needs}
-use borrow.Author.Tests.{eqb-true, eqb-false}
+use borrow.Author.Count.{below-more}
 use mir.Syntax.{w32, w64}
 use mir.Val.{toZ, ofZ}
 use Rattle.integers.proofs.Machine.{widened, widen-need}
 use Rattle.bands.specs.declared.Band.{Band}
-use Rattle.bands.specs.Bands.{bandCount, bandOf, bandAt}
+use Rattle.bands.specs.Bands.{bandCount, setSize, bandOf, bandAt}
+use Rattle.unit.proofs.PastEnd.{zeroBand}
 use Rattle.unit.proofs.Tabulate.{tabulate-cong, tabulate-all}
 use Rattle.packing.proofs.band_numbers.Statement.{statement}
 use Rattle.packing.proofs.band_numbers.Tie as tie
 use Rattle.packing.proofs.band_numbers.Reads as reads
 use Rattle.packing.proofs.band_numbers.Lts as lts
-
--- what stands past the end of a list of bands
-abbrev noBand : Band
-noBand = bandOf (pos 0) (pos 0) (pos 0)
 
 -- the numbers with band b stored
 abbrev putBand : List ℤ → ℕ → Band → List ℤ
@@ -43,7 +38,7 @@ module _ (l : List ℤ) (b : ℕ) (band : Band) where
       ∙ getD-set-other one (3 * b + 1) j (band .beta) (pos 0) h1
       ∙ getD-set-other l (3 * b) j (band .alpha) (pos 0) h0
 
-  put-same : length l ≡ 30 → b < bandCount → bandAt (putBand l b band) b ≡ band
+  put-same : length l ≡ setSize → b < bandCount → bandAt (putBand l b band) b ≡ band
   unfolding one two
   put-same h k =
       λ i.
@@ -72,32 +67,32 @@ module _ (l : List ℤ) (b : ℕ) (band : Band) where
 -- the bands below b are stored
 pub record Filled (bands : List Band) (b : ℕ) (l : List ℤ) : Type 0 where
   pub most : b ≤ bandCount
-  pub size : length l ≡ 30
-  pub done : (k : ℕ) → k < b → bandAt l k ≡ getD bands k noBand
+  pub size : length l ≡ setSize
+  pub done : (k : ℕ) → k < b → bandAt l k ≡ getD bands k zeroBand
 
-filled-more : (bands : List Band) (b : ℕ) (l : List ℤ) → b < bandCount → Filled bands b l → Filled bands (b + 1) (putBand l b (getD bands b noBand))
+filled-more : (bands : List Band) (b : ℕ) (l : List ℤ) → b < bandCount → Filled bands b l → Filled bands (b + 1) (putBand l b (getD bands b zeroBand))
 filled-more bands b l h f =
-    record { most = omega arith; size = simp length-set (f .size); done = λ k j. go k (omega arith) (eqb k b) refl }
+    record {
+      most = omega arith;
+      size = simp length-set (f .size);
+      done = below-more (λ (k : ℕ). bandAt (putBand l b band) k ≡ getD bands k zeroBand) b (λ k e. put-other l b band k (λ z. omega arith) ∙ f .done k e) (put-same l b band (f .size) h);
+    }
   where
     band : Band
-    band = getD bands b noBand
-
-    go : (k : ℕ) → k ≤ b → (t : Bool) → eqb k b ≡ t → bandAt (putBand l b band) k ≡ getD bands k noBand
-    go k j true e = subst (λ (n : ℕ). bandAt (putBand l b band) n ≡ getD bands n noBand) (sym (eqb-true k b e)) (put-same l b band (f .size) h)
-    go k j false e = put-other l b band k (eqb-false k b e) ∙ f .done k (omega (arith, eqb-false k b e))
+    band = getD bands b zeroBand
 
 abbrev Inv-loop : tie.InvT-loop
 Inv-loop bands numbers₀ b₀ numbers b = Filled bands b numbers
 
 abbrev μ-loop : tie.MeasureT-loop
-μ-loop bands numbers₀ b₀ numbers b = 10 - b
+μ-loop bands numbers₀ b₀ numbers b = bandCount - b
 
 loop-holds : tie.Need-loop-holds Inv-loop μ-loop
 loop-holds c = record { most = search needs; size = refl; done = λ k j. absurd (omega arith) }
 
 -- band b as it is copied out
 abbrev band-of : lts.After-band reads.Pre reads.Post Inv-loop μ-loop → Band
-band-of c = getD (c .before .before .before .args .t1) (c .before .before .loop .b) noBand
+band-of c = getD (c .before .before .before .args .t1) (c .before .before .loop .b) zeroBand
 
 cast-alpha : tie.Need-cast-alpha Inv-loop μ-loop
 cast-alpha c = widen-need tt (band-of (c .before .before) .alpha) (record { sfits = omega arith })
@@ -127,13 +122,7 @@ loop-again c =
 
 returns : tie.Need-returns Inv-loop μ-loop
 returns c =
-    tabulate-cong bandCount (λ k h. inv .done k h) ∙ tabulate-all (c .before .before .args .t1) noBand bandCount (omega arith)
-  where
-    ten : c .before .loop .b ≡ bandCount
-    ten = omega arith
-
-    inv : Filled (c .before .before .args .t1) bandCount (c .before .loop .numbers)
-    inv = subst (λ (n : ℕ). Filled (c .before .before .args .t1) n (c .before .loop .numbers)) ten (c .before .loop .inv)
+    tabulate-cong bandCount (λ k h. c .before .loop .inv .done k (omega arith)) ∙ tabulate-all (c .before .before .args .t1) zeroBand bandCount (omega arith)
 
 pub band-numbers-spec : {M : Type 1} → statement M
 band-numbers-spec =

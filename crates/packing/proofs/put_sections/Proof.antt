@@ -1,16 +1,14 @@
 -- `packing::put_sections` meets its contract. The loop's invariant: the sections below b are stored.
 use mathlib.Core.Path.{_≡_, refl, sym, _∙_, subst}
-use mathlib.Core.Bool.{Bool, true, false}
 use mathlib.Core.List.{List}
 use Prim.Native.Nat.{ℕ, _+_, _-_, _≤_, _<_}
 use native.Mathlib.Omega.{arith}
-use lib.Dec.{eqb}
 use lib.IntN.{ℤ, pos}
 use lib.ListN.{length, getD}
 use denote.Ref.{now}
 use borrow.Author.Needs.{needs}
-use borrow.Author.Tests.{eqb-true, eqb-false}
-use Rattle.unit.specs.Sizes.{channelSize}
+use borrow.Author.Count.{below-more}
+use Rattle.unit.specs.Sizes.{headSize, channelSize}
 use Rattle.bands.specs.Bands.{bandCount}
 use Rattle.unit.specs.declared.BandSection.{BandSection}
 use Rattle.unit.specs.Cleared.{clearedBandSection}
@@ -27,7 +25,7 @@ use Rattle.engine.proofs.put_section.Reads as put-section-reads
 pub record Filled (l : List ℤ) (sections : List BandSection) (b : ℕ) (m : List ℤ) : Type 0 where
   pub most : b ≤ bandCount
   pub size : length m ≡ channelSize
-  pub front : (j : ℕ) → j < 3 → getD m j (pos 0) ≡ getD l j (pos 0)
+  pub front : (j : ℕ) → j < headSize → getD m j (pos 0) ≡ getD l j (pos 0)
   pub done : (k : ℕ) → k < b → sectionAt m k ≡ getD sections k clearedBandSection
 
 -- one section more
@@ -38,21 +36,17 @@ filled-more l sections b m h f =
       size = put-length m b s ∙ f .size;
       front =
           λ j i. put-outside m b s j (λ e. omega arith) (λ e. omega arith) (λ e. omega arith) (λ e. omega arith) ∙ f .front j i;
-      done = λ k j. go k (omega arith) (eqb k b) refl;
+      done = below-more (λ (k : ℕ). sectionAt (putSection m b s) k ≡ getD sections k clearedBandSection) b (λ k e. put-other m b s k (λ z. omega arith) ∙ f .done k e) (put-same m b s (f .size) h);
     }
   where
     s : BandSection
     s = getD sections b clearedBandSection
 
-    go : (k : ℕ) → k ≤ b → (t : Bool) → eqb k b ≡ t → sectionAt (putSection m b s) k ≡ getD sections k clearedBandSection
-    go k j true e = subst (λ (n : ℕ). sectionAt (putSection m b s) n ≡ getD sections n clearedBandSection) (sym (eqb-true k b e)) (put-same m b s (f .size) h)
-    go k j false e = put-other m b s k (eqb-false k b e) ∙ f .done k (omega (arith, eqb-false k b e))
-
 abbrev Inv-loop : tie.InvT-loop
 Inv-loop numbers₀ sections b₀ numbers b = Filled numbers₀ sections b numbers
 
 abbrev μ-loop : tie.MeasureT-loop
-μ-loop numbers₀ sections b₀ numbers b = 10 - b
+μ-loop numbers₀ sections b₀ numbers b = bandCount - b
 
 loop-holds : tie.Need-loop-holds Inv-loop μ-loop
 loop-holds c =
@@ -68,20 +62,12 @@ loop-again c =
 
 returns : tie.Need-returns Inv-loop μ-loop
 returns c =
+    let inv = c .before .loop .inv in
     record {
       size = inv .size;
       front = inv .front;
-      all = tabulate-cong bandCount (λ k h. inv .done k h) ∙ tabulate-all (s .args .t2) clearedBandSection bandCount (omega arith);
+      all = tabulate-cong bandCount (λ k h. inv .done k (omega arith)) ∙ tabulate-all (c .before .before .args .t2) clearedBandSection bandCount (omega arith);
     }
-  where
-    s : lts.Start (put-section-reads.Asked, put-section-reads.Learnt) reads.Pre reads.Post Inv-loop μ-loop
-    s = c .before .before
-
-    ten : c .before .loop .b ≡ bandCount
-    ten = omega arith
-
-    inv : Filled (now (s .args .numbers)) (s .args .t2) bandCount (c .before .loop .numbers)
-    inv = subst (λ (n : ℕ). Filled (now (s .args .numbers)) (s .args .t2) n (c .before .loop .numbers)) ten (c .before .loop .inv)
 
 pub put-sections-spec : {M : Type 1} → statement M
 put-sections-spec =

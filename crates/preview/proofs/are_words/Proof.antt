@@ -11,7 +11,7 @@ use denote.Ref.{now}
 use borrow.Author.Needs.{needs}
 use borrow.Author.Tests.{not-true, not-false}
 use mir.Syntax.{w32}
-use Rattle.integers.proofs.Machine.{reads-back}
+use Rattle.integers.proofs.Machine.{test-back}
 use Rattle.bands.specs.Words.{isWord}
 use Rattle.preview.specs.Preview.{areWords}
 use Rattle.preview.proofs.Lists.{words-from}
@@ -36,7 +36,7 @@ module _ (c : lts.After-is-word (is-word-reads.Asked, is-word-reads.Learnt) read
   i = c .before .before .before .loop .i
 
   test-is : c .is-word .result ≡ isWord (getD words i (pos 0))
-  test-is = c .is-word .ensures ∙ ap isWord (reads-back w32 (getD words i (pos 0)) (omega arith))
+  test-is = test-back isWord w32 (getD words i (pos 0)) (omega arith) (c .is-word .ensures)
 
   -- what it leaves to decide
   decides : (t : Bool) → c .is-word .result ≡ t → areWords words ≡ t && areWords (drop (suc i) words)

@@ -1,39 +1,21 @@
--- `reading::check_band_at` meets its contract: the three numbers are those of the part from the place on.
-use mathlib.Core.Path.{_≡_, sym, ap, _∙_}
-use mathlib.Core.List.{List}
-use Prim.Native.Nat.{ℕ, _+_, _<_}
+-- `reading::check_band_at` meets its contract: the band is that of the part from the place on.
+use mathlib.Core.Path.{_≡_, ap, _∙_}
+use Prim.Native.Nat.{ℕ, _+_, _-_}
 use native.Mathlib.Omega.{arith}
-use lib.Dec.{lit<}
-use lib.IntN.{ℤ, pos}
-use lib.ListN.{getD, take, drop}
-use lib.Seq.{getD-take, getD-drop}
+use lib.ListN.{take, drop}
 use denote.Ref.{now}
-use mir.Syntax.{w32}
-use Rattle.integers.proofs.Machine.{reads-back}
-use Rattle.bands.specs.Bands.{bandVerdict}
+use Rattle.bands.specs.Bands.{bandSize, bandVerdict, bandAt}
 use borrow.Author.Needs.{needs}
 use Rattle.reading.proofs.check_band_at.Statement.{statement}
 use Rattle.reading.proofs.check_band_at.Tie as tie
 
 returns : tie.Need-returns
 returns c =
+    let args = c .before .before .before .before .args in
+    let size : args .place + bandSize - args .place ≡ bandSize = omega arith in
     c .check-band .ensures
-    ∙ ap bandVerdict
-    (λ i.
-    record {
-      alpha = (reads-back w32 (getD l place (pos 0)) (omega arith) ∙ behind 0 place (omega arith) (lit< tt)) i;
-      beta = (reads-back w32 (getD l (place + 1) (pos 0)) (omega arith) ∙ behind 1 (place + 1) (omega arith) (lit< tt)) i;
-      gamma = (reads-back w32 (getD l (place + 2) (pos 0)) (omega arith) ∙ behind 2 (place + 2) (omega arith) (lit< tt)) i;
-    })
-  where
-    l : List ℤ
-    l = now (c .before .before .before .before .args .numbers)
-
-    place : ℕ
-    place = c .before .before .before .before .args .place
-
-    behind : (k at : ℕ) → at ≡ place + k → k < 3 → getD l at (pos 0) ≡ getD (take 3 (drop place l)) k (pos 0)
-    behind k at e h = ap (λ (n : ℕ). getD l n (pos 0)) e ∙ sym (getD-take 3 (drop place l) k (pos 0) h ∙ getD-drop place l k (pos 0))
+    ∙ ap bandVerdict (c .before .band-at .ensures)
+    ∙ ap (λ (n : ℕ). bandVerdict (bandAt (take n (drop (args .place) (now (args .numbers)))) 0)) size
 
 pub check-band-at-spec : {M : Type 1} → statement M
 check-band-at-spec =
@@ -44,8 +26,6 @@ check-band-at-spec =
     (λ c. search needs)
     (λ c. search needs)
     (λ c. search needs)
-    (λ c. search needs)
-    (λ c. search needs)
-    (λ c. search needs)
+    (λ c κs. search needs)
     (λ c κs. search needs)
     returns)
