@@ -9,12 +9,10 @@ use lib.Dec.{lit≤}
 use lib.IntN.{ℤ, pos, _*ℤ_}
 use lib.ListN.{length, drop, length-append, List·getD-append}
 use lib.Seq.{getD-append-add, drop-append-add, drop-length}
-use borrow.Author.Tests.{eq-eqb, le-leb}
 use Rattle.refusals.specs.Numbers.{isAccepted}
 use Rattle.unit.specs.declared.Unit.{Unit}
 use Rattle.unit.specs.Frame.{unitFrame, heard}
 use Rattle.unit.specs.Fit.{Fit}
-use Rattle.unit.proofs.Fitness.{test-of-fit}
 use Rattle.frames.specs.Bytes.{sampleAt, wordsAt, frameSize, frameCount, bytesOf}
 use Rattle.frames.specs.Played.{played, sound}
 use Rattle.blocks.specs.Block.{blockVerdict, blockPlayed, blockOutput}

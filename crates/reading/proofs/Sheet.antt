@@ -10,10 +10,13 @@ use Rattle.refusals.specs.Numbers.{isAccepted}
 use Rattle.sheet.specs.declared.Line.{Line}
 use Rattle.sheet.specs.declared.Line.the-variants.{Volume, Band, Left, Section, Right}
 use Rattle.sheet.specs.Lines.{lines, channelRanges}
-use Rattle.reading.specs.Reading.{fieldNumbers, numbersIn}
-use Rattle.reading.specs.Parts.{andThen, plainPart, linePart, linesPart, channelPart}
-use Rattle.reading.proofs.Parts.{then-assoc}
-use Rattle.reading.proofs.Whole.{both-numbers, plain-numbers, lines-numbers, lines-append, numbers-in-length}
+use Rattle.line_reading.specs.Line.{fieldNumbers}
+use Rattle.reading.specs.Reading.{numbersIn}
+use Rattle.line_reading.specs.Parts.{andThen, plainPart, linePart}
+use Rattle.reading.specs.Parts.{linesPart, channelPart}
+use Rattle.line_reading.proofs.Parts.{then-assoc}
+use Rattle.line_reading.proofs.Whole.{both-numbers, plain-numbers}
+use Rattle.reading.proofs.Whole.{lines-numbers, lines-append, numbers-in-length}
 
 abbrev bands : List Line
 bands = replicate bandCount Band

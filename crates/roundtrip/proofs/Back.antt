@@ -19,7 +19,8 @@ use Rattle.sheet.specs.declared.Line.{Line}
 use Rattle.sheet.specs.Lines.{lineFeed, letterOf, rangesOf, together, fieldCount, lineSize}
 use Rattle.writing.specs.Written.{lineBytes, written}
 use Rattle.writing.proofs.Laws.{line-length}
-use Rattle.reading.specs.Reading.{fieldVerdict, fieldsVerdict, fieldNumbers, markVerdict, lineNumbers, lineVerdict, linesVerdict, numbersIn}
+use Rattle.line_reading.specs.Line.{fieldVerdict, fieldsVerdict, fieldNumbers, markVerdict, lineNumbers, lineVerdict}
+use Rattle.reading.specs.Reading.{linesVerdict, numbersIn}
 use Rattle.roundtrip.proofs.Passes.{InRanges, LinePasses, LinesPass, ranges-length, line-short}
 
 -- ---- some fields, whatever stands behind them

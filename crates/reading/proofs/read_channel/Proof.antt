@@ -12,14 +12,15 @@ use Rattle.bands.specs.Bands.{bandCount}
 use Rattle.refusals.specs.Numbers.{isAccepted}
 use Rattle.sheet.specs.declared.Line.the-variants.{Section}
 use Rattle.sheet.specs.Lines.{channelRanges}
-use Rattle.reading.specs.Parts.{Part, plainPart, linesPart}
-use Rattle.reading.proofs.Parts.{restored, stored-length, on, off}
-use Rattle.reading.proofs.Whole.{field-numbers-length, plain-numbers}
+use Rattle.line_reading.specs.Parts.{Part, plainPart}
+use Rattle.reading.specs.Parts.{linesPart}
+use Rattle.line_reading.proofs.Parts.{restored, stored-length, on, off}
+use Rattle.line_reading.proofs.Whole.{field-numbers-length, plain-numbers}
 use Rattle.reading.proofs.read_channel.Statement.{statement}
 use Rattle.reading.proofs.read_channel.Tie as tie
 use Rattle.reading.proofs.read_channel.Reads as reads
 use Rattle.reading.proofs.read_channel.Lts as lts
-use Rattle.reading.proofs.read_head.Reads as read-head-reads
+use Rattle.line_reading.proofs.read_head.Reads as read-head-reads
 use Rattle.reading.proofs.read_sections.Reads as read-sections-reads
 use Rattle.refusals.proofs.accepted.Reads as accepted-reads
 

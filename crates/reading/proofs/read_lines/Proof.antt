@@ -14,9 +14,10 @@ use Rattle.refusals.specs.Numbers.{isAccepted}
 use Rattle.unit.specs.Fit.{isVolume}
 use Rattle.sheet.specs.declared.Line.the-variants.{Volume, Band}
 use Rattle.sheet.specs.Lines.{lines}
-use Rattle.reading.specs.Parts.{Part, andThen, linePart, linesPart, channelPart, ReadGives}
-use Rattle.reading.proofs.Parts.{restored, stored-length, Leads, on, off}
-use Rattle.reading.proofs.Whole.{line-long}
+use Rattle.line_reading.specs.Parts.{Part, andThen, linePart, ReadGives}
+use Rattle.reading.specs.Parts.{linesPart, channelPart}
+use Rattle.line_reading.proofs.Parts.{restored, stored-length, Leads, on, off}
+use Rattle.line_reading.proofs.Whole.{line-long}
 use Rattle.reading.proofs.Sheet.{sheet-parts, channel-long, bands-long}
 use Rattle.reading.proofs.read_lines.Statement.{statement}
 use Rattle.reading.proofs.read_lines.Tie as tie
@@ -24,7 +25,7 @@ use Rattle.reading.proofs.read_lines.Reads as reads
 use Rattle.reading.proofs.read_lines.Lts as lts
 use Rattle.reading.proofs.read_bands.Reads as read-bands-reads
 use Rattle.reading.proofs.read_channel.Reads as read-channel-reads
-use Rattle.reading.proofs.read_line.Reads as read-line-reads
+use Rattle.line_reading.proofs.read_line.Reads as read-line-reads
 use Rattle.refusals.proofs.accepted.Reads as accepted-reads
 
 module _ (c : lts.Start (read-line-reads.Asked, read-line-reads.Learnt, accepted-reads.Asked, accepted-reads.Learnt, read-bands-reads.Asked, read-bands-reads.Learnt, read-channel-reads.Asked, read-channel-reads.Learnt) reads.Pre reads.Post) where

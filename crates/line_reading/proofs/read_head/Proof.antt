@@ -1,4 +1,4 @@
--- `reading::read_head` meets its contract: a letter, the three fields, a line end.
+-- `line_reading::read_head` meets its contract: a letter, the three fields, a line end.
 use mathlib.Core.Path.{_≡_, sym, _∙_}
 use mathlib.Core.Bool.{true}
 use mathlib.Core.List.{List}
@@ -10,14 +10,14 @@ use borrow.Author.Needs.{needs}
 use borrow.Author.Tests.{not-true, not-false}
 use Rattle.refusals.specs.Numbers.{isAccepted}
 use Rattle.sheet.specs.Lines.{channelRanges}
-use Rattle.reading.specs.Parts.{Part, endPart}
-use Rattle.reading.proofs.Line.{letter-refused, fields-refused, fields-passed, ended}
-use Rattle.reading.proofs.read_head.Statement.{statement}
-use Rattle.reading.proofs.read_head.Tie as tie
-use Rattle.reading.proofs.read_head.Reads as reads
-use Rattle.reading.proofs.read_head.Lts as lts
-use Rattle.reading.proofs.check_mark.Reads as check-mark-reads
-use Rattle.reading.proofs.read_state.Reads as read-state-reads
+use Rattle.line_reading.specs.Parts.{Part, endPart}
+use Rattle.line_reading.proofs.Line.{letter-refused, fields-refused, fields-passed, ended}
+use Rattle.line_reading.proofs.read_head.Statement.{statement}
+use Rattle.line_reading.proofs.read_head.Tie as tie
+use Rattle.line_reading.proofs.read_head.Reads as reads
+use Rattle.line_reading.proofs.read_head.Lts as lts
+use Rattle.line_reading.proofs.check_mark.Reads as check-mark-reads
+use Rattle.line_reading.proofs.read_state.Reads as read-state-reads
 use Rattle.refusals.proofs.accepted.Reads as accepted-reads
 
 module _ (c : lts.Start (check-mark-reads.Asked, check-mark-reads.Learnt, accepted-reads.Asked, accepted-reads.Learnt, read-state-reads.Asked, read-state-reads.Learnt) reads.Pre reads.Post) where

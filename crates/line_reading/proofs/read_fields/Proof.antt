@@ -1,4 +1,4 @@
--- `reading::read_fields` meets its contract. The loop's invariant: the fields from the ith on are left.
+-- `line_reading::read_fields` meets its contract. The loop's invariant: the fields from the ith on are left.
 use mathlib.Core.Path.{_≡_, sym, ap, ap₂, refl, _∙_}
 use mathlib.Core.Bool.{Bool, false}
 use mathlib.Core.List.{List}
@@ -18,15 +18,15 @@ use Rattle.refusals.specs.Numbers.{isAccepted}
 use Rattle.refusals.specs.declared.Verdict.{Verdict}
 use Rattle.refusals.specs.declared.Verdict.the-variants.{Accepted}
 use Rattle.fields.specs.Fields.{fieldSize, fieldAt}
-use Rattle.reading.specs.Parts.{fieldsPart, ReadGives}
-use Rattle.reading.proofs.Parts.{restored}
-use Rattle.reading.proofs.Repeat.{fieldIn, repeated, fields-repeated, LeftFrom, left-all, left-none, left-off, left-on}
-use Rattle.reading.proofs.Field.{field-badly, field-outside, field-inside}
-use Rattle.reading.proofs.Whole.{field-number}
-use Rattle.reading.proofs.read_fields.Statement.{statement}
-use Rattle.reading.proofs.read_fields.Tie as tie
-use Rattle.reading.proofs.read_fields.Reads as reads
-use Rattle.reading.proofs.read_fields.Lts as lts
+use Rattle.line_reading.specs.Parts.{fieldsPart, ReadGives}
+use Rattle.line_reading.proofs.Parts.{restored}
+use Rattle.line_reading.proofs.Repeat.{fieldIn, repeated, fields-repeated, LeftFrom, left-all, left-none, left-off, left-on}
+use Rattle.line_reading.proofs.Field.{field-badly, field-outside, field-inside}
+use Rattle.line_reading.proofs.Whole.{field-number}
+use Rattle.line_reading.proofs.read_fields.Statement.{statement}
+use Rattle.line_reading.proofs.read_fields.Tie as tie
+use Rattle.line_reading.proofs.read_fields.Reads as reads
+use Rattle.line_reading.proofs.read_fields.Lts as lts
 use Rattle.field_reading.proofs.read_field.Reads as read-field-reads
 use Rattle.rounding.proofs.in_range.Reads as in-range-reads
 

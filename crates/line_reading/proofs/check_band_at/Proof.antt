@@ -1,4 +1,4 @@
--- `reading::check_band_at` meets its contract: the band is that of the part from the place on.
+-- `line_reading::check_band_at` meets its contract: the band is that of the part from the place on.
 use mathlib.Core.Path.{_≡_, ap, _∙_}
 use Prim.Native.Nat.{ℕ, _+_, _-_}
 use native.Mathlib.Omega.{arith}
@@ -6,8 +6,8 @@ use lib.ListN.{take, drop}
 use denote.Ref.{now}
 use Rattle.bands.specs.Bands.{bandSize, bandVerdict, bandAt}
 use borrow.Author.Needs.{needs}
-use Rattle.reading.proofs.check_band_at.Statement.{statement}
-use Rattle.reading.proofs.check_band_at.Tie as tie
+use Rattle.line_reading.proofs.check_band_at.Statement.{statement}
+use Rattle.line_reading.proofs.check_band_at.Tie as tie
 
 returns : tie.Need-returns
 returns c =

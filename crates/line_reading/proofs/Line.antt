@@ -12,10 +12,10 @@ use Rattle.refusals.specs.declared.Verdict.{Verdict}
 use Rattle.fields.specs.Fields.{fieldSize}
 use Rattle.fields.proofs.Stores.{stored-part}
 use Rattle.sheet.specs.Lines.{lineFeed}
-use Rattle.reading.specs.Reading.{fieldNumbers, markVerdict}
-use Rattle.reading.specs.Parts.{Part, andThen, fieldsPart, letterPart, endPart, ReadGives}
-use Rattle.reading.proofs.Parts.{Leads, on, off, past, tested, restored}
-use Rattle.reading.proofs.Whole.{fields-numbers, fields-long}
+use Rattle.line_reading.specs.Line.{fieldNumbers, markVerdict}
+use Rattle.line_reading.specs.Parts.{Part, andThen, fieldsPart, letterPart, endPart, ReadGives}
+use Rattle.line_reading.proofs.Parts.{Leads, on, off, past, tested, restored}
+use Rattle.line_reading.proofs.Whole.{fields-numbers, fields-long}
 
 -- a byte tested at its place is tested in the part from another place on
 pub mark-at : (bytes : List ℕ) (at k place : ℕ) (wanted : ℕ) → place ≡ at + k → markVerdict (getD bytes place 0) wanted ≡ markVerdict (getD (drop at bytes) k 0) wanted

@@ -1,4 +1,4 @@
--- `reading::read_band` meets its contract: a letter, three fields, the band that they make, a line end.
+-- `line_reading::read_band` meets its contract: a letter, three fields, the band that they make, a line end.
 use mathlib.Core.Path.{_≡_, refl, sym, ap, _∙_}
 use mathlib.Core.Bool.{true}
 use mathlib.Core.List.{List}
@@ -14,18 +14,18 @@ use Rattle.refusals.specs.Numbers.{isAccepted}
 use Rattle.refusals.specs.declared.Verdict.{Verdict}
 use Rattle.sheet.specs.declared.Line.the-variants.{Band}
 use Rattle.sheet.specs.Lines.{rangesOf, together}
-use Rattle.reading.specs.Reading.{lineNumbers}
-use Rattle.reading.specs.Parts.{Part, test, andThen, fieldsPart, endPart, linePart, ReadGives}
-use Rattle.reading.proofs.Parts.{restored, stored-length, Leads, off, past, tested}
-use Rattle.reading.proofs.Line.{letter-refused, fields-refused, fields-passed, fields-there, ended}
-use Rattle.reading.proofs.Field.{any-fields}
-use Rattle.reading.proofs.read_band.Statement.{statement}
-use Rattle.reading.proofs.read_band.Tie as tie
-use Rattle.reading.proofs.read_band.Reads as reads
-use Rattle.reading.proofs.read_band.Lts as lts
-use Rattle.reading.proofs.check_band_at.Reads as check-band-at-reads
-use Rattle.reading.proofs.check_mark.Reads as check-mark-reads
-use Rattle.reading.proofs.read_fields.Reads as read-fields-reads
+use Rattle.line_reading.specs.Line.{lineNumbers}
+use Rattle.line_reading.specs.Parts.{Part, test, andThen, fieldsPart, endPart, linePart, ReadGives}
+use Rattle.line_reading.proofs.Parts.{restored, stored-length, Leads, off, past, tested}
+use Rattle.line_reading.proofs.Line.{letter-refused, fields-refused, fields-passed, fields-there, ended}
+use Rattle.line_reading.proofs.Field.{any-fields}
+use Rattle.line_reading.proofs.read_band.Statement.{statement}
+use Rattle.line_reading.proofs.read_band.Tie as tie
+use Rattle.line_reading.proofs.read_band.Reads as reads
+use Rattle.line_reading.proofs.read_band.Lts as lts
+use Rattle.line_reading.proofs.check_band_at.Reads as check-band-at-reads
+use Rattle.line_reading.proofs.check_mark.Reads as check-mark-reads
+use Rattle.line_reading.proofs.read_fields.Reads as read-fields-reads
 use Rattle.refusals.proofs.accepted.Reads as accepted-reads
 
 module _ (c : lts.Start (check-mark-reads.Asked, check-mark-reads.Learnt, accepted-reads.Asked, accepted-reads.Learnt, read-fields-reads.Asked, read-fields-reads.Learnt, check-band-at-reads.Asked, check-band-at-reads.Learnt) reads.Pre reads.Post) where

@@ -1,8 +1,8 @@
--- `reading::check_mark` meets its contract: one test.
+-- `line_reading::check_mark` meets its contract: one test.
 use mathlib.Core.Path.{sym}
 use borrow.Author.Tests.{eq-eqb, ne-eqb}
-use Rattle.reading.proofs.check_mark.Statement.{statement}
-use Rattle.reading.proofs.check_mark.Tie as tie
+use Rattle.line_reading.proofs.check_mark.Statement.{statement}
+use Rattle.line_reading.proofs.check_mark.Tie as tie
 
 returns : tie.Need-returns
 returns c = sym (simp (ne-eqb (c .before .args .byte) (c .before .args .wanted) (c .if1 .taken)))

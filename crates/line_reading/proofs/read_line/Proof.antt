@@ -1,4 +1,4 @@
--- `reading::read_line` meets its contract: a letter, fields of one range, a line end.
+-- `line_reading::read_line` meets its contract: a letter, fields of one range, a line end.
 use mathlib.Core.Path.{_≡_, refl, sym, ap₂, _∙_}
 use mathlib.Core.Bool.{Bool, true}
 use mathlib.Core.List.{List}
@@ -15,15 +15,15 @@ use borrow.Author.Tests.{not-true, not-false}
 use Rattle.rounding.specs.Rounding.{within}
 use Rattle.refusals.specs.Numbers.{isAccepted}
 use Rattle.refusals.specs.declared.Verdict.{Verdict}
-use Rattle.reading.specs.Parts.{Part, endPart, plainPart, ReadGives}
-use Rattle.reading.proofs.Parts.{restored}
-use Rattle.reading.proofs.Line.{letter-refused, fields-refused, fields-passed, ended}
-use Rattle.reading.proofs.read_line.Statement.{statement}
-use Rattle.reading.proofs.read_line.Tie as tie
-use Rattle.reading.proofs.read_line.Reads as reads
-use Rattle.reading.proofs.read_line.Lts as lts
-use Rattle.reading.proofs.check_mark.Reads as check-mark-reads
-use Rattle.reading.proofs.read_fields.Reads as read-fields-reads
+use Rattle.line_reading.specs.Parts.{Part, endPart, plainPart, ReadGives}
+use Rattle.line_reading.proofs.Parts.{restored}
+use Rattle.line_reading.proofs.Line.{letter-refused, fields-refused, fields-passed, ended}
+use Rattle.line_reading.proofs.read_line.Statement.{statement}
+use Rattle.line_reading.proofs.read_line.Tie as tie
+use Rattle.line_reading.proofs.read_line.Reads as reads
+use Rattle.line_reading.proofs.read_line.Lts as lts
+use Rattle.line_reading.proofs.check_mark.Reads as check-mark-reads
+use Rattle.line_reading.proofs.read_fields.Reads as read-fields-reads
 use Rattle.refusals.proofs.accepted.Reads as accepted-reads
 
 module _ (c : lts.Start (check-mark-reads.Asked, check-mark-reads.Learnt, accepted-reads.Asked, accepted-reads.Learnt, read-fields-reads.Asked, read-fields-reads.Learnt) reads.Pre reads.Post) where

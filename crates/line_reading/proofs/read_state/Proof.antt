@@ -1,4 +1,4 @@
--- `reading::read_state` meets its contract: two inputs and a flag.
+-- `line_reading::read_state` meets its contract: two inputs and a flag.
 use mathlib.Core.Path.{_≡_, sym, ap, _∙_}
 use mathlib.Core.List.{List, [], _∷_}
 use Prim.Native.Nat.{ℕ, _+_}
@@ -11,15 +11,15 @@ use borrow.Author.Tests.{not-true, not-false}
 use Rattle.unit.specs.Fit.{isInput, isFlag}
 use Rattle.fields.specs.Fields.{fieldSize, fieldAt}
 use Rattle.sheet.specs.Lines.{channelRanges}
-use Rattle.reading.specs.Parts.{fieldPart, fieldsPart}
-use Rattle.reading.proofs.Parts.{restored, stored-length, Leads, off}
-use Rattle.reading.proofs.Field.{next-field}
-use Rattle.reading.proofs.read_state.Statement.{statement}
-use Rattle.reading.proofs.read_state.Tie as tie
-use Rattle.reading.proofs.read_state.Reads as reads
-use Rattle.reading.proofs.read_state.Lts as lts
-use Rattle.reading.proofs.read_fields.Reads as read-fields-reads
-use Rattle.reading.proofs.read_input.Reads as read-input-reads
+use Rattle.line_reading.specs.Parts.{fieldPart, fieldsPart}
+use Rattle.line_reading.proofs.Parts.{restored, stored-length, Leads, off}
+use Rattle.line_reading.proofs.Field.{next-field}
+use Rattle.line_reading.proofs.read_state.Statement.{statement}
+use Rattle.line_reading.proofs.read_state.Tie as tie
+use Rattle.line_reading.proofs.read_state.Reads as reads
+use Rattle.line_reading.proofs.read_state.Lts as lts
+use Rattle.line_reading.proofs.read_fields.Reads as read-fields-reads
+use Rattle.line_reading.proofs.read_input.Reads as read-input-reads
 use Rattle.refusals.proofs.accepted.Reads as accepted-reads
 
 module _ (c : lts.Start (read-input-reads.Asked, read-input-reads.Learnt, accepted-reads.Asked, accepted-reads.Learnt, read-fields-reads.Asked, read-fields-reads.Learnt) reads.Pre reads.Post) where

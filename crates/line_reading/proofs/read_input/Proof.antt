@@ -1,4 +1,4 @@
--- `reading::read_input` meets its contract.
+-- `line_reading::read_input` meets its contract.
 use mathlib.Core.Path.{_≡_, sym, ap, _∙_}
 use denote.Ref.{now}
 use mir.Syntax.{w32}
@@ -6,11 +6,11 @@ use borrow.Author.Needs.{needs}
 use borrow.Author.Tests.{not-true, not-false}
 use Rattle.integers.proofs.Machine.{reads-back, widened, widen-need}
 use Rattle.unit.specs.Fit.{isInput}
-use Rattle.reading.proofs.Field.{field-badly, field-outside, field-inside}
-use Rattle.reading.proofs.read_input.Statement.{statement}
-use Rattle.reading.proofs.read_input.Tie as tie
-use Rattle.reading.proofs.read_input.Reads as reads
-use Rattle.reading.proofs.read_input.Lts as lts
+use Rattle.line_reading.proofs.Field.{field-badly, field-outside, field-inside}
+use Rattle.line_reading.proofs.read_input.Statement.{statement}
+use Rattle.line_reading.proofs.read_input.Tie as tie
+use Rattle.line_reading.proofs.read_input.Reads as reads
+use Rattle.line_reading.proofs.read_input.Lts as lts
 use Rattle.field_reading.proofs.read_field.Reads as read-field-reads
 use Rattle.fitness.proofs.input_fits.Reads as input-fits-reads
 

@@ -20,10 +20,10 @@ use Rattle.refusals.specs.declared.Verdict.the-variants.{Accepted, FieldForm, U
 use Rattle.fields.specs.Fields.{fieldSize, numberIn, isField, noNumber, fieldRead, fieldAt}
 use Rattle.sheet.specs.Lines.{anyNumber}
 use Rattle.fields.proofs.Laws.{nine-columns, number-low, none-read, some-read}
-use Rattle.reading.specs.Reading.{fieldVerdict}
-use Rattle.reading.specs.Parts.{Part, andThen, fieldPart, fieldsPart, ReadGives}
-use Rattle.reading.proofs.Parts.{restored, Leads, on}
-use Rattle.reading.proofs.Whole.{field-number}
+use Rattle.line_reading.specs.Line.{fieldVerdict}
+use Rattle.line_reading.specs.Parts.{Part, andThen, fieldPart, fieldsPart, ReadGives}
+use Rattle.line_reading.proofs.Parts.{restored, Leads, on}
+use Rattle.line_reading.proofs.Whole.{field-number}
 
 -- a number of 32 bits stands for none where its bits do
 is-none : (n : ℤ) → mag n < 2147483648 → ofZ w32 n ≡ 1000000000 → n ≡ noNumber

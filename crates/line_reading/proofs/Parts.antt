@@ -12,7 +12,7 @@ use Rattle.refusals.specs.declared.Verdict.{Verdict}
 use Rattle.refusals.specs.declared.Verdict.the-variants.{Accepted}
 use Rattle.refusals.proofs.Laws.{first-accepted, first-refused, first-assoc}
 use Rattle.fields.proofs.Stores.{sets-append}
-use Rattle.reading.specs.Parts.{Part, empty, test, andThen, ReadGives}
+use Rattle.line_reading.specs.Parts.{Part, empty, test, andThen, ReadGives}
 
 -- storing changes no length
 pub stored-length : {part : Part} {l : List ℤ} {place : ℕ} {v : Verdict} {m : List ℤ} → ReadGives part l place v m → length m ≡ length l

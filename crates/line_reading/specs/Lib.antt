@@ -1,0 +1,3 @@
+-- Reading a line.
+pub mod Line
+pub mod Parts
