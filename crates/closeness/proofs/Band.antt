@@ -10,7 +10,7 @@ use Rattle.integers.proofs.Normal.{at, con, _:+_, _:-_, _:*_, solve}
 use Rattle.bands.specs.declared.Band.{Band}
 use Rattle.section.specs.Equation.{exactSum}
 use Rattle.closeness.specs.Claim.{divisor, Results, silentResults, rescaled, exactResults, response, responseSum}
-use Rattle.closeness.proofs.Recursion.{Bounded, bounded-start, bounded-step, scaledSum, scaledSize, weight-now}
+use Rattle.closeness.proofs.Recursion.{WatchedBounded, bounded-start, bounded-step, scaledSum, scaledSize, weight-now}
 
 -- ---- the recursion of a band
 
@@ -95,8 +95,8 @@ module _ (band : Band) where
   abbrev sizes : ℕ → ℕ
   sizes k = natAbs (response band k)
 
-  abbrev pub Near : ℕ → ℤ → ℤ → Results → Type 0
-  Near n y1 y2 r = Bounded (scaledSize divisor) sizes later n (error n y1 y2 r)
+  abbrev pub NearResults : ℕ → ℤ → ℤ → Results → Type 0
+  NearResults n y1 y2 r = WatchedBounded (scaledSize divisor) sizes later n (error n y1 y2 r)
 
   -- cleared, there is no error
   -- silence stays
@@ -110,7 +110,7 @@ module _ (band : Band) where
   later-silence zero = refl
   later-silence (suc k) = ap (later k) quiet-silence ∙ later-silence k
 
-  pub near-start : Near 0 (pos 0) (pos 0) silentResults
+  pub near-start : NearResults 0 (pos 0) (pos 0) silentResults
   near-start = bounded-start (scaledSize divisor) sizes later (error 0 (pos 0) (pos 0) silentResults) later-silence
 
   module _ (n : ℕ) (x x2 y1 y2 y : ℤ) (r : Results) where
@@ -140,8 +140,8 @@ module _ (band : Band) where
             ∙ solve (pos (scaleAt n) ∷ pos divisor ∷ y1 ∷ r .y1 ∷ []) (at 0 :* at 1 :* at 2 :- at 1 :* at 3) (at 1 :* (at 0 :* at 2 :- at 3)) refl
 
     -- a step whose y is the exact sum's nearest whole number, as it is where the section does not limit
-    pub near-step : 2 * natAbs (pos divisor *ℤ y -ℤ exactSum band x x2 y1 y2) ≤ divisor → Near n y1 y2 r → Near (suc n) y y1 (exactResults band (pos (scaleAt n) *ℤ x) (pos (scaleAt n) *ℤ x2) r)
-    near-step h near = subst (Bounded (scaledSize divisor) sizes later (suc n)) (sym error-step) (bounded-step (scaledSize divisor) sizes later n (error n y1 y2 r) _ felt near)
+    pub near-step : 2 * natAbs (pos divisor *ℤ y -ℤ exactSum band x x2 y1 y2) ≤ divisor → NearResults n y1 y2 r → NearResults (suc n) y y1 (exactResults band (pos (scaleAt n) *ℤ x) (pos (scaleAt n) *ℤ x2) r)
+    near-step h near = subst (WatchedBounded (scaledSize divisor) sizes later (suc n)) (sym error-step) (bounded-step (scaledSize divisor) sizes later n (error n y1 y2 r) _ felt near)
       where
         small : 2 * natAbs input ≤ scaledSize divisor n
         small =
@@ -162,7 +162,7 @@ module _ (band : Band) where
             )
 
   -- the error is at most half the sum of the response
-  pub near-sum : (n : ℕ) (y1 y2 : ℤ) (r : Results) → Near n y1 y2 r → 2 * natAbs (pos (scaleAt n) *ℤ y1 -ℤ r .y1) ≤ responseSum band n
+  pub near-sum : (n : ℕ) (y1 y2 : ℤ) (r : Results) → NearResults n y1 y2 r → 2 * natAbs (pos (scaleAt n) *ℤ y1 -ℤ r .y1) ≤ responseSum band n
   near-sum n y1 y2 r near = subst (λ (v : ℕ). 2 * natAbs (pos (scaleAt n) *ℤ y1 -ℤ r .y1) ≤ v) (weight-now divisor sizes n ∙ sum-is n) (near .bound 0)
     where
       sum-is : (m : ℕ) → scaledSum divisor sizes m ≡ responseSum band m

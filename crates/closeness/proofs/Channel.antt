@@ -19,7 +19,7 @@ use Rattle.unit.specs.declared.BandSection.{BandSection}
 use Rattle.unit.specs.declared.Channel.{Channel}
 use Rattle.unit.specs.Frame.{sectionWork, sectionFrame, sectionsFrame, anyLimits, raised, channelFrame, share, sumOf, exactMix, mix, output}
 use Rattle.closeness.specs.Claim.{divisor, Results, Exact, rescaled, allResults, exactFrame, gained, exactMixed, outputScale, exactOutput, gainedSums, bound, Close}
-use Rattle.closeness.proofs.Band.{Near, near-step, near-sum}
+use Rattle.closeness.proofs.Band.{NearResults, near-step, near-sum}
 use Rattle.closeness.proofs.Output.{scaled-small, output-near}
 
 -- the gain of a section
@@ -33,7 +33,7 @@ NearAll n [] [] (r ∷ rs) = ⊥
 NearAll n [] (s ∷ ss) rs = ⊥
 NearAll n (band ∷ bands) [] rs = ⊥
 NearAll n (band ∷ bands) (s ∷ ss) [] = ⊥
-NearAll n (band ∷ bands) (s ∷ ss) (r ∷ rs) = Near band n (s .y1) (s .y2) r × NearAll n bands ss rs
+NearAll n (band ∷ bands) (s ∷ ss) (r ∷ rs) = NearResults band n (s .y1) (s .y2) r × NearAll n bands ss rs
 
 -- two tests of which neither passed
 neither : (a b : Bool) → a || b ≡ false → (a ≡ false) × (b ≡ false)

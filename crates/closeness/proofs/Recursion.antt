@@ -16,15 +16,15 @@ module _ (size r : ℕ → ℕ) where
 
   module _ {X : Type 0} (later : ℕ → X → ℤ) where
     -- n steps have brought the recursion to x
-    pub record Bounded (n : ℕ) (x : X) : Type 0 where
+    pub record WatchedBounded (n : ℕ) (x : X) : Type 0 where
       pub bound : (k : ℕ) → 2 * natAbs (later k x) ≤ weight n k
 
     -- it begins where nothing is felt later
-    pub bounded-start : (x : X) → ((k : ℕ) → later k x ≡ pos 0) → Bounded 0 x
+    pub bounded-start : (x : X) → ((k : ℕ) → later k x ≡ pos 0) → WatchedBounded 0 x
     bounded-start x h = record { bound = λ k. omega (arith, ap natAbs (h k)) }
 
     -- one step more
-    pub bounded-step : (n : ℕ) (x x' : X) → ((k : ℕ) → 2 * natAbs (later k x') ≤ 2 * natAbs (later (suc k) x) + size n * r k) → Bounded n x → Bounded (suc n) x'
+    pub bounded-step : (n : ℕ) (x x' : X) → ((k : ℕ) → 2 * natAbs (later k x') ≤ 2 * natAbs (later (suc k) x) + size n * r k) → WatchedBounded n x → WatchedBounded (suc n) x'
     bounded-step n x x' h b = record { bound = λ k. omega (arith, h k, b .bound (suc k)) }
 
 -- ---- inputs that grow with the scale: D at the first step, D^2 at the second

@@ -33,7 +33,7 @@ use Rattle.frames.proofs.Many.{played-fit, played-channels}
 use Rattle.blocks.proofs.Block.{BlockAccepts, block-accepted}
 use Rattle.blocks.proofs.Read.{played-channel, output-sample}
 use Rattle.closeness.specs.Claim.{Call, order, block, placeOf, unitAfter, samplesOf, samples, channelIn, limitsOn, limitsOf, limits, handedBack, Results, Exact, exactFrame, exactAimed, exactPlayed, exactAfter, exactsOf, exacts, Close}
-use Rattle.closeness.proofs.Band.{Near}
+use Rattle.closeness.proofs.Band.{NearResults}
 use Rattle.closeness.proofs.Channel.{gainOf, NearAll, Tied, frame-tied, tied-close}
 use Rattle.closeness.proofs.Follows.{Follows, follows-append}
 
@@ -62,7 +62,7 @@ module _ (channels channel : ℕ) (inside : channel < channels) (bands : List Ba
     aimed-near n test (b ∷ bs) (s ∷ ss) (r ∷ rs) near =
         (go (test 0), aimed-near n (λ (place : ℕ). test (suc place)) bs ss rs (near .1))
       where
-        go : (m : Bool) → Near b n (cond m (aimedSection target s) s .y1) (cond m (aimedSection target s) s .y2) r
+        go : (m : Bool) → NearResults b n (cond m (aimedSection target s) s .y1) (cond m (aimedSection target s) s .y2) r
         go true = near .0
         go false = near .0
 

@@ -20,9 +20,9 @@ module _ (bytes : List ℕ) (side band : ℕ) (setting : Setting) (house : Unit)
   unfolding sheetRead
   verdict-is = ap (λ (a : SheetRead). a .verdict) read
 
-  pub refused : (buffer : List ℕ) → isAccepted (r .verdict) ≡ false → (r .verdict ≡ deskVerdict bytes side band setting) × (buffer ≡ deskSheet bytes side band setting buffer)
+  pub sheet-refused : (buffer : List ℕ) → isAccepted (r .verdict) ≡ false → (r .verdict ≡ deskVerdict bytes side band setting) × (buffer ≡ deskSheet bytes side band setting buffer)
   unfolding deskVerdict deskSheet
-  refused buffer not-accepted = (
+  sheet-refused buffer not-accepted = (
     verdict-is ∙ failed (isAccepted (sheetVerdict bytes)) (given bytes side band setting .verdict) (sheetVerdict bytes) no',
     failed (isAccepted (sheetVerdict bytes) && isAccepted (given bytes side band setting .verdict)) (filled (given bytes side band setting .unit) buffer) buffer
         (ap (λ (t : Bool). t && isAccepted (given bytes side band setting .verdict)) no'),

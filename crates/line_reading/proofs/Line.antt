@@ -22,8 +22,8 @@ pub mark-at : (bytes : List ℕ) (at k place : ℕ) (wanted : ℕ) → place ≡
 mark-at bytes at k place wanted e = ap (λ (b : ℕ). markVerdict b wanted) (ap (λ (p : ℕ). getD bytes p 0) e ∙ sym (getD-drop at bytes k 0))
 
 -- a line end
-pub ended : (bytes : List ℕ) (at n place : ℕ) → place ≡ at + (fieldSize * n + 1) → {v : Verdict} → v ≡ markVerdict (getD bytes place 0) lineFeed → {l : List ℤ} {spot : ℕ} → ReadGives (endPart n (drop at bytes)) l spot v l
-ended bytes at n place e q = tested (q ∙ mark-at bytes at (fieldSize * n + 1) place lineFeed e)
+pub line-ended : (bytes : List ℕ) (at n place : ℕ) → place ≡ at + (fieldSize * n + 1) → {v : Verdict} → v ≡ markVerdict (getD bytes place 0) lineFeed → {l : List ℤ} {spot : ℕ} → ReadGives (endPart n (drop at bytes)) l spot v l
+line-ended bytes at n place e q = tested (q ∙ mark-at bytes at (fieldSize * n + 1) place lineFeed e)
 
 module _ (letter : ℕ) (ranges : List (ℤ → Bool)) (behind : Part) (bytes : List ℕ) (at : ℕ) (l : List ℤ) (place : ℕ) {u : Verdict} (front : u ≡ markVerdict (getD bytes at 0) letter) where
   abbrev fields : Part

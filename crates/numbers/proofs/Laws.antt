@@ -8,7 +8,7 @@ use lib.IntN.{ℤ, pos}
 use lib.ListN.{length, getD, take, drop, take-append-drop, length-drop}
 use lib.Seq.{take-add, drop-cons, take-all, drop-drop}
 use Rattle.unit.specs.Sizes.{channelSize}
-use Rattle.bands.specs.Bands.{bandCount, bandAt}
+use Rattle.bands.specs.Bands.{bandCount, bandAt, setSize}
 use Rattle.unit.specs.Lists.{tabulate}
 use Rattle.engine.specs.Numbers.{place, sectionAt, channelOf}
 use Rattle.numbers.specs.Layout.{unitSize, bandsPlace, leftPlace, rightPlace, joined, bandNumbers, sectionNumbers, channelNumbers, numbersOf, unitOf}
@@ -100,5 +100,5 @@ numbers-of-unit l h =
     ∙ channel-numbers (drop rightPlace l) (omega (arith, length-drop rightPlace l))
     ∙ take-all channelSize (drop rightPlace l) (omega (arith, length-drop rightPlace l)))
     ∙ piece l leftPlace channelSize rightPlace refl)
-    ∙ piece l bandsPlace 30 leftPlace refl)
+    ∙ piece l bandsPlace setSize leftPlace refl)
     ∙ piece l 0 2 bandsPlace refl

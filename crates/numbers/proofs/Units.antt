@@ -7,7 +7,7 @@ use lib.IntN.{ℤ, pos}
 use lib.ListN.{length, getD, drop, length-append}
 use lib.Seq.{drop-at, drop-drop}
 use Rattle.unit.specs.Sizes.{channelSize}
-use Rattle.bands.specs.Bands.{bandCount, bandAt}
+use Rattle.bands.specs.Bands.{bandCount, bandAt, setSize}
 use Rattle.bands.specs.declared.Band.{Band}
 use Rattle.unit.specs.declared.BandSection.{BandSection}
 use Rattle.unit.specs.declared.Channel.{Channel}
@@ -161,11 +161,11 @@ module _ (u : Unit) (s : Shaped u) where
       all-of (u .bands) zeroBand bandCount (bandAt (first ++ second)) (s .bands)
       (λ k h. band-of (u .bands) second k (omega (arith, s .bands)))
 
-  behind-bands : drop 30 (first ++ second) ≡ second
-  behind-bands = drop-at first second 30 (omega (arith, bands-length (u .bands), s .bands))
+  behind-bands : drop setSize (first ++ second) ≡ second
+  behind-bands = drop-at first second setSize (omega (arith, bands-length (u .bands), s .bands))
 
   behind-left : drop 73 (first ++ second) ≡ drop channelSize second
-  behind-left = sym (drop-drop channelSize 30 (first ++ second)) ∙ ap (drop channelSize) behind-bands
+  behind-left = sym (drop-drop channelSize setSize (first ++ second)) ∙ ap (drop channelSize) behind-bands
 
   pub unit-of-numbers : unitOf (numbersOf u) ≡ u
   unfolding numbersOf unitOf

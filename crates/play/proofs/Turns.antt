@@ -57,8 +57,8 @@ module _ (p : Progress) (input input' output : List ℕ) (r : Received) (can : T
             ∙ advances .sound-is;
       }
 
-  pub turned : (a : Advanced) (kept rest : List ℕ) (after : Progress) → a ≡ advanced 2 (p .unit) (take (r .count) input') (length output) → kept ≡ advancedInput 2 (p .unit) (take (r .count) input') (length output) → after .unit ≡ a .unit → after .held ≡ a .held → TurnGives p input after (kept ++ rest)
-  turned a kept rest after answer keeps unit-after held-after =
+  pub turn-gives : (a : Advanced) (kept rest : List ℕ) (after : Progress) → a ≡ advanced 2 (p .unit) (take (r .count) input') (length output) → kept ≡ advancedInput 2 (p .unit) (take (r .count) input') (length output) → after .unit ≡ a .unit → after .held ≡ a .held → TurnGives p input after (kept ++ rest)
+  turn-gives a kept rest after answer keeps unit-after held-after =
       record {
         bytes = read .bytes;
         unit-is = unit-is';

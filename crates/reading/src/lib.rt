@@ -6,7 +6,7 @@ ghost use lib.ListN.{length, drop, replicate};
 ghost use Rattle.unit.specs.Sizes.{channelSize};
 ghost use Rattle.bands.specs.Bands.{bandCount};
 ghost use Rattle.numbers.specs.Layout.{unitSize, bandsPlace};
-ghost use Rattle.sheet.specs.Lines.{sheetSize, lines, fieldCount, lineSize};
+ghost use Rattle.sheet.specs.Lines.{channelBytes, sheetSize, lines, fieldCount, lineSize};
 ghost use Rattle.reading.specs.Reading.{sheetRead};
 ghost use Rattle.line_reading.specs.Parts.{linePart, ReadGives};
 ghost use Rattle.reading.specs.Parts.{linesPart, channelPart, sheetPart};
@@ -121,7 +121,7 @@ fn read_channel(
     numbers: &mut [i32; numbers::UNIT_SIZE],
     place: usize,
 ) -> Verdict
-    requires { ⌜ (at + (lineSize Line.Left + lineSize Line.Section * bandCount) ≤ length (now bytes)) × (length (now numbers) ≡ unitSize) × (place + channelSize ≤ unitSize) ⌝ }
+    requires { ⌜ (at + channelBytes ≤ length (now bytes)) × (length (now numbers) ≡ unitSize) × (place + channelSize ≤ unitSize) ⌝ }
     ensures { λ r. ⌜ ReadGives (channelPart letter (drop at (now (bytes .entry)))) (now (numbers .entry)) place r (now (numbers .exit)) ⌝ }
 {
     let head = line_reading::read_head(bytes, at, letter, numbers, place);

@@ -75,3 +75,20 @@ fieldsOf = summed fieldCount
 
 abbrev pub sizeOf : List Line → ℕ
 sizeOf = summed lineSize
+
+-- ---- where the groups of lines begin
+
+-- the C lines, behind the V line
+abbrev pub bandsAt : ℕ
+bandsAt = lineSize Volume
+
+-- the bytes of a channel's lines: an L or an R line, ten S lines
+abbrev pub channelBytes : ℕ
+channelBytes = lineSize Left + lineSize Section * bandCount
+
+-- the L line, behind the C lines, and the R line, behind the left channel
+abbrev pub leftAt : ℕ
+leftAt = bandsAt + lineSize Band * bandCount
+
+abbrev pub rightAt : ℕ
+rightAt = leftAt + channelBytes

@@ -18,6 +18,9 @@ pub const CHANNEL_LINE: usize = fields::FIELD_SIZE * CHANNEL_FIELDS + 2;
 
 pub const SECTION_LINE: usize = fields::FIELD_SIZE * SECTION_FIELDS + 2;
 
+// The bytes of a channel's lines: an L or an R line, and ten S lines.
+pub const CHANNEL_BYTES: usize = CHANNEL_LINE + SECTION_LINE * bands::BAND_COUNT;
+
 // Where the line feed of a C line, and of an L or an R line, stands.
 pub const BAND_END: usize = BAND_LINE - 1;
 
@@ -28,9 +31,9 @@ pub const BANDS_AT: usize = VOLUME_LINE;
 
 pub const LEFT_AT: usize = BANDS_AT + BAND_LINE * bands::BAND_COUNT;
 
-pub const RIGHT_AT: usize = LEFT_AT + CHANNEL_LINE + SECTION_LINE * bands::BAND_COUNT;
+pub const RIGHT_AT: usize = LEFT_AT + CHANNEL_BYTES;
 
-pub const SHEET_SIZE: usize = RIGHT_AT + CHANNEL_LINE + SECTION_LINE * bands::BAND_COUNT;
+pub const SHEET_SIZE: usize = RIGHT_AT + CHANNEL_BYTES;
 
 // Room to read a sheet: a byte more, so that a longer one shows.
 pub const SHEET_ROOM: usize = SHEET_SIZE + 1;

@@ -13,8 +13,8 @@ use Rattle.numbers.specs.Layout.{joined}
 use Rattle.fields.specs.Fields.{fieldSize, field}
 use Rattle.fields.proofs.Stores.{sets-append}
 use Rattle.sheet.specs.declared.Line.{Line}
-use Rattle.sheet.specs.declared.Line.the-variants.{Section}
-use Rattle.sheet.specs.Lines.{letterOf, fieldsOf, sizeOf}
+use Rattle.sheet.specs.declared.Line.the-variants.{Section, Left}
+use Rattle.sheet.specs.Lines.{letterOf, fieldsOf, sizeOf, lineSize}
 use Rattle.writing.specs.Written.{lineText, written, groupText, channelText}
 use Rattle.writing.proofs.Laws.{fields-length, text-length, written-length, written-append}
 use Rattle.numbers.proofs.Put.{joined-snoc}
@@ -94,11 +94,11 @@ module _ (ns : List ℤ) (letter count at place : ℕ) where
 -- ---- the groups, one behind the other
 
 -- the lines of a channel
-pub channel-put : {first after : List ℕ} (out : List ℕ) (ns : List ℤ) (letter at place : ℕ) → place + 3 ≤ length ns → first ≡ sets out at (lineText letter (take 3 (drop place ns))) → after ≡ sets first (at + 29) (groupText (letterOf Section) 4 bandCount (drop (place + 3) ns)) → after ≡ sets out at (channelText letter (drop place ns))
+pub channel-put : {first after : List ℕ} (out : List ℕ) (ns : List ℤ) (letter at place : ℕ) → place + 3 ≤ length ns → first ≡ sets out at (lineText letter (take 3 (drop place ns))) → after ≡ sets first (at + lineSize Left) (groupText (letterOf Section) 4 bandCount (drop (place + 3) ns)) → after ≡ sets out at (channelText letter (drop place ns))
 channel-put out ns letter at place h e f =
     f
-    ∙ ap₂ (λ (l : List ℕ) (m : List ℤ). sets l (at + 29) (groupText (letterOf Section) 4 bandCount m)) e (sym (drop-drop 3 place ns))
-    ∙ sets-append (lineText letter (take 3 (drop place ns))) (groupText (letterOf Section) 4 bandCount (drop 3 (drop place ns))) out at (at + 29)
+    ∙ ap₂ (λ (l : List ℕ) (m : List ℤ). sets l (at + lineSize Left) (groupText (letterOf Section) 4 bandCount m)) e (sym (drop-drop 3 place ns))
+    ∙ sets-append (lineText letter (take 3 (drop place ns))) (groupText (letterOf Section) 4 bandCount (drop 3 (drop place ns))) out at (at + lineSize Left)
     (omega (arith, text-length letter (take 3 (drop place ns)), length-take-le 3 (drop place ns) (omega (arith, length-drop place ns))))
 
 -- lines right behind others

@@ -9,8 +9,7 @@ ghost use Rattle.unit.specs.Sizes.{channelSize};
 ghost use Rattle.bands.specs.Bands.{bandCount};
 ghost use Rattle.numbers.specs.Layout.{unitSize, joined, unitOf};
 ghost use Rattle.fields.specs.Fields.{fieldSize, field};
-ghost use Rattle.sheet.specs.declared.Line.the-variants.{Left, Section};
-ghost use Rattle.sheet.specs.Lines.{sheetSize, lines, lineSize};
+ghost use Rattle.sheet.specs.Lines.{channelBytes, sheetSize, lines};
 ghost use Rattle.writing.specs.Written.{lineText, written, groupText, channelText, filledCount, filledPart, filled};
 use unit::Unit;
 
@@ -101,7 +100,7 @@ fn put_channel(
     numbers: &[i32; numbers::UNIT_SIZE],
     place: usize,
 )
-    requires { ⌜ (at + (lineSize Left + lineSize Section * bandCount) ≤ length (now out)) × (length (now numbers) ≡ unitSize) × (place + channelSize ≤ unitSize) ⌝ }
+    requires { ⌜ (at + channelBytes ≤ length (now out)) × (length (now numbers) ≡ unitSize) × (place + channelSize ≤ unitSize) ⌝ }
     ensures { λ r. ⌜ now (out .exit) ≡ sets (now (out .entry)) at (channelText letter (drop place (now (numbers .entry)))) ⌝ }
 {
     put_line(out, at, letter, numbers, place, sheet::CHANNEL_FIELDS);

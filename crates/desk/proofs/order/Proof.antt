@@ -5,7 +5,7 @@ use denote.Ref.{now}
 use borrow.Author.Tests.{not-true, not-false}
 use Rattle.refusals.specs.Numbers.{isAccepted}
 use Rattle.desk.specs.Order.{deskVerdict}
-use Rattle.desk.proofs.Orders.{refused, answered, written, unchanged}
+use Rattle.desk.proofs.Orders.{sheet-refused, answered, written, unchanged}
 use borrow.Author.Needs.{needs}
 use Rattle.desk.proofs.order.Statement.{statement}
 use Rattle.desk.proofs.order.Tie as tie
@@ -20,7 +20,7 @@ use Rattle.writing.proofs.fill.Reads as fill-reads
 
 returns : tie.Need-returns
 returns c =
-    refused (now (s .args .bytes)) (s .args .side) (s .args .band) (s .args .setting) _ (r .read .result) (r .read .ensures) (now (s .args .sheet))
+    sheet-refused (now (s .args .bytes)) (s .args .side) (s .args .band) (s .args .setting) _ (r .read .result) (r .read .ensures) (now (s .args .sheet))
     (sym (c .before .accepted .ensures) ∙ not-true (c .before .accepted .result) (c .if1 .taken))
   where
     r : lts.After-read (house-set-reads.Asked, house-set-reads.Learnt, load-reads.Asked, load-reads.Learnt, read-reads.Asked, read-reads.Learnt, accepted-reads.Asked, accepted-reads.Learnt, order-reads.Asked, order-reads.Learnt, fill-reads.Asked, fill-reads.Learnt) reads.Pre reads.Post

@@ -13,11 +13,11 @@ use Rattle.bands.specs.Bands.{bandVerdict, bandAt}
 use Rattle.refusals.specs.Numbers.{isAccepted}
 use Rattle.refusals.specs.declared.Verdict.{Verdict}
 use Rattle.sheet.specs.declared.Line.the-variants.{Band}
-use Rattle.sheet.specs.Lines.{rangesOf, together}
+use Rattle.sheet.specs.Lines.{rangesOf, together, letterOf}
 use Rattle.line_reading.specs.Line.{lineNumbers}
 use Rattle.line_reading.specs.Parts.{Part, test, andThen, fieldsPart, endPart, linePart, ReadGives}
 use Rattle.line_reading.proofs.Parts.{restored, stored-length, Leads, off, past, tested}
-use Rattle.line_reading.proofs.Line.{letter-refused, fields-refused, fields-passed, fields-there, ended}
+use Rattle.line_reading.proofs.Line.{letter-refused, fields-refused, fields-passed, fields-there, line-ended}
 use Rattle.line_reading.proofs.Field.{any-fields}
 use Rattle.line_reading.proofs.read_band.Statement.{statement}
 use Rattle.line_reading.proofs.read_band.Tie as tie
@@ -41,7 +41,7 @@ module _ (c : lts.Start (check-mark-reads.Asked, check-mark-reads.Learnt, accept
 returns : tie.Need-returns
 returns c =
     let s = c .before .before .before .before .before in
-    letter-refused 67 (rangesOf Band) (andThen (test (joint s)) (end s)) (bytes s) (s .args .at) (now (s .args .numbers)) (s .args .place) (c .before .before .check-mark .ensures)
+    letter-refused (letterOf Band) (rangesOf Band) (andThen (test (joint s)) (end s)) (bytes s) (s .args .at) (now (s .args .numbers)) (s .args .place) (c .before .before .check-mark .ensures)
     (sym (c .before .accepted .ensures) ∙ not-true _ (c .if1 .taken))
 
 -- ---- the fields read
@@ -66,19 +66,19 @@ module _ (c : lts.After-read-fields (check-mark-reads.Asked, check-mark-reads.Le
     band-is : bandVerdict (bandAt (take 3 (drop (start .args .place) after)) 0) ≡ joint start
     band-is =
         ap (λ (l : List ℤ). bandVerdict (bandAt l 0))
-        (fields-there 67 (rangesOf Band) (andThen (test (joint start)) (end start)) (bytes start) (start .args .at) (now (start .args .numbers)) (start .args .place) (c .before .before .before .before .check-mark .ensures)
+        (fields-there (letterOf Band) (rangesOf Band) (andThen (test (joint start)) (end start)) (bytes start) (start .args .at) (now (start .args .numbers)) (start .args .place) (c .before .before .before .before .check-mark .ensures)
         passed fields-stored e (omega (arith, start .pre .1, start .pre .2)))
 
     leads : Leads (andThen (test (joint start)) (end start)) after (start .args .place + 3) (linePart Band (drop (start .args .at) (bytes start))) (now (start .args .numbers)) (start .args .place)
     leads =
-        fields-passed 67 (rangesOf Band) (andThen (test (joint start)) (end start)) (bytes start) (start .args .at) (now (start .args .numbers)) (start .args .place) (c .before .before .before .before .check-mark .ensures)
+        fields-passed (letterOf Band) (rangesOf Band) (andThen (test (joint start)) (end start)) (bytes start) (start .args .at) (now (start .args .numbers)) (start .args .place) (c .before .before .before .before .check-mark .ensures)
         passed fields-stored e
 
 returns-2 : tie.Need-returns-2
 returns-2 c =
     let o = c .before .before in
     let s = start o in
-    fields-refused 67 (rangesOf Band) (andThen (test (joint s)) (end s)) (bytes s) (s .args .at) (now (s .args .numbers)) (s .args .place) (o .before .before .before .before .check-mark .ensures)
+    fields-refused (letterOf Band) (rangesOf Band) (andThen (test (joint s)) (end s)) (bytes s) (s .args .at) (now (s .args .numbers)) (s .args .place) (o .before .before .before .before .check-mark .ensures)
     (passed o) (fields-stored o) (sym (c .before .accepted2 .ensures) ∙ not-true _ (c .if2 .taken))
 
 check-band-at-requires : tie.Need-check-band-at-requires
@@ -99,7 +99,7 @@ returns-4 c =
     let s = start o in
     let e = sym (t .before .before .before .before .before .accepted2 .ensures) ∙ not-false _ (t .before .before .before .before .if2 .left) in
     past (joint s) (end s) (leads o e) (t .before .before .check-band-at .ensures ∙ band-is o e) (sym (t .before .accepted3 .ensures) ∙ not-false _ (t .if3 .left)) _ _
-    (ended (bytes s) (s .args .at) 3 (s .args .at + 28) (omega arith) (c .check-mark2 .ensures))
+    (line-ended (bytes s) (s .args .at) 3 (s .args .at + 28) (omega arith) (c .check-mark2 .ensures))
 
 pub read-band-spec : {M : Type 1} → statement M
 read-band-spec =

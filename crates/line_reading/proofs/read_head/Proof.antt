@@ -11,7 +11,7 @@ use borrow.Author.Tests.{not-true, not-false}
 use Rattle.refusals.specs.Numbers.{isAccepted}
 use Rattle.sheet.specs.Lines.{channelRanges}
 use Rattle.line_reading.specs.Parts.{Part, endPart}
-use Rattle.line_reading.proofs.Line.{letter-refused, fields-refused, fields-passed, ended}
+use Rattle.line_reading.proofs.Line.{letter-refused, fields-refused, fields-passed, line-ended}
 use Rattle.line_reading.proofs.read_head.Statement.{statement}
 use Rattle.line_reading.proofs.read_head.Tie as tie
 use Rattle.line_reading.proofs.read_head.Reads as reads
@@ -57,7 +57,7 @@ returns-3 c =
     let s = start o in
     fields-passed (s .args .letter) channelRanges (end s) (bytes s) (s .args .at) (now (s .args .numbers)) (s .args .place) (o .before .before .before .before .check-mark .ensures)
     (passed o) (o .read-state .ensures) (sym (t .before .accepted2 .ensures) ∙ not-false _ (t .if2 .left)) _ _
-    (ended (bytes s) (s .args .at) 3 (s .args .at + 28) (omega arith) (c .check-mark2 .ensures))
+    (line-ended (bytes s) (s .args .at) 3 (s .args .at + 28) (omega arith) (c .check-mark2 .ensures))
 
 pub read-head-spec : {M : Type 1} → statement M
 read-head-spec =

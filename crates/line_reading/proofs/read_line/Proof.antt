@@ -17,7 +17,7 @@ use Rattle.refusals.specs.Numbers.{isAccepted}
 use Rattle.refusals.specs.declared.Verdict.{Verdict}
 use Rattle.line_reading.specs.Parts.{Part, endPart, plainPart, ReadGives}
 use Rattle.line_reading.proofs.Parts.{restored}
-use Rattle.line_reading.proofs.Line.{letter-refused, fields-refused, fields-passed, ended}
+use Rattle.line_reading.proofs.Line.{letter-refused, fields-refused, fields-passed, line-ended}
 use Rattle.line_reading.proofs.read_line.Statement.{statement}
 use Rattle.line_reading.proofs.read_line.Tie as tie
 use Rattle.line_reading.proofs.read_line.Reads as reads
@@ -76,7 +76,7 @@ returns-3 c =
     in-words s
     (fields-passed (s .args .letter) (ranges s) (end s) (bytes s) (s .args .at) (now (s .args .numbers)) (s .args .place) (o .before .before .before .before .check-mark .ensures)
     (passed o) (o .read-fields .ensures) (sym (t .before .accepted2 .ensures) ∙ not-false _ (t .if2 .left)) _ _
-    (ended (bytes s) (s .args .at) (length (ranges s)) (s .args .at + 9 * s .args .count + 1) (omega (arith, length-replicate (s .args .count) (within (toZ w64 (ofZ w64 (s .args .low))) (toZ w64 (ofZ w64 (s .args .high)))))) (c .check-mark2 .ensures)))
+    (line-ended (bytes s) (s .args .at) (length (ranges s)) (s .args .at + 9 * s .args .count + 1) (omega (arith, length-replicate (s .args .count) (within (toZ w64 (ofZ w64 (s .args .low))) (toZ w64 (ofZ w64 (s .args .high)))))) (c .check-mark2 .ensures)))
 
 pub read-line-spec : {M : Type 1} → statement M
 read-line-spec =

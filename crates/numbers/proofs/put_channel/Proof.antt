@@ -2,13 +2,15 @@
 use mathlib.Core.Path.{_≡_, subst}
 use mathlib.Core.Bool.{true}
 use mathlib.Core.List.{List, [], _∷_}
-use Prim.Native.Nat.{ℕ, _+_, _≤_}
+use Prim.Native.Nat.{ℕ, _+_, _≤_, _*_}
 use native.Mathlib.Omega.{arith}
 use lib.IntN.{ℤ, pos, natAbs}
 use lib.ListN.{set}
 use denote.Ref.{now}
 use mir.Syntax.{w32, w64}
 use mir.Val.{toZ, ofZ}
+use Rattle.bands.specs.Bands.{bandCount}
+use Rattle.unit.specs.Sizes.{headSize, sectionSize, channelSize}
 use Rattle.integers.proofs.Parts.{linear}
 use Rattle.integers.proofs.Abs.{abs-le}
 use Rattle.rounding.proofs.Limit.{within-bounds}
@@ -84,7 +86,7 @@ returns c =
     s : lts.Start (put-sections-reads.Asked, put-sections-reads.Learnt) reads.Pre reads.Post
     s = start (c .before .before)
 
-    all : s .args .start + 3 + 40 ≡ s .args .start + 43
+    all : s .args .start + headSize + sectionSize * bandCount ≡ s .args .start + channelSize
     all = omega arith
 
 pub put-channel-spec : {M : Type 1} → statement M

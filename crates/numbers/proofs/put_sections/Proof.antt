@@ -5,6 +5,7 @@ use lib.ListN.{take}
 use denote.Ref.{now}
 use mathlib.Core.Path.{_≡_, subst}
 use mathlib.Core.List.{[]}
+use Rattle.unit.specs.Sizes.{sectionSize}
 use Rattle.bands.specs.Bands.{bandCount}
 use Rattle.unit.specs.Fit.{SectionFit}
 use borrow.Author.Needs.{needs}
@@ -43,7 +44,7 @@ loop-again c = (
 returns : tie.Need-returns Inv-loop μ-loop
 returns c =
     put-entries sectionNumbers (c .before .before .args .t3) clearedBandSection (c .before .loop .b) (omega arith) (c .before .loop .inv .1)
-    (c .before .before .args .start + 40) (omega arith)
+    (c .before .before .args .start + sectionSize * bandCount) (omega arith)
 
 pub put-sections-spec : {M : Type 1} → statement M
 put-sections-spec =

@@ -10,8 +10,8 @@ use borrow.Author.Needs.{needs}
 use borrow.Author.Tests.{not-true, not-false}
 use Rattle.bands.specs.Bands.{bandCount}
 use Rattle.refusals.specs.Numbers.{isAccepted}
-use Rattle.sheet.specs.declared.Line.the-variants.{Section}
-use Rattle.sheet.specs.Lines.{channelRanges}
+use Rattle.sheet.specs.declared.Line.the-variants.{Section, Left}
+use Rattle.sheet.specs.Lines.{channelRanges, lineSize}
 use Rattle.line_reading.specs.Parts.{Part, plainPart}
 use Rattle.reading.specs.Parts.{linesPart}
 use Rattle.line_reading.proofs.Parts.{restored, stored-length, on, off}
@@ -32,7 +32,7 @@ module _ (c : lts.Start (read-head-reads.Asked, read-head-reads.Learnt, accepted
   head = plainPart (c .args .letter) channelRanges bytes
 
   abbrev sections : Part
-  sections = linesPart (replicate bandCount Section) (drop 29 bytes)
+  sections = linesPart (replicate bandCount Section) (drop (lineSize Left) bytes)
 
 returns : tie.Need-returns
 returns c =
@@ -52,7 +52,7 @@ returns-2 c =
     let e = sym (t .before .accepted .ensures) ∙ not-false _ (t .if1 .left) in
     on (head s) (sections s) (λ v m t. t) (o .read-head .ensures) e 3
     (ap length (plain-numbers (s .args .letter) channelRanges (bytes s) (ap isAccepted (sym (o .read-head .ensures .verdict-is)) ∙ e)) ∙ field-numbers-length 3 (drop 1 (bytes s))) _ _
-    (restored (ap (linesPart (replicate bandCount Section)) (sym (drop-drop 29 (s .args .at) (now (s .args .bytes))))) refl (c .read-sections .ensures))
+    (restored (ap (linesPart (replicate bandCount Section)) (sym (drop-drop (lineSize Left) (s .args .at) (now (s .args .bytes))))) refl (c .read-sections .ensures))
 
 pub read-channel-spec : {M : Type 1} → statement M
 read-channel-spec =

@@ -9,11 +9,13 @@ use lib.ListN.{drop, replicate}
 use denote.Ref.{now}
 use borrow.Author.Needs.{needs}
 use borrow.Author.Tests.{not-true, not-false}
-use Rattle.bands.specs.Bands.{bandCount}
+use Rattle.numbers.specs.Layout.{leftPlace}
+use Rattle.unit.specs.Sizes.{channelSize}
+use Rattle.bands.specs.Bands.{bandCount, setSize}
 use Rattle.refusals.specs.Numbers.{isAccepted}
 use Rattle.unit.specs.Fit.{isVolume}
-use Rattle.sheet.specs.declared.Line.the-variants.{Volume, Band}
-use Rattle.sheet.specs.Lines.{lines}
+use Rattle.sheet.specs.declared.Line.the-variants.{Volume, Band, Left, Right}
+use Rattle.sheet.specs.Lines.{lines, letterOf, bandsAt, leftAt, rightAt}
 use Rattle.line_reading.specs.Parts.{Part, andThen, linePart, ReadGives}
 use Rattle.reading.specs.Parts.{linesPart, channelPart}
 use Rattle.line_reading.proofs.Parts.{restored, stored-length, Leads, on, off}
@@ -37,13 +39,13 @@ module _ (c : lts.Start (read-line-reads.Asked, read-line-reads.Learnt, accepted
 
   -- the groups of lines behind the V line
   abbrev bands : Part
-  bands = linesPart (replicate bandCount Band) (drop 20 bytes)
+  bands = linesPart (replicate bandCount Band) (drop bandsAt bytes)
 
   abbrev left : Part
-  left = channelPart 76 (drop 310 bytes)
+  left = channelPart (letterOf Left) (drop leftAt bytes)
 
   abbrev right : Part
-  right = channelPart 82 (drop 719 bytes)
+  right = channelPart (letterOf Right) (drop rightAt bytes)
 
   abbrev whole : Part
   whole = linesPart lines bytes
@@ -105,10 +107,10 @@ module _ (c : lts.Else2 (read-line-reads.Asked, read-line-reads.Learnt, accepted
   passed-bands : isAccepted (c .before .before .read-bands .result) ≡ true
   passed-bands = sym (c .before .accepted2 .ensures) ∙ not-false _ (c .if2 .left)
 
-  leads-left : Leads (andThen (left begun) (right begun)) (c .before .before .read-bands .last .1 .0) 32 (whole begun) (numbers begun) 0
+  leads-left : Leads (andThen (left begun) (right begun)) (c .before .before .read-bands .last .1 .0) leftPlace (whole begun) (numbers begun) 0
   leads-left =
-      on (bands begun) (andThen (left begun) (right begun)) (leads-bands (first front) (passed front)) (c .before .before .read-bands .ensures) passed-bands 30
-      (bands-long (drop 20 (bytes begun)) (ap isAccepted (sym (c .before .before .read-bands .ensures .verdict-is)) ∙ passed-bands))
+      on (bands begun) (andThen (left begun) (right begun)) (leads-bands (first front) (passed front)) (c .before .before .read-bands .ensures) passed-bands setSize
+      (bands-long (drop bandsAt (bytes begun)) (ap isAccepted (sym (c .before .before .read-bands .ensures .verdict-is)) ∙ passed-bands))
 
 read-channel-requires : tie.Need-read-channel-requires
 read-channel-requires c κs =
@@ -137,8 +139,8 @@ returns-4 c =
     let o = u .before .before in
     let t = o .before .before in
     let e = sym (u .before .accepted3 .ensures) ∙ not-false _ (u .if3 .left) in
-    on (left (begun t)) (right (begun t)) (leads-left t) (o .read-channel .ensures) e 43
-    (channel-long 76 (drop 310 (bytes (begun t))) (ap isAccepted (sym (o .read-channel .ensures .verdict-is)) ∙ e)) _ _ (c .read-channel2 .ensures)
+    on (left (begun t)) (right (begun t)) (leads-left t) (o .read-channel .ensures) e channelSize
+    (channel-long (letterOf Left) (drop leftAt (bytes (begun t))) (ap isAccepted (sym (o .read-channel .ensures .verdict-is)) ∙ e)) _ _ (c .read-channel2 .ensures)
 
 pub read-lines-spec : {M : Type 1} → statement M
 read-lines-spec =

@@ -8,7 +8,7 @@ use denote.Ref.{now}
 use borrow.Author.Needs.{needs}
 use Rattle.stream.specs.declared.Advanced.{Advanced}
 use Rattle.stream.specs.Advance.{advanced}
-use Rattle.play.proofs.Turns.{sounded, turned}
+use Rattle.play.proofs.Turns.{sounded, turn-gives}
 use Rattle.play.proofs.playing.turn.Statement.{statement}
 use Rattle.play.proofs.playing.turn.Tie as tie
 use Rattle.play.proofs.playing.turn.Reads as reads
@@ -59,7 +59,7 @@ send-requires c κs =
 
 returns : tie.Need-returns
 returns c =
-    turned (s .args .stream) (now (s .args .input)) (g .receive .last .1 .1 .0) (now (s .args .output)) (g .receive .result) (s .pre) (g .receive .ensures)
+    turn-gives (s .args .stream) (now (s .args .input)) (g .receive .last .1 .1 .0) (now (s .args .output)) (g .receive .result) (s .pre) (g .receive .ensures)
     (a .advance .result) (a .advance .last .1 .0) _ _ (a .advance .ensures .0) (a .advance .ensures .2) refl refl
   where
     s : lts.Start (receive-reads.Asked, receive-reads.Learnt, advance-reads.Asked, advance-reads.Learnt, send-reads.Asked, send-reads.Learnt) reads.Pre reads.Post
