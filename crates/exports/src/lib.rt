@@ -134,7 +134,8 @@ pub extern "C" fn fonddrys_order_position(
     lending::order(numbers, side, band, Setting::Position(position))
 }
 
-// The same, to a factor from -1 (from 0 for the volume) to below 1.
+// Orders a band of a side, or the volume (band 10 of side 2), to a factor from -1 (from 0 for the volume) to below 1. Answer and lent numbers are
+// as for a position.
 #[no_mangle]
 pub extern "C" fn fonddrys_order_factor(
     numbers: &mut [i32; numbers::UNIT_SIZE],
@@ -147,7 +148,7 @@ pub extern "C" fn fonddrys_order_factor(
     lending::order(numbers, side, band, Setting::Factor(factor))
 }
 
-// The same, to mute: the target 0.
+// Mutes a band of a side, or the volume (band 10 of side 2): the target 0. Answer and lent numbers are as for a position.
 #[no_mangle]
 pub extern "C" fn fonddrys_order_mute(
     numbers: &mut [i32; numbers::UNIT_SIZE],

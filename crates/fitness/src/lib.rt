@@ -2,10 +2,9 @@
 ghost use mathlib.Core.Path.{_≡_};
 ghost use Rattle.bands.specs.Words.{isWord};
 ghost use Rattle.unit.specs.Lists.{every};
-ghost use Rattle.unit.specs.Fit.{isInput, volumeFits, sectionFits, channelFits, bandsVerdict, unitFits};
+ghost use Rattle.unit.specs.Fit.{isInput, volumeFits, bandFits, sectionFits, channelFits, unitFits};
 use bands::Band;
 use levels::Level;
-use refusals::Verdict;
 use unit::BandSection;
 use unit::Channel;
 use unit::Unit;
@@ -19,7 +18,7 @@ pub fn is_fit(unit: Unit) -> bool
         return false;
     }
     let bands = unit.bands;
-    if !refusals::accepted(check_bands(bands)) {
+    if !bands_fit(bands) {
         return false;
     }
     let channels = unit.channels;
@@ -36,20 +35,20 @@ fn volume_fits(level: Level) -> bool
     rounding::in_range(0, bands::WORD_HIGH, level.target)
 }
 
-// Accepted, or the first refusal, band by band.
-pub fn check_bands(bands: [Band; bands::BAND_COUNT]) -> Verdict
-    ensures { λ r. ⌜ r ≡ bandsVerdict bands ⌝ }
+// Whether every band is accepted.
+fn bands_fit(bands: [Band; bands::BAND_COUNT]) -> bool
+    ensures { λ r. ⌜ r ≡ every bandFits bands ⌝ }
 {
     let mut i = 0;
     while i < bands::BAND_COUNT {
         let band = bands[i];
         let verdict = bands::check_band(band);
         if !refusals::accepted(verdict) {
-            return verdict;
+            return false;
         }
         i += 1;
     }
-    Verdict::Accepted
+    true
 }
 
 // Whether both channels are fit.

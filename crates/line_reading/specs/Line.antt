@@ -41,7 +41,7 @@ lineNumbers line bytes = fieldNumbers (fieldCount line) (drop 1 bytes)
 abbrev pub markVerdict : ℕ → ℕ → Verdict
 markVerdict byte wanted = unless (eqb byte wanted) LineMark Accepted
 
--- its letter, its fields, its numbers together, its line end
+-- a line: letter, fields, numbers together, line end
 unfoldable pub lineVerdict : Line → List ℕ → Verdict
 lineVerdict line bytes =
     firstOf (markVerdict (getD bytes 0 0) (letterOf line))

@@ -62,7 +62,7 @@ fn channel_of(numbers: &[i32; UNIT_SIZE], start: usize) -> Channel
     }
 }
 
-// Its ten sections.
+// The ten sections of the channel whose numbers begin at start.
 fn sections_of(numbers: &[i32; UNIT_SIZE], start: usize) -> [BandSection; bands::BAND_COUNT]
     requires { ⌜ start ≤ rightPlace ⌝ }
     ensures { λ r. ⌜ r ≡ channelOf (drop start (now (numbers .entry))) .sections ⌝ }
@@ -86,7 +86,7 @@ fn sections_of(numbers: &[i32; UNIT_SIZE], start: usize) -> [BandSection; bands:
     sections
 }
 
-// Its section b.
+// Section b of the channel whose numbers begin at start.
 fn section_at(numbers: &[i32; UNIT_SIZE], start: usize, b: usize) -> BandSection
     requires { ⌜ (start ≤ rightPlace) × (b < bandCount) ⌝ }
     ensures { λ r. ⌜ r ≡ sectionAt (drop start (now (numbers .entry))) b ⌝ }

@@ -30,7 +30,7 @@ isPlace side band = (leb side bothSides && ltb band bandCount) || (eqb side both
 unfoldable pub names : ℕ → ℕ → Bool
 names side channel = eqb side bothSides || eqb side channel
 
--- ---- its level
+-- ---- the level that an order asks for
 
 -- "Position p (0 to 31)", and the one that a band's target is reckoned from
 abbrev pub lastPosition : ℕ

@@ -65,7 +65,7 @@ fieldCount line = length (rangesOf line)
 abbrev pub lineSize : Line → ℕ
 lineSize line = fieldSize * fieldCount line + 2
 
--- the same of some lines
+-- the sum over some lines, of their fields and of their bytes
 abbrev pub summed : (Line → ℕ) → List Line → ℕ
 summed f [] = 0
 summed f (line ∷ rest) = f line + summed f rest

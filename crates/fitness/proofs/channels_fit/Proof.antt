@@ -15,6 +15,15 @@ Inv-loop channels i₀ i = EveryFrom channelFits channels i
 abbrev μ-loop : tie.MeasureT-loop
 μ-loop channels i₀ i = channelCount - i
 
+returns : tie.Need-returns Inv-loop μ-loop
+returns c = every-fails (c .before .before .before .before .loop .inv) zeroChannel (omega arith) (c .before .channel-fits .ensures) (c .if1 .taken)
+
+loop-again : tie.Need-loop-again Inv-loop μ-loop
+loop-again c = every-passes (c .before .before .before .before .loop .inv) zeroChannel (omega arith) (c .before .channel-fits .ensures) (c .if1 .left)
+
+returns-2 : tie.Need-returns-2 Inv-loop μ-loop
+returns-2 c = every-done (c .before .loop .inv) (omega arith)
+
 pub channels-fit-spec : {M : Type 1} → statement M
 channels-fit-spec =
     tie.close
@@ -25,8 +34,8 @@ channels-fit-spec =
     (λ c. search needs)
     (λ c. search needs)
     (λ c κs. search needs)
-    (λ c. every-fails (c .before .before .before .before .loop .inv) zeroChannel (omega arith) (c .before .channel-fits .ensures) (c .if1 .taken))
+    returns
     (λ c. search needs)
     (λ c. search needs)
-    (λ c. every-passes (c .before .before .before .before .loop .inv) zeroChannel (omega arith) (c .before .channel-fits .ensures) (c .if1 .left))
-    (λ c. every-done (c .before .loop .inv) (omega arith)))
+    loop-again
+    returns-2)

@@ -6,5 +6,8 @@ use borrow.Author.Needs.{needs}
 use Rattle.refusals.proofs.accepted.Statement.{statement}
 use Rattle.refusals.proofs.accepted.Tie as tie
 
+returns : tie.Need-returns
+returns c = ap (λ (n : ℕ). eqb n 0) (c .number .ensures)
+
 pub accepted-spec : {M : Type 1} → statement M
-accepted-spec = tie.close (tie.spec (λ c κs. search needs) (λ c. ap (λ (n : ℕ). eqb n 0) (c .number .ensures)))
+accepted-spec = tie.close (tie.spec (λ c κs. search needs) returns)

@@ -14,6 +14,9 @@ Inv-loop set bands₀ b₀ bands b = Tabulated (bandAt set) bandCount bands b
 abbrev μ-loop : tie.MeasureT-loop
 μ-loop set bands₀ b₀ bands b = bandCount - b
 
+returns : tie.Need-returns Inv-loop μ-loop
+returns c = tabulated-done (c .before .loop .inv) (omega arith)
+
 pub bands-of-spec : {M : Type 1} → statement M
 bands-of-spec =
     tie.close
@@ -27,4 +30,4 @@ bands-of-spec =
     (λ c. search needs)
     (λ c. search needs)
     (λ c. tabulated-next (c .before .before .loop .inv) (omega arith) (c .band-at .ensures))
-    (λ c. tabulated-done (c .before .loop .inv) (omega arith)))
+    returns)
