@@ -15,8 +15,8 @@ use Rattle.unit.specs.Frame.{unitFrame, heard}
 use Rattle.unit.specs.Fit.{Fit}
 use Rattle.frames.specs.Bytes.{sampleAt, wordsAt, frameSize, frameCount, bytesOf}
 use Rattle.frames.specs.Played.{played, sound}
-use Rattle.blocks.specs.Block.{blockVerdict, blockPlayed, blockOutput}
 use Rattle.frames.proofs.Many.{played-fit}
+use Rattle.blocks.specs.Block.{blockVerdict, blockPlayed, blockOutput}
 use Rattle.blocks.proofs.Block.{BlockAccepts, accepts-block, four-a-frame}
 
 -- ---- the input words of a ++ b

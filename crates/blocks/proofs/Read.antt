@@ -20,8 +20,8 @@ use Rattle.unit.specs.Lists.{Each}
 use Rattle.unit.specs.Frame.{channelFrame, channelsFrame, unitFrame, mix, sampleLow, sampleHigh, output, heard}
 use Rattle.frames.specs.Bytes.{sampleOf, sampleAt, wordAt, wordsAt, frameSize, frameCount, bitsOf, lowByte, highByte, bytesOf}
 use Rattle.frames.specs.Played.{played, sound}
-use Rattle.blocks.specs.Block.{blockOutput}
 use Rattle.frames.proofs.Many.{words-length, played-channels, sound-length}
+use Rattle.blocks.specs.Block.{blockOutput}
 use Rattle.blocks.proofs.Block.{BlockAccepts}
 use Rattle.blocks.proofs.Append.{sample-front, sample-behind, accepted-output}
 

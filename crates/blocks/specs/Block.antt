@@ -9,9 +9,9 @@ use Rattle.refusals.specs.declared.Verdict.{Verdict}
 use Rattle.refusals.specs.declared.Verdict.the-variants.{Accepted, InputLength, OutputShort, Unfit}
 use Rattle.unit.specs.declared.Unit.{Unit}
 use Rattle.unit.specs.Fit.{unitFits}
-use Rattle.blocks.specs.declared.Played.{Played}
 use Rattle.frames.specs.Bytes.{frameSize, frameCount}
 use Rattle.frames.specs.Played.{played, sound}
+use Rattle.blocks.specs.declared.Played.{Played}
 
 -- "5 input bytes no multiple of four; 6 output shorter than input": what a block is refused for, whatever the unit
 abbrev pub blockArguments : ℕ → ℕ → ℕ → Verdict

@@ -3,8 +3,8 @@
 ghost use mathlib.Core.Path.{_≡_};
 ghost use mathlib.Core.Bool.{true};
 ghost use lib.ListN.{length};
-ghost use Rattle.unit.specs.Sizes.{channelCount};
 ghost use Rattle.refusals.specs.Numbers.{isAccepted};
+ghost use Rattle.unit.specs.Sizes.{channelCount};
 ghost use Rattle.blocks.specs.Block.{blockVerdict, blockPlayed, blockOutput};
 ghost use Rattle.blocks.specs.Run.{unitOfParts, RunGives};
 use bands::Band;

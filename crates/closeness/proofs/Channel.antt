@@ -11,10 +11,10 @@ use lib.ListN.{length}
 use Rattle.integers.proofs.Abs.{abs-sum}
 use Rattle.integers.proofs.Normal.{at, con, _:+_, _:-_, _:*_, solve}
 use Rattle.bands.specs.declared.Band.{Band}
-use Rattle.levels.specs.declared.Level.{Level}
-use Rattle.levels.specs.Levels.{gainSlope, volumeSlope, moved}
 use Rattle.section.specs.Equation.{exactSum, flag}
 use Rattle.section.proofs.Laws.{worked-near}
+use Rattle.levels.specs.declared.Level.{Level}
+use Rattle.levels.specs.Levels.{gainSlope, volumeSlope, moved}
 use Rattle.unit.specs.declared.BandSection.{BandSection}
 use Rattle.unit.specs.declared.Channel.{Channel}
 use Rattle.unit.specs.Frame.{sectionWork, sectionFrame, sectionsFrame, anyLimits, raised, channelFrame, share, sumOf, exactMix, mix, output}

@@ -9,8 +9,8 @@ use lib.IntN.{ℤ, pos}
 use lib.ListN.{length}
 use Rattle.refusals.specs.Numbers.{isAccepted}
 use Rattle.bands.specs.declared.Band.{Band}
-use Rattle.levels.specs.declared.Level.{Level}
 use Rattle.section.specs.Equation.{flag}
+use Rattle.levels.specs.declared.Level.{Level}
 use Rattle.levels.specs.Levels.{volumeSlope, moved, aimed}
 use Rattle.unit.specs.declared.BandSection.{BandSection}
 use Rattle.unit.specs.declared.Channel.{Channel}
@@ -28,8 +28,8 @@ use Rattle.orders.specs.Orders.{aimedSection, aimedChannel, aimedVolume, aimedB
 use Rattle.orders.proofs.Laws.{aimed-fit, order-accepts}
 use Rattle.frames.specs.Bytes.{sampleAt, wordAt, frameCount}
 use Rattle.frames.specs.Played.{played}
-use Rattle.blocks.specs.Block.{blockArguments, blockVerdict, blockPlayed, blockOutput}
 use Rattle.frames.proofs.Many.{played-fit, played-channels}
+use Rattle.blocks.specs.Block.{blockArguments, blockVerdict, blockPlayed, blockOutput}
 use Rattle.blocks.proofs.Block.{BlockAccepts, block-accepted}
 use Rattle.blocks.proofs.Read.{played-channel, output-sample}
 use Rattle.closeness.specs.Claim.{Call, order, block, placeOf, unitAfter, samplesOf, samples, channelIn, limitsOn, limitsOf, limits, handedBack, Results, Exact, exactFrame, exactAimed, exactPlayed, exactAfter, exactsOf, exacts, Close}

@@ -15,14 +15,14 @@ use Prim.Native.Nat.{ℕ, zero, suc, _+_, _*_, _^_, _≤_, _<_}
 use lib.Dec.{eqb}
 use lib.IntN.{ℤ, pos, natAbs, _+ℤ_, _-ℤ_, _*ℤ_}
 use lib.ListN.{length, getD, take, replicate}
-use Rattle.unit.specs.Sizes.{channelCount}
-use Rattle.bands.specs.Bands.{bandCount}
 use Rattle.rounding.specs.Rounding.{limit}
 use Rattle.refusals.specs.Numbers.{isAccepted}
+use Rattle.bands.specs.Bands.{bandCount}
 use Rattle.bands.specs.declared.Band.{Band}
+use Rattle.section.specs.Equation.{exactSum, sumShift, flag}
 use Rattle.levels.specs.declared.Level.{Level}
 use Rattle.levels.specs.Levels.{gainSlope, volumeSlope, moved, aimed}
-use Rattle.section.specs.Equation.{exactSum, sumShift, flag}
+use Rattle.unit.specs.Sizes.{channelCount}
 use Rattle.unit.specs.declared.Channel.{Channel}
 use Rattle.unit.specs.declared.Unit.{Unit}
 use Rattle.unit.specs.Lists.{tabulate, changed, anyOf}

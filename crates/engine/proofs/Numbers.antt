@@ -8,9 +8,9 @@ use borrow.Author.Count.{below-more}
 use lib.IntN.{ℤ, pos, _+ℤ_}
 use lib.ListN.{length, getD, set, length-set}
 use lib.Seq.{getD-set-same, getD-set-other}
-use Rattle.unit.specs.Sizes.{channelSize}
 use Rattle.integers.proofs.Parts.{terms-eq, var, _⊕_}
 use Rattle.bands.specs.Bands.{bandCount, bandAt}
+use Rattle.unit.specs.Sizes.{channelSize}
 use Rattle.unit.specs.declared.BandSection.{BandSection}
 use Rattle.unit.specs.Lists.{tabulate, anyOf}
 use Rattle.unit.specs.Frame.{sectionWork, sectionFrame, raised, share, sumOf}

@@ -12,8 +12,8 @@ use mir.Val.{boolByte}
 use borrow.Author.Tests.{eq-eqb, ne-eqb, eqb-true, ltb-true}
 use Rattle.integers.proofs.Order.{both-true}
 use Rattle.fields.specs.Fields.{fieldSize, lastColumn, blank, minus, fieldAt, noNumber, fieldRead}
-use Rattle.field_reading.specs.Scan.{blanksOf, digitsRead, longAt}
 use Rattle.fields.proofs.Laws.{nine-columns}
+use Rattle.field_reading.specs.Scan.{blanksOf, digitsRead, longAt}
 use Rattle.field_reading.proofs.Blanks.{blanks-le, one-more, no-more}
 use Rattle.field_reading.proofs.Reading.{headed, fieldRead-last, fieldRead-signed}
 

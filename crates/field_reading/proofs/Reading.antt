@@ -14,10 +14,10 @@ use borrow.Author.Tests.{ne-eqb, eqb-true, eqb-false}
 use Rattle.integers.proofs.Order.{both-true}
 use Rattle.integers.specs.Signed.{signed}
 use Rattle.fields.specs.Fields.{fieldSize, blank, minus, isDigit, digitIn, valueFrom, hasMinus, numberIn, noNumber, fieldRead}
-use Rattle.field_reading.specs.Scan.{blanksOf, allDigits, digitsRead}
 use Rattle.fields.proofs.Bytes.{digit-low, digitIn-yes}
-use Rattle.field_reading.proofs.Fits.{fits, ends}
 use Rattle.fields.proofs.Laws.{answer}
+use Rattle.field_reading.specs.Scan.{blanksOf, allDigits, digitsRead}
+use Rattle.field_reading.proofs.Fits.{fits, ends}
 use Rattle.field_reading.proofs.Scan.{scan, isField-scan}
 
 -- ---- digits

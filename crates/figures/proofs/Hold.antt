@@ -4,11 +4,11 @@ use mathlib.Core.List.{map}
 use Rattle.rounding.specs.Rounding.{floor, rest, odd, goesUp, nearest, taken, limit, within}
 use Rattle.bands.specs.Bands.{alphaAccepted, betaAccepted, gammaAccepted, bandVerdict}
 use Rattle.bands.specs.House.{houseSet}
+use Rattle.floats.specs.Value.{inUnits, factorTarget}
 use Rattle.section.specs.Equation.{exactSum, worked}
 use Rattle.section.specs.Step.{allWords, stepVerdict, acceptedStep, stepped, resultsOver}
 use Rattle.levels.specs.Levels.{ramp}
 use Rattle.unit.specs.Frame.{sectionFrame, channelFrame, exactMix, mix, output, unitFrame}
-use Rattle.floats.specs.Value.{inUnits, factorTarget}
 use Rattle.settings.specs.Settings.{targetOf}
 use Rattle.figures.specs.Figures.{Figure, starred}
 

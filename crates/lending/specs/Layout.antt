@@ -17,9 +17,9 @@ use Rattle.unit.specs.declared.Unit.{Unit}
 use Rattle.settings.specs.declared.Setting.{Setting}
 use Rattle.orders.specs.Orders.{ordered}
 use Rattle.blocks.specs.Block.{blockPlayed, blockOutput}
+use Rattle.numbers.specs.Layout.{unitOf, numbersOf}
 use Rattle.writing.specs.Written.{filledCount, filled}
 use Rattle.reading.specs.Reading.{sheetRead}
-use Rattle.numbers.specs.Layout.{unitOf, numbersOf}
 
 -- a section is seven numbers: A, B, G, x1, x2, y1, y2
 abbrev pub loneSection : List ℤ → Section

@@ -18,8 +18,8 @@ use Rattle.refusals.specs.Numbers.{isAccepted, unless}
 use Rattle.refusals.specs.declared.Verdict.{Verdict}
 use Rattle.refusals.specs.declared.Verdict.the-variants.{Accepted, FieldForm, Unfit}
 use Rattle.fields.specs.Fields.{fieldSize, numberIn, isField, noNumber, fieldRead, fieldAt}
-use Rattle.sheet.specs.Lines.{anyNumber}
 use Rattle.fields.proofs.Laws.{nine-columns, number-low, none-read, some-read}
+use Rattle.sheet.specs.Lines.{anyNumber}
 use Rattle.line_reading.specs.Line.{fieldVerdict}
 use Rattle.line_reading.specs.Parts.{Part, andThen, fieldPart, fieldsPart, ReadGives}
 use Rattle.line_reading.proofs.Parts.{restored, Leads, on}

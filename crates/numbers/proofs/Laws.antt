@@ -7,8 +7,8 @@ use native.Mathlib.Omega.{arith}
 use lib.IntN.{ℤ, pos}
 use lib.ListN.{length, getD, take, drop, take-append-drop, length-drop}
 use lib.Seq.{take-add, drop-cons, take-all, drop-drop}
-use Rattle.unit.specs.Sizes.{channelSize}
 use Rattle.bands.specs.Bands.{bandCount, bandAt, setSize}
+use Rattle.unit.specs.Sizes.{channelSize}
 use Rattle.unit.specs.Lists.{tabulate}
 use Rattle.engine.specs.Numbers.{place, sectionAt, channelOf}
 use Rattle.numbers.specs.Layout.{unitSize, bandsPlace, leftPlace, rightPlace, joined, bandNumbers, sectionNumbers, channelNumbers, numbersOf, unitOf}

@@ -6,9 +6,9 @@ use native.Mathlib.Omega.{arith}
 use lib.IntN.{ℤ, pos}
 use lib.ListN.{length, getD, drop, length-append}
 use lib.Seq.{drop-at, drop-drop}
-use Rattle.unit.specs.Sizes.{channelSize}
 use Rattle.bands.specs.Bands.{bandCount, bandAt, setSize}
 use Rattle.bands.specs.declared.Band.{Band}
+use Rattle.unit.specs.Sizes.{channelSize}
 use Rattle.unit.specs.declared.BandSection.{BandSection}
 use Rattle.unit.specs.declared.Channel.{Channel}
 use Rattle.unit.specs.declared.Unit.{Unit}

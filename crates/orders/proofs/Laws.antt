@@ -17,8 +17,8 @@ use Rattle.unit.proofs.Changed.{changed-each}
 use Rattle.unit.proofs.Fitness.{fit-of-test, test-of-fit}
 use Rattle.settings.specs.declared.Setting.{Setting}
 use Rattle.settings.specs.Settings.{volumeBand, names, targetOf, orderArguments}
-use Rattle.orders.specs.Orders.{orderVerdict, aimedSection, aimedChannel, aimedVolume, aimedBand, aimedUnit, ordered}
 use Rattle.settings.proofs.Laws.{target-volume, target-word}
+use Rattle.orders.specs.Orders.{orderVerdict, aimedSection, aimedChannel, aimedVolume, aimedBand, aimedUnit, ordered}
 
 -- ---- the unit after an order
 

@@ -4,8 +4,8 @@ use mathlib.Core.List.{List}
 use Prim.Native.Nat.{ℕ, _<_}
 use lib.IntN.{ℤ, pos}
 use lib.ListN.{length, getD}
-use Rattle.unit.specs.Sizes.{channelSize}
 use Rattle.bands.specs.Bands.{bandCount}
+use Rattle.unit.specs.Sizes.{channelSize}
 use Rattle.unit.specs.declared.BandSection.{BandSection}
 use Rattle.unit.specs.declared.Channel.{Channel}
 use Rattle.unit.specs.Lists.{tabulate}

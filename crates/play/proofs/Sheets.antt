@@ -8,6 +8,7 @@ use Rattle.refusals.specs.Numbers.{isAccepted}
 use Rattle.unit.specs.declared.Unit.{Unit}
 use Rattle.unit.specs.Fit.{Fit}
 use Rattle.unit.proofs.Fitness.{fit-of-test, test-of-fit}
+use Rattle.stream.specs.Claim.{begun, Ready}
 use Rattle.sheet.specs.Lines.{sheetSize}
 use Rattle.writing.specs.Written.{filledPart}
 use Rattle.reading.specs.declared.SheetRead.{SheetRead}
@@ -15,7 +16,6 @@ use Rattle.reading.specs.Reading.{sheetVerdict, unitIn, sheetRead}
 use Rattle.reading.proofs.Laws.{read-accepted}
 use Rattle.roundtrip.specs.Claim.{ReadsAs}
 use Rattle.roundtrip.proofs.Holds.{part-is-sheet, round-trip}
-use Rattle.stream.specs.Claim.{begun, Ready}
 use Rattle.play.specs.Saved.{IsSheet}
 
 -- an accepted sheet's unit can play a stream

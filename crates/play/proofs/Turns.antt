@@ -15,9 +15,9 @@ use Rattle.stream.specs.Claim.{Stream, oneBlock, begun, next, Advances, Ready}
 use Rattle.stream.proofs.Cuts.{tail-length}
 use Rattle.stream.proofs.Holds.{block-next, begun-empty, cut-anywhere}
 use Rattle.console.specs.declared.Received.{Received}
-use Rattle.console.specs.Reads.{ReceiveGives}
 use Rattle.play.specs.declared.playing.Progress.{Progress}
 use Rattle.play.specs.Turns.{inHand, TurnAsks, IsSound, TurnGives, PlayGives}
+use Rattle.console.specs.Reads.{ReceiveGives}
 
 -- ---- one turn
 

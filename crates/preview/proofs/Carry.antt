@@ -8,12 +8,12 @@ use lib.Dec.{T, lit≤, lit<}
 use lib.IntN.{ℤ, natAbs}
 use lib.Ieee.{binary64, prec, toSigned, inSigned}
 use Rattle.refusals.specs.Numbers.{isAccepted}
-use Rattle.floats.proofs.Casts.{int-back}
-use Rattle.floats.proofs.Quotient.{whole-back}
-use Rattle.floats.proofs.WholeNumbers.{of-plus-zero}
 use Rattle.bands.specs.Bands.{bandOf}
 use Rattle.bands.specs.Words.{wordSize, isWord}
 use Rattle.bands.proofs.Laws.{Accepts, band-sizes, word-size}
+use Rattle.floats.proofs.Casts.{int-back}
+use Rattle.floats.proofs.Quotient.{whole-back}
+use Rattle.floats.proofs.WholeNumbers.{of-plus-zero}
 use Rattle.section.specs.declared.Section.{Section}
 use Rattle.section.specs.declared.Stepped.{Stepped}
 use Rattle.section.specs.Step.{stepVerdict, acceptedStep, stepped}

@@ -7,10 +7,10 @@ use lib.Dec.{lit≤}
 use lib.IntN.{ℤ, natAbs}
 use lib.Signed.{ltZ}
 use lib.Ieee.{binary64, prec, lt}
-use Rattle.floats.proofs.WholeNumbers.{of-whole, lt-whole}
 use Rattle.rounding.specs.Rounding.{nearest, limit}
 use Rattle.rounding.proofs.Nearest.{nearest-size}
 use Rattle.bands.specs.Words.{wordLow, wordHigh}
+use Rattle.floats.proofs.WholeNumbers.{of-whole, lt-whole}
 use Rattle.section.specs.Equation.{sumShift, worked}
 use Rattle.preview.specs.Carried.{float}
 

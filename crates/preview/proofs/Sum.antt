@@ -9,9 +9,9 @@ use lib.IntN.{ℤ, pos, natAbs, _+ℤ_, _-ℤ_, _*ℤ_, +ℤ-idl}
 use lib.Ieee.{Float, binary64, prec, add, sub, mul}
 use Rattle.integers.proofs.Parts.{var, _⊕_, _⊖_, terms-eq}
 use Rattle.integers.proofs.Machine.{sum-sized, difference-sized, product-sized}
-use Rattle.floats.proofs.WholeNumbers.{Whole, of-whole, add-whole, sub-whole, mul-whole}
 use Rattle.bands.specs.Words.{wordSize}
 use Rattle.bands.specs.declared.Band.{Band}
+use Rattle.floats.proofs.WholeNumbers.{Whole, of-whole, add-whole, sub-whole, mul-whole}
 use Rattle.section.specs.Equation.{exactSum}
 use Rattle.section.specs.Asks.{RoundedSumAsks}
 use Rattle.preview.specs.Carried.{float}

@@ -6,9 +6,9 @@ use lib.IntN.{ℤ, natAbs}
 use lib.Ieee.{Float, binary64, prec, ofInt}
 use Rattle.refusals.specs.Numbers.{isAccepted}
 use Rattle.bands.specs.Bands.{bandOf}
+use Rattle.floats.specs.Whole.{wholeOf, isMinusZero}
 use Rattle.section.specs.declared.Section.{Section}
 use Rattle.section.specs.Step.{stepVerdict}
-use Rattle.floats.specs.Whole.{wholeOf, isMinusZero}
 use Rattle.preview.specs.declared.Preview.{Preview}
 
 -- a whole number as an f64

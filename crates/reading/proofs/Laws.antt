@@ -14,13 +14,13 @@ use Rattle.refusals.specs.declared.Verdict.{Verdict}
 use Rattle.refusals.specs.declared.Verdict.the-variants.{Accepted, SheetLength}
 use Rattle.unit.specs.declared.Unit.{Unit}
 use Rattle.numbers.specs.Layout.{unitSize}
-use Rattle.sheet.specs.Lines.{sheetSize, lines}
-use Rattle.reading.specs.Reading.{linesVerdict, numbersIn, sheetVerdict, unitIn, sheetRead}
 use Rattle.fields.proofs.Stores.{stored-whole}
+use Rattle.sheet.specs.Lines.{sheetSize, lines}
 use Rattle.line_reading.specs.Parts.{test, ReadGives}
-use Rattle.reading.specs.Parts.{linesPart, sheetPart}
 use Rattle.line_reading.proofs.Parts.{off, past, tested}
 use Rattle.line_reading.proofs.Whole.{both-numbers}
+use Rattle.reading.specs.Reading.{linesVerdict, numbersIn, sheetVerdict, unitIn, sheetRead}
+use Rattle.reading.specs.Parts.{linesPart, sheetPart}
 use Rattle.reading.proofs.Whole.{numbers-in-length, lines-verdict, lines-numbers}
 
 -- "11 not 1,128 bytes"

@@ -14,10 +14,10 @@ use Rattle.refusals.specs.declared.Verdict.the-variants.{Accepted}
 use Rattle.sheet.specs.declared.Line.{Line}
 use Rattle.sheet.specs.Lines.{fieldCount, lineSize}
 use Rattle.line_reading.specs.Parts.{andThen, linePart, ReadGives}
-use Rattle.reading.specs.Parts.{linesPart}
 use Rattle.line_reading.proofs.Parts.{restored, stored-length}
 use Rattle.line_reading.proofs.Whole.{line-long}
 use Rattle.line_reading.proofs.Repeat.{repeated, LeftFrom, left-all, left-none, left-off, left-on}
+use Rattle.reading.specs.Parts.{linesPart}
 
 -- and so are lines of one kind
 pub lines-repeated : (line : Line) (n : ℕ) (bytes : List ℕ) → linesPart (replicate n line) bytes ≡ repeated (linePart line) (lineSize line) n bytes

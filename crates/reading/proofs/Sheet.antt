@@ -5,18 +5,18 @@ use mathlib.Core.List.{List, _∷_, _++_}
 use Prim.Native.Nat.{ℕ, _+_}
 use lib.ListN.{length, drop, replicate, length-append}
 use lib.Seq.{drop-drop}
-use Rattle.unit.specs.Sizes.{headSize, channelSize}
-use Rattle.bands.specs.Bands.{bandCount, setSize}
 use Rattle.refusals.specs.Numbers.{isAccepted}
+use Rattle.bands.specs.Bands.{bandCount, setSize}
+use Rattle.unit.specs.Sizes.{headSize, channelSize}
 use Rattle.sheet.specs.declared.Line.{Line}
 use Rattle.sheet.specs.declared.Line.the-variants.{Volume, Band, Left, Section, Right}
 use Rattle.sheet.specs.Lines.{lines, channelRanges, letterOf, lineSize, sizeOf, channelBytes, bandsAt, leftAt, rightAt}
 use Rattle.line_reading.specs.Line.{fieldNumbers}
-use Rattle.reading.specs.Reading.{numbersIn}
 use Rattle.line_reading.specs.Parts.{andThen, plainPart, linePart}
-use Rattle.reading.specs.Parts.{linesPart, channelPart}
 use Rattle.line_reading.proofs.Parts.{then-assoc}
 use Rattle.line_reading.proofs.Whole.{both-numbers, plain-numbers}
+use Rattle.reading.specs.Reading.{numbersIn}
+use Rattle.reading.specs.Parts.{linesPart, channelPart}
 use Rattle.reading.proofs.Whole.{lines-numbers, lines-append, numbers-in-length}
 
 abbrev bands : List Line

@@ -9,11 +9,11 @@ use Rattle.refusals.specs.Numbers.{isAccepted, firstOf}
 use Rattle.sheet.specs.declared.Line.{Line}
 use Rattle.sheet.specs.Lines.{fieldCount, lineSize, fieldsOf, sizeOf}
 use Rattle.line_reading.specs.Line.{lineNumbers}
-use Rattle.reading.specs.Reading.{linesVerdict, numbersIn}
 use Rattle.line_reading.specs.Parts.{andThen, linePart}
-use Rattle.reading.specs.Parts.{linesPart}
 use Rattle.line_reading.proofs.Parts.{then-assoc}
 use Rattle.line_reading.proofs.Whole.{field-numbers-length, line-verdict, both-numbers, line-numbers}
+use Rattle.reading.specs.Reading.{linesVerdict, numbersIn}
+use Rattle.reading.specs.Parts.{linesPart}
 
 -- a number for each field
 pub numbers-in-length : (ls : List Line) (bytes : List ℕ) → length (numbersIn ls bytes) ≡ fieldsOf ls

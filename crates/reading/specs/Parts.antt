@@ -3,9 +3,9 @@ use mathlib.Core.List.{List, [], _∷_}
 use Prim.Native.Nat.{ℕ}
 use lib.Dec.{eqb}
 use lib.ListN.{length, drop, replicate}
-use Rattle.bands.specs.Bands.{bandCount}
 use Rattle.refusals.specs.Numbers.{unless}
 use Rattle.refusals.specs.declared.Verdict.the-variants.{Accepted, SheetLength}
+use Rattle.bands.specs.Bands.{bandCount}
 use Rattle.sheet.specs.declared.Line.{Line}
 use Rattle.sheet.specs.declared.Line.the-variants.{Left, Section}
 use Rattle.sheet.specs.Lines.{sheetSize, lines, channelRanges, lineSize}

@@ -14,8 +14,8 @@ use Rattle.unit.specs.declared.Unit.{Unit}
 use Rattle.numbers.specs.Layout.{unitOf}
 use Rattle.sheet.specs.declared.Line.{Line}
 use Rattle.sheet.specs.Lines.{sheetSize, lines, lineSize}
-use Rattle.reading.specs.declared.SheetRead.{SheetRead}
 use Rattle.line_reading.specs.Line.{lineNumbers, lineVerdict}
+use Rattle.reading.specs.declared.SheetRead.{SheetRead}
 
 -- ---- some lines, in the bytes from the first of them on
 

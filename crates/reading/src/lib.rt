@@ -3,12 +3,12 @@
 ghost use mathlib.Core.Path.{_≡_};
 ghost use Prim.Native.Nat.{_+_, _*_, _≤_};
 ghost use lib.ListN.{length, drop, replicate};
-ghost use Rattle.unit.specs.Sizes.{channelSize};
 ghost use Rattle.bands.specs.Bands.{bandCount};
+ghost use Rattle.unit.specs.Sizes.{channelSize};
 ghost use Rattle.numbers.specs.Layout.{unitSize, bandsPlace};
 ghost use Rattle.sheet.specs.Lines.{channelBytes, sheetSize, lines, fieldCount, lineSize};
-ghost use Rattle.reading.specs.Reading.{sheetRead};
 ghost use Rattle.line_reading.specs.Parts.{linePart, ReadGives};
+ghost use Rattle.reading.specs.Reading.{sheetRead};
 ghost use Rattle.reading.specs.Parts.{linesPart, channelPart, sheetPart};
 use refusals::Verdict;
 use sheet::Line;

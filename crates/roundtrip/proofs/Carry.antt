@@ -7,8 +7,8 @@ use native.Mathlib.Omega.{arith}
 use lib.IntN.{ℤ}
 use lib.ListN.{length, replicate}
 use lib.Seq.{take-at, drop-at}
-use Rattle.bands.specs.Bands.{bandCount}
 use Rattle.refusals.specs.Numbers.{isAccepted}
+use Rattle.bands.specs.Bands.{bandCount}
 use Rattle.bands.specs.declared.Band.{Band}
 use Rattle.levels.specs.declared.Level.{Level}
 use Rattle.unit.specs.Lists.{Each}

@@ -17,12 +17,12 @@ use Rattle.numbers.proofs.Laws.{numbers-of-unit}
 use Rattle.numbers.proofs.Units.{unit-shaped, unit-of-numbers}
 use Rattle.sheet.specs.Lines.{sheetSize, lines}
 use Rattle.writing.specs.Written.{written, sheetOf, writes, filledPart}
+use Rattle.writing.proofs.Laws.{sheet-length}
 use Rattle.reading.specs.declared.SheetRead.{SheetRead}
 use Rattle.reading.specs.Reading.{linesVerdict, numbersIn, sheetVerdict, unitIn, sheetRead}
-use Rattle.roundtrip.specs.Claim.{ReadsAs, HasSheet, RoundTrip}
-use Rattle.writing.proofs.Laws.{sheet-length}
 use Rattle.reading.proofs.Laws.{right-length, read-accepted}
 use Rattle.reading.proofs.Whole.{numbers-in-length}
+use Rattle.roundtrip.specs.Claim.{ReadsAs, HasSheet, RoundTrip}
 use Rattle.roundtrip.proofs.Passes.{LinesPass}
 use Rattle.roundtrip.proofs.Accepted.{LinesTold, lines-accepted}
 use Rattle.roundtrip.proofs.Back.{LinesBack, lines-back}

@@ -12,8 +12,8 @@ use Rattle.rounding.proofs.Limit.{within-bounds}
 use Rattle.refusals.specs.Numbers.{isAccepted}
 use Rattle.bands.specs.Bands.{bandOf}
 use Rattle.bands.proofs.Laws.{word-size, Accepts, band-sizes}
-use Rattle.unit.specs.Lists.{Each}
 use Rattle.bands.specs.Words.{isWord}
+use Rattle.unit.specs.Lists.{Each}
 use Rattle.unit.specs.Fit.{isVolume, isFlag, isInput}
 use Rattle.unit.proofs.Ranges.{input-size, volume-size}
 use Rattle.fields.proofs.Laws.{Short}

@@ -5,7 +5,7 @@
 --
 -- What it rests on. `sheetOf`, `filledPart` (writing/specs/Written.antt) and `sheetRead` (reading/specs/Reading.antt) are what the contracts
 -- of `writing::fill`, `writing::write` and `reading::read` promise, for all inputs. Under them stand: a field (fields/specs/Fields.antt),
--- the lines and their ranges (sheet/specs/Lines.antt), a unit's numbers in order (numbers/specs/Layout.antt), fitness (unit/specs/Fit.antt)
+-- the lines and their ranges (sheet/specs/Lines.antt), a line as it is read (line_reading/specs/Line.antt), a unit's numbers in order (numbers/specs/Layout.antt), fitness (unit/specs/Fit.antt)
 -- and the refusals' numbers (refusals/specs/Numbers.antt).
 --
 -- Every unit that a program holds is `Shaped`: ten bands, and two channels of ten sections.

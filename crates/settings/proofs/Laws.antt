@@ -9,16 +9,16 @@ use lib.Dec.{T, eqb, leb, ltb}
 use lib.IntN.{ℤ, pos, _-ℤ_, _*ℤ_}
 use lib.Ieee.{Float}
 use borrow.Author.Tests.{ltb-true, ltb-false, lt-ltb, le-ltb, ne-eqb, leb-true, leb-false, eq-eqb}
-use Rattle.bands.specs.Bands.{bandCount}
 use Rattle.integers.proofs.Parts.{linear, var, _⊖_, _⊗_}
 use Rattle.rounding.specs.Rounding.{within}
 use Rattle.rounding.proofs.Limit.{within-bounds, bounds-within}
 use Rattle.refusals.specs.Numbers.{unless, isAccepted}
 use Rattle.refusals.specs.declared.Verdict.the-variants.{Accepted, NoPlace, PositionOver, NotFinite, FactorRange}
 use Rattle.refusals.proofs.Laws.{unless-accepted}
+use Rattle.bands.specs.Bands.{bandCount}
+use Rattle.bands.specs.Words.{wordLow, wordHigh, isWord}
 use Rattle.floats.proofs.Laws.{volume-band, target-word as factor-word, volume-target}
 use Rattle.floats.specs.Value.{isFinite, inRange, isFactor, bandLowest, volumeLowest}
-use Rattle.bands.specs.Words.{wordLow, wordHigh, isWord}
 use Rattle.unit.specs.Fit.{isVolume}
 use Rattle.settings.specs.declared.Setting.{Setting}
 use Rattle.settings.specs.declared.Setting.the-variants.{Position, Factor, Mute}

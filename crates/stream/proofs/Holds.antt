@@ -13,8 +13,8 @@ use Rattle.unit.specs.declared.Unit.{Unit}
 use Rattle.unit.specs.Fit.{Fit}
 use Rattle.frames.specs.Bytes.{frameCount}
 use Rattle.frames.specs.Played.{played, sound}
-use Rattle.blocks.specs.Block.{blockPlayed, blockOutput}
 use Rattle.frames.proofs.Many.{sound-length, played-channels}
+use Rattle.blocks.specs.Block.{blockPlayed, blockOutput}
 use Rattle.blocks.proofs.Block.{BlockAccepts, accepts-block, four-a-frame}
 use Rattle.blocks.proofs.Append.{accepted-unit, accepted-output, block-fit, block-append-unit, block-append-output}
 use Rattle.stream.specs.Advance.{wholeCount, wholeFrames, tailBytes, advanced, advancedOutput, advancedInput}

@@ -1,7 +1,7 @@
 -- That a stream, cut anywhere, is played as one block. Definitions only; `CutAnywhere`, at the end, is proved in proofs/Holds.antt.
 --
 -- What it rests on. `advanced`, `advancedOutput` and `advancedInput` (specs/Advance.antt) are what the contract of `stream::advance`
--- promises, for all inputs. Under them stand a block of frames (blocks/specs/Block.antt) and fitness (unit/specs/Fit.antt).
+-- promises, for all inputs. Under them stand frames (frames/specs/Played.antt), a block of them (blocks/specs/Block.antt) and fitness (unit/specs/Fit.antt).
 use mathlib.Core.Path.{_≡_}
 use mathlib.Core.List.{List, [], _∷_, _++_}
 use Prim.Native.Nat.{ℕ, _≤_}

@@ -10,6 +10,7 @@ use lib.ListN.{length, getD, take, drop, set, length-drop}
 use lib.Seq.{sets, take-suc, length-take-le, drop-drop}
 use Rattle.bands.specs.Bands.{bandCount}
 use Rattle.numbers.specs.Layout.{joined}
+use Rattle.numbers.proofs.Put.{joined-snoc}
 use Rattle.fields.specs.Fields.{fieldSize, field}
 use Rattle.fields.proofs.Stores.{sets-append}
 use Rattle.sheet.specs.declared.Line.{Line}
@@ -17,7 +18,6 @@ use Rattle.sheet.specs.declared.Line.the-variants.{Section, Left}
 use Rattle.sheet.specs.Lines.{letterOf, fieldsOf, sizeOf, lineSize}
 use Rattle.writing.specs.Written.{lineText, written, groupText, channelText}
 use Rattle.writing.proofs.Laws.{fields-length, text-length, written-length, written-append}
-use Rattle.numbers.proofs.Put.{joined-snoc}
 
 -- one field more
 pub field-put : (out : List ℕ) (at : ℕ) (ns : List ℤ) (i : ℕ) → i < length ns → sets (sets out at (joined field (take i ns))) (at + fieldSize * i) (field (getD ns i (pos 0))) ≡ sets out at (joined field (take (i + 1) ns))

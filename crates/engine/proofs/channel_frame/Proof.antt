@@ -13,10 +13,10 @@ use borrow.Author.Needs.{needs}
 use mir.Syntax.{w64}
 use mir.Val.{SFits, toZ, ofZ}
 use mir.Facts.{toZ-ofZ}
-use Rattle.bands.specs.Bands.{bandCount}
 use Rattle.integers.proofs.Parts.{terms-eq, var, _⊕_}
 use Rattle.integers.proofs.Machine.{Num, Bounded, literal, below-fits, binary, binary-need, product, result, result-need}
 use Rattle.rounding.specs.Rounding.{nearest}
+use Rattle.bands.specs.Bands.{bandCount}
 use Rattle.bands.specs.Words.{wordSize}
 use Rattle.unit.specs.Lists.{tabulate}
 use Rattle.unit.specs.Cleared.{bandsOf}

@@ -16,12 +16,12 @@ use Rattle.rounding.specs.Rounding.{nearest, limit}
 use Rattle.bands.specs.Words.{wordSize, wordLow, wordHigh, isWord}
 use Rattle.bands.specs.Bands.{bandOf, bandAt}
 use Rattle.bands.proofs.Laws.{band-sizes, word-size}
-use Rattle.levels.specs.declared.Level.{Level}
-use Rattle.levels.specs.Levels.{gainSlope, moved, MovedAsks}
-use Rattle.levels.proofs.Laws.{ramp-size}
 use Rattle.section.specs.Equation.{exactSum, sumShift, worked}
 use Rattle.section.specs.Asks.{RoundedSumAsks}
 use Rattle.section.proofs.Laws.{worked-size}
+use Rattle.levels.specs.declared.Level.{Level}
+use Rattle.levels.specs.Levels.{gainSlope, moved, MovedAsks}
+use Rattle.levels.proofs.Laws.{ramp-size}
 use Rattle.unit.specs.declared.BandSection.{BandSection}
 use Rattle.unit.specs.Frame.{sectionFrame}
 use Rattle.unit.specs.Fit.{SectionFit}

@@ -17,9 +17,9 @@ use borrow.Author.Needs.{needs}
 use borrow.Author.Tests.{not-true, not-false}
 use Rattle.integers.specs.Signed.{signed}
 use Rattle.fields.specs.Fields.{isDigit, digitIn, valueFrom}
-use Rattle.field_reading.specs.Scan.{allDigits, digitsRead}
 use Rattle.fields.proofs.Bytes.{digitIn-yes, digit-low, digit-high}
 use Rattle.fields.proofs.Laws.{answer}
+use Rattle.field_reading.specs.Scan.{allDigits, digitsRead}
 use Rattle.field_reading.proofs.read_digits.Statement.{statement}
 use Rattle.field_reading.proofs.read_digits.Tie as tie
 use Rattle.field_reading.proofs.read_digits.Reads as reads

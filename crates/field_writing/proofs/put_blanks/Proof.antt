@@ -8,8 +8,8 @@ use lib.Seq.{sets}
 use denote.Ref.{now}
 use borrow.Author.Needs.{needs}
 use Rattle.fields.specs.Fields.{blank}
-use Rattle.field_writing.specs.Front.{frontColumns}
 use Rattle.fields.proofs.Stores.{sets-append}
+use Rattle.field_writing.specs.Front.{frontColumns}
 use Rattle.field_writing.proofs.put_blanks.Statement.{statement}
 use Rattle.field_writing.proofs.put_blanks.Tie as tie
 

@@ -14,9 +14,9 @@ use mir.Syntax.{w32}
 use mir.Val.{toZ, ofZ}
 use borrow.Author.Needs.{needs}
 use Rattle.fields.specs.Fields.{lastColumn, blank, digit, column, owedStill, columns, field}
-use Rattle.field_writing.specs.Front.{frontColumns}
 use Rattle.fields.proofs.Stores.{sets-append, sets-snoc}
 use Rattle.fields.proofs.Columns.{columns-length}
+use Rattle.field_writing.specs.Front.{frontColumns}
 use Rattle.field_writing.proofs.put_field.Statement.{statement}
 use Rattle.field_writing.proofs.put_field.Tie as tie
 

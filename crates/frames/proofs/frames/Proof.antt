@@ -13,11 +13,11 @@ use borrow.Author.Needs.{needs}
 use mir.Syntax.{w64}
 use mir.Val.{toZ, ofZ}
 use mir.Facts.{toZ-ofZ}
-use Rattle.unit.specs.Sizes.{channelSize}
 use Rattle.integers.proofs.Machine.{below-fits}
 use Rattle.bands.specs.Words.{wordSize}
 use Rattle.levels.specs.declared.Level.{Level}
 use Rattle.levels.specs.Levels.{volumeSlope, moved, MovedAsks}
+use Rattle.unit.specs.Sizes.{channelSize}
 use Rattle.unit.specs.declared.Unit.{Unit}
 use Rattle.unit.specs.Frame.{mix, output}
 use Rattle.unit.specs.Fit.{Fit}

@@ -20,8 +20,8 @@ use Rattle.lending.proofs.block.Statement.{statement}
 use Rattle.lending.proofs.block.Tie as tie
 use Rattle.lending.proofs.block.Reads as reads
 use Rattle.lending.proofs.block.Lts as lts
-use Rattle.blocks.proofs.play.Reads as play-reads
 use Rattle.lending.proofs.store.Reads as store-reads
+use Rattle.blocks.proofs.play.Reads as play-reads
 use Rattle.numbers.proofs.unit_of.Reads as unit-of-reads
 
 -- the answer is that of the unit as lent

@@ -9,9 +9,9 @@ use lib.ListN.{take, drop, length-drop}
 use denote.Ref.{now}
 use borrow.Author.Needs.{needs}
 use borrow.Author.Tests.{not-true, not-false}
-use Rattle.bands.specs.Bands.{bandVerdict, bandAt}
 use Rattle.refusals.specs.Numbers.{isAccepted}
 use Rattle.refusals.specs.declared.Verdict.{Verdict}
+use Rattle.bands.specs.Bands.{bandVerdict, bandAt}
 use Rattle.sheet.specs.declared.Line.the-variants.{Band}
 use Rattle.sheet.specs.Lines.{rangesOf, together, letterOf}
 use Rattle.line_reading.specs.Line.{lineNumbers}

@@ -9,12 +9,12 @@ use lib.ListN.{set}
 use denote.Ref.{now}
 use mir.Syntax.{w32, w64}
 use mir.Val.{toZ, ofZ}
-use Rattle.bands.specs.Bands.{bandCount}
-use Rattle.unit.specs.Sizes.{headSize, sectionSize, channelSize}
 use Rattle.integers.proofs.Parts.{linear}
 use Rattle.integers.proofs.Abs.{abs-le}
 use Rattle.rounding.proofs.Limit.{within-bounds}
+use Rattle.bands.specs.Bands.{bandCount}
 use Rattle.bands.specs.Words.{wordSize}
+use Rattle.unit.specs.Sizes.{headSize, sectionSize, channelSize}
 use Rattle.unit.specs.Fit.{isFlag}
 use Rattle.unit.proofs.Ranges.{input-size}
 use Rattle.numbers.specs.Layout.{channelNumbers, PutGives}

@@ -5,8 +5,8 @@ use lib.ListN.{take}
 use denote.Ref.{now}
 use mathlib.Core.Path.{_≡_, subst}
 use mathlib.Core.List.{[]}
-use Rattle.unit.specs.Sizes.{sectionSize}
 use Rattle.bands.specs.Bands.{bandCount}
+use Rattle.unit.specs.Sizes.{sectionSize}
 use Rattle.unit.specs.Fit.{SectionFit}
 use borrow.Author.Needs.{needs}
 use Rattle.unit.specs.Cleared.{clearedBandSection}

@@ -5,8 +5,8 @@ use lib.ListN.{drop}
 use native.Mathlib.Omega.{arith}
 use borrow.Author.Needs.{needs}
 use Rattle.bands.specs.Bands.{bandCount}
-use Rattle.engine.specs.Numbers.{sectionAt}
 use Rattle.unit.proofs.Lists.{Tabulated, tabulated-begin, tabulated-next, tabulated-done}
+use Rattle.engine.specs.Numbers.{sectionAt}
 use Rattle.numbers.proofs.sections_of.Statement.{statement}
 use Rattle.numbers.proofs.sections_of.Tie as tie
 

@@ -7,8 +7,8 @@ use mir.Facts.{toZ-ofZ}
 use borrow.Author.Tests.{eq-eqb, ne-eqb}
 use Rattle.refusals.proofs.Laws.{passed, failed}
 use Rattle.settings.specs.Settings.{volumeBand}
-use Rattle.orders.specs.Orders.{aimedVolume, aimedBand, aimedUnit}
 use Rattle.settings.proofs.Laws.{place-below}
+use Rattle.orders.specs.Orders.{aimedVolume, aimedBand, aimedUnit}
 use borrow.Author.Needs.{needs}
 use Rattle.orders.proofs.aim_unit.Statement.{statement}
 use Rattle.orders.proofs.aim_unit.Tie as tie

@@ -9,16 +9,16 @@ use Rattle.refusals.specs.Numbers.{isAccepted}
 use Rattle.refusals.specs.declared.Verdict.{Verdict}
 use Rattle.unit.specs.Fit.{unitFits}
 use Rattle.settings.specs.Settings.{orderArguments, targetOf}
-use Rattle.orders.specs.Orders.{aimedUnit}
 use Rattle.settings.proofs.Laws.{place-accepted, level-accepted}
+use Rattle.orders.specs.Orders.{aimedUnit}
 use Rattle.orders.proofs.Laws.{ordered-unfit, ordered-refused, ordered-accepted}
 use borrow.Author.Needs.{needs}
 use Rattle.orders.proofs.order.Statement.{statement}
 use Rattle.orders.proofs.order.Tie as tie
 use Rattle.orders.proofs.order.Reads as reads
 use Rattle.orders.proofs.order.Lts as lts
-use Rattle.fitness.proofs.is_fit.Reads as is-fit-reads
 use Rattle.orders.proofs.aim_unit.Reads as aim-unit-reads
+use Rattle.fitness.proofs.is_fit.Reads as is-fit-reads
 use Rattle.settings.proofs.check_order.Reads as check-order-reads
 use Rattle.settings.proofs.target_of.Reads as target-of-reads
 use Rattle.refusals.proofs.accepted.Reads as accepted-reads

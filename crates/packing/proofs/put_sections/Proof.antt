@@ -8,8 +8,8 @@ use lib.ListN.{length, getD}
 use denote.Ref.{now}
 use borrow.Author.Needs.{needs}
 use borrow.Author.Count.{below-more}
-use Rattle.unit.specs.Sizes.{headSize, channelSize}
 use Rattle.bands.specs.Bands.{bandCount}
+use Rattle.unit.specs.Sizes.{headSize, channelSize}
 use Rattle.unit.specs.declared.BandSection.{BandSection}
 use Rattle.unit.specs.Cleared.{clearedBandSection}
 use Rattle.unit.proofs.Tabulate.{tabulate-cong, tabulate-all}

@@ -8,12 +8,12 @@ use Rattle.play.proofs.start.Statement.{statement}
 use Rattle.play.proofs.start.Tie as tie
 use Rattle.play.proofs.start.Reads as reads
 use Rattle.play.proofs.start.Lts as lts
-use Rattle.bands.proofs.house_set.Reads as house-set-reads
-use Rattle.console.proofs.refuse.Reads as refuse-reads
-use Rattle.loading.proofs.load.Reads as load-reads
 use Rattle.play.proofs.finish.Reads as finish-reads
 use Rattle.play.proofs.playing.play.Reads as play-reads
 use Rattle.play.proofs.saving.can_save.Reads as can-save-reads
+use Rattle.bands.proofs.house_set.Reads as house-set-reads
+use Rattle.console.proofs.refuse.Reads as refuse-reads
+use Rattle.loading.proofs.load.Reads as load-reads
 use Rattle.reading.proofs.read.Reads as read-reads
 use Rattle.refusals.proofs.accepted.Reads as accepted-reads
 

@@ -9,8 +9,8 @@ use Rattle.preview.proofs.check.Statement.{statement}
 use Rattle.preview.proofs.check.Tie as tie
 use Rattle.preview.proofs.check.Reads as reads
 use Rattle.preview.proofs.check.Lts as lts
-use Rattle.bands.proofs.check_band.Reads as check-band-reads
 use Rattle.preview.proofs.are_words.Reads as are-words-reads
+use Rattle.bands.proofs.check_band.Reads as check-band-reads
 use Rattle.refusals.proofs.accepted.Reads as accepted-reads
 
 -- the test of the band

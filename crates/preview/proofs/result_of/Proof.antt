@@ -5,10 +5,10 @@ use native.Mathlib.Nat.{le-of-lt}
 use lib.Dec.{lit≤}
 use lib.IntN.{ℤ}
 use lib.Ieee.{Float, binary64, ofBits, ofInt, lt}
+use Rattle.bands.specs.Words.{wordLow, wordHigh}
 use Rattle.floats.specs.Whole.{wholeOf}
 use Rattle.floats.proofs.WholeNumbers.{Whole, of-whole}
 use Rattle.floats.proofs.Quotient.{quotient-roundable, quotient-whole}
-use Rattle.bands.specs.Words.{wordLow, wordHigh}
 use Rattle.section.specs.Equation.{sumShift, worked}
 use Rattle.preview.specs.Carried.{float}
 use Rattle.preview.proofs.Results.{rounded, chosen}

@@ -16,8 +16,8 @@ use Rattle.reading.proofs.read.Statement.{statement}
 use Rattle.reading.proofs.read.Tie as tie
 use Rattle.reading.proofs.read.Reads as reads
 use Rattle.reading.proofs.read.Lts as lts
-use Rattle.numbers.proofs.unit_of.Reads as unit-of-reads
 use Rattle.reading.proofs.read_numbers.Reads as read-numbers-reads
+use Rattle.numbers.proofs.unit_of.Reads as unit-of-reads
 use Rattle.refusals.proofs.accepted.Reads as accepted-reads
 
 -- ---- the sheet read

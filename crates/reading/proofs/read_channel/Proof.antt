@@ -8,20 +8,20 @@ use lib.Seq.{drop-drop}
 use denote.Ref.{now}
 use borrow.Author.Needs.{needs}
 use borrow.Author.Tests.{not-true, not-false}
-use Rattle.bands.specs.Bands.{bandCount}
 use Rattle.refusals.specs.Numbers.{isAccepted}
+use Rattle.bands.specs.Bands.{bandCount}
 use Rattle.sheet.specs.declared.Line.the-variants.{Section, Left}
 use Rattle.sheet.specs.Lines.{channelRanges, lineSize}
 use Rattle.line_reading.specs.Parts.{Part, plainPart}
-use Rattle.reading.specs.Parts.{linesPart}
 use Rattle.line_reading.proofs.Parts.{restored, stored-length, on, off}
 use Rattle.line_reading.proofs.Whole.{field-numbers-length, plain-numbers}
+use Rattle.reading.specs.Parts.{linesPart}
 use Rattle.reading.proofs.read_channel.Statement.{statement}
 use Rattle.reading.proofs.read_channel.Tie as tie
 use Rattle.reading.proofs.read_channel.Reads as reads
 use Rattle.reading.proofs.read_channel.Lts as lts
-use Rattle.line_reading.proofs.read_head.Reads as read-head-reads
 use Rattle.reading.proofs.read_sections.Reads as read-sections-reads
+use Rattle.line_reading.proofs.read_head.Reads as read-head-reads
 use Rattle.refusals.proofs.accepted.Reads as accepted-reads
 
 module _ (c : lts.Start (read-head-reads.Asked, read-head-reads.Learnt, accepted-reads.Asked, accepted-reads.Learnt, read-sections-reads.Asked, read-sections-reads.Learnt) reads.Pre reads.Post) where

@@ -9,17 +9,17 @@ use lib.ListN.{drop, replicate}
 use denote.Ref.{now}
 use borrow.Author.Needs.{needs}
 use borrow.Author.Tests.{not-true, not-false}
-use Rattle.numbers.specs.Layout.{leftPlace}
-use Rattle.unit.specs.Sizes.{channelSize}
-use Rattle.bands.specs.Bands.{bandCount, setSize}
 use Rattle.refusals.specs.Numbers.{isAccepted}
+use Rattle.bands.specs.Bands.{bandCount, setSize}
+use Rattle.unit.specs.Sizes.{channelSize}
 use Rattle.unit.specs.Fit.{isVolume}
+use Rattle.numbers.specs.Layout.{leftPlace}
 use Rattle.sheet.specs.declared.Line.the-variants.{Volume, Band, Left, Right}
 use Rattle.sheet.specs.Lines.{lines, letterOf, bandsAt, leftAt, rightAt}
 use Rattle.line_reading.specs.Parts.{Part, andThen, linePart, ReadGives}
-use Rattle.reading.specs.Parts.{linesPart, channelPart}
 use Rattle.line_reading.proofs.Parts.{restored, stored-length, Leads, on, off}
 use Rattle.line_reading.proofs.Whole.{line-long}
+use Rattle.reading.specs.Parts.{linesPart, channelPart}
 use Rattle.reading.proofs.Sheet.{sheet-parts, channel-long, bands-long}
 use Rattle.reading.proofs.read_lines.Statement.{statement}
 use Rattle.reading.proofs.read_lines.Tie as tie

@@ -9,8 +9,8 @@ use Rattle.settings.proofs.check_factor.Statement.{statement}
 use Rattle.settings.proofs.check_factor.Tie as tie
 use Rattle.settings.proofs.check_factor.Reads as reads
 use Rattle.settings.proofs.check_factor.Lts as lts
-use Rattle.floats.proofs.is_finite.Reads as is-finite-reads
 use Rattle.settings.proofs.is_factor.Reads as is-factor-reads
+use Rattle.floats.proofs.is_finite.Reads as is-finite-reads
 
 -- what the first test has shown, and what the second then tells
 module _ (c : lts.After-is-factor (is-finite-reads.Asked, is-finite-reads.Learnt, is-factor-reads.Asked, is-factor-reads.Learnt) reads.Pre reads.Post) where

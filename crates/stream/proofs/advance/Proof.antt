@@ -18,9 +18,9 @@ use Rattle.stream.proofs.advance.Statement.{statement}
 use Rattle.stream.proofs.advance.Tie as tie
 use Rattle.stream.proofs.advance.Reads as reads
 use Rattle.stream.proofs.advance.Lts as lts
+use Rattle.stream.proofs.keep_tail.Reads as keep-tail-reads
 use Rattle.blocks.proofs.play.Reads as play-reads
 use Rattle.refusals.proofs.accepted.Reads as accepted-reads
-use Rattle.stream.proofs.keep_tail.Reads as keep-tail-reads
 
 slice-aggregate-play : tie.Need-slice-aggregate-play
 slice-aggregate-play c = simp length-take (omega arith)

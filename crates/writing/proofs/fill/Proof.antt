@@ -10,9 +10,9 @@ use Rattle.writing.proofs.fill.Statement.{statement}
 use Rattle.writing.proofs.fill.Tie as tie
 use Rattle.writing.proofs.fill.Reads as reads
 use Rattle.writing.proofs.fill.Lts as lts
+use Rattle.writing.proofs.put_lines.Reads as put-lines-reads
 use Rattle.fitness.proofs.is_fit.Reads as is-fit-reads
 use Rattle.numbers.proofs.numbers_of.Reads as numbers-of-reads
-use Rattle.writing.proofs.put_lines.Reads as put-lines-reads
 
 returns : tie.Need-returns
 returns c = short-filled (c .before .before .args .unit) (now (c .before .before .args .out)) (omega arith)

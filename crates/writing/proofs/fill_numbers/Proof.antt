@@ -12,9 +12,9 @@ use Rattle.writing.proofs.fill_numbers.Statement.{statement}
 use Rattle.writing.proofs.fill_numbers.Tie as tie
 use Rattle.writing.proofs.fill_numbers.Reads as reads
 use Rattle.writing.proofs.fill_numbers.Lts as lts
+use Rattle.writing.proofs.put_lines.Reads as put-lines-reads
 use Rattle.fitness.proofs.is_fit.Reads as is-fit-reads
 use Rattle.numbers.proofs.unit_of.Reads as unit-of-reads
-use Rattle.writing.proofs.put_lines.Reads as put-lines-reads
 
 returns : tie.Need-returns
 returns c = short-filled (unitOf (now (c .before .before .args .numbers))) (now (c .before .before .args .buffer)) (omega arith)

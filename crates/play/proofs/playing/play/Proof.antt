@@ -9,8 +9,8 @@ use Rattle.play.proofs.playing.play.Statement.{statement}
 use Rattle.play.proofs.playing.play.Tie as tie
 use Rattle.play.proofs.playing.play.Reads as reads
 use Rattle.play.proofs.playing.play.Lts as lts
-use Rattle.io.proofs.large_buffer.Reads as large-buffer-reads
 use Rattle.play.proofs.playing.turn.Reads as turn-reads
+use Rattle.io.proofs.large_buffer.Reads as large-buffer-reads
 
 abbrev Inv-loop : tie.InvT-loop
 Inv-loop input₀ output₀ stream₀ turns₀ input output stream turns =
