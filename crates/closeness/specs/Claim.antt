@@ -247,7 +247,7 @@ pub record Close (bands : List Band) (n : ℕ) (s : ℤ) (e : Exact) : Type 0 wh
 abbrev pub startingUnit : ℕ → List ℤ → Unit
 startingUnit channels set = clearedUnit channels (bandsOf set)
 
--- a list startingUnit so, and one of its channels
+-- a list begun so, and one of its channels
 module _ (channels channel : ℕ) (set : List ℤ) (calls : List Call) where
   -- all frames of the list: the samples, whether a section limits, and the exact reckoning
   abbrev pub allSamples : List ℤ
