@@ -134,8 +134,9 @@ pub extern "C" fn fonddrys_order_position(
     lending::order(numbers, side, band, Setting::Position(position))
 }
 
-// Orders a band of a side, or the volume (band 10 of side 2), to a factor from -1 (from 0 for the volume) to below 1. Answer and lent numbers are
-// as for a position.
+// Orders a band of a side, or the volume (band 10 of side 2), to a factor from -1 (from 0 for the volume) to below 1. The
+// lent numbers are then those of the unit after the order. 0 for an accepted order, else the number of its refusal: the lent numbers are then as they
+// were.
 #[no_mangle]
 pub extern "C" fn fonddrys_order_factor(
     numbers: &mut [i32; numbers::UNIT_SIZE],
@@ -148,7 +149,8 @@ pub extern "C" fn fonddrys_order_factor(
     lending::order(numbers, side, band, Setting::Factor(factor))
 }
 
-// Mutes a band of a side, or the volume (band 10 of side 2): the target 0. Answer and lent numbers are as for a position.
+// Mutes a band of a side, or the volume (band 10 of side 2): the target 0. The lent numbers are then those of the unit after the
+// order. 0 for an accepted order, else the number of its refusal: the lent numbers are then as they were.
 #[no_mangle]
 pub extern "C" fn fonddrys_order_mute(
     numbers: &mut [i32; numbers::UNIT_SIZE],

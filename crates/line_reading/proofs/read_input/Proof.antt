@@ -1,4 +1,4 @@
--- `line_reading::read_input` meets its contract.
+-- `line_reading::read_input` meets its contract: the field's number, tested as it was read, is stored where it is an input.
 use mathlib.Core.Path.{_≡_, sym, ap, _∙_}
 use denote.Ref.{now}
 use mir.Syntax.{w32}
@@ -14,23 +14,13 @@ use Rattle.line_reading.proofs.read_input.Lts as lts
 use Rattle.field_reading.proofs.read_field.Reads as read-field-reads
 use Rattle.fitness.proofs.input_fits.Reads as input-fits-reads
 
--- src/lib.rt:170:9
-read-field-requires : tie.Need-read-field-requires
-read-field-requires c κs = search needs
-
--- src/lib.rt:172:9
 returns : tie.Need-returns
 returns c =
     let s = c .before .before .before in
     field-badly isInput (now (s .args .bytes)) (s .args .at) (s .pre .0) (c .before .read-field .result) (c .before .read-field .ok) (c .before .read-field .ensures) (c .if1 .taken)
 
--- src/lib.rt:174:29
 cast-input-fits : tie.Need-cast-input-fits
 cast-input-fits c = widen-need tt (c .before .read-field .result) (record { sfits = c .before .read-field .ok })
-
--- src/lib.rt:174:9
-input-fits-requires : tie.Need-input-fits-requires
-input-fits-requires c κs = search needs
 
 -- ---- the number tested
 
@@ -40,7 +30,6 @@ module _ (c : lts.After-input-fits (read-field-reads.Asked, read-field-reads.Lea
       c .input-fits .ensures
       ∙ ap isInput (widened tt (c .before .before .read-field .result) (record { sfits = c .before .before .read-field .ok }) .reads)
 
--- src/lib.rt:175:9
 returns-2 : tie.Need-returns-2
 returns-2 c =
     let o = c .before in
@@ -49,15 +38,6 @@ returns-2 c =
     field-outside isInput (now (s .args .bytes)) (s .args .at) (s .pre .0) (f .read-field .result) (f .read-field .ok) (f .read-field .ensures) (o .before .if1 .left)
     (sym (test-is o) ∙ not-true _ (c .if2 .taken))
 
--- src/lib.rt:177:5
-mul-input : tie.Need-mul-input
-mul-input c = search needs
-
--- src/lib.rt:177:5
-element-set-from-input : tie.Need-element-set-from-input
-element-set-from-input c = search needs
-
--- src/lib.rt:166:1
 returns-3 : tie.Need-returns-3
 returns-3 c =
     let o = c .before in
@@ -70,11 +50,11 @@ pub read-input-spec : {M : Type 1} → statement M
 read-input-spec =
     tie.close
     (tie.spec
-    read-field-requires
+    (λ c κs. search needs)
     returns
     cast-input-fits
-    input-fits-requires
+    (λ c κs. search needs)
     returns-2
-    mul-input
-    element-set-from-input
+    (λ c. search needs)
+    (λ c. search needs)
     returns-3)
