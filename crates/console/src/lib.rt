@@ -1,7 +1,9 @@
 // What the programs share: a refusal's line, and reading and writing that says what failed.
+ghost use mathlib.Core.Path.{_≡_};
 ghost use Prim.Native.Nat.{_≤_};
 ghost use lib.ListN.{length};
 ghost use Rattle.io.specs.Counts.{Counts};
+ghost use Rattle.console.specs.Answers.{refusalLine};
 ghost use Rattle.console.specs.Reads.{ReceiveGives};
 use refusals::Verdict;
 
@@ -12,11 +14,31 @@ pub struct Received {
     pub is_failed: bool,
 }
 
-// A refusal: one line on standard error, its number.
-pub fn refuse(verdict: Verdict) {
-    let number = refusals::number(verdict);
-    io::print_decimal(libc::STDERR_FILENO, number as u64);
-    io::write_all(libc::STDERR_FILENO, b"\n");
+// A refusal's number, in one line on standard error; of an accepted call nothing is said.
+pub fn answer(verdict: Verdict) {
+    if refusals::accepted(verdict) {
+        return;
+    }
+    let number = refusals::number(verdict) as u8;
+    if number < 10 {
+        say(verdict, &[fields::ZERO + number, sheet::LINE_FEED]);
+        return;
+    }
+    say(
+        verdict,
+        &[
+            fields::ZERO + number / 10,
+            fields::ZERO + number % 10,
+            sheet::LINE_FEED,
+        ],
+    );
+}
+
+// Writes the line of a refusal.
+fn say(verdict: Verdict, line: &[u8])
+    requires { ⌜ now line ≡ refusalLine verdict ⌝ }
+{
+    io::write_all(libc::STDERR_FILENO, line);
 }
 
 // Reads once, behind the bytes that are held at the front of the buffer. Where that fails a message says so, by the name of what is read.

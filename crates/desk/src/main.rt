@@ -1,77 +1,82 @@
 // Gives one level order to a strip sheet: the sheet from standard input, the order from the arguments, the sheet after it to standard
 // output. The arguments are side (0 left, 1 right, 2 both), band (0 to 9, or 10 for the volume) and position (0 to 31, or "mute").
-// A refusal is one line on standard error, its number, and nothing is written.
+// A refusal is one line on standard error, its number, and nothing is written. What the arguments mean is decided in `arguments`, and what is
+// answered in `decisions`; here it is followed.
 ghost use mathlib.Core.Path.{_≡_};
-ghost use Rattle.desk.specs.Order.{deskVerdict, deskSheet};
-
-mod arguments;
-
-use arguments::NONE;
+ghost use mathlib.Core.Bool.{true, false};
+ghost use Rattle.arguments.specs.Meaning.{isOrder, orderIn};
+ghost use Rattle.decisions.specs.Decisions.{deskVerdict, HandsOut};
 use refusals::Verdict;
-use settings::Setting;
 
+// Takes the arguments. One that is missing, or longer than a field, counts as empty.
 fn main() {
-    let side = arguments::number(1);
-    let band = arguments::number(2);
-    if side == NONE || band == NONE {
-        say_usage();
-        return;
-    }
-    if arguments::is_mute(3) {
-        read_sheet(side, band, Setting::Mute);
-        return;
-    }
-    let position = arguments::number(3);
-    if position == NONE {
-        say_usage();
-        return;
-    }
-    read_sheet(side, band, Setting::Position(arguments::byte(position)));
+    let mut side = [0u8; fields::FIELD_SIZE];
+    let mut band = [0u8; fields::FIELD_SIZE];
+    let mut level = [0u8; fields::FIELD_SIZE];
+    let side_size = os::arg(1, &mut side);
+    let band_size = os::arg(2, &mut band);
+    let level_size = os::arg(3, &mut level);
+    start(
+        os::arg_count(),
+        &side[..side_size],
+        &band[..band_size],
+        &level[..level_size],
+    );
 }
 
-fn say_usage() {
+// Gives the order that the arguments mean, or says how desk is used.
+fn start(count: usize, side: &[u8], band: &[u8], level: &[u8]) {
+    if !arguments::is_order(count, side, band, level) {
+        say_usage(count, side, band, level);
+        return;
+    }
+    read_sheet(count, side, band, level);
+}
+
+// How desk is used, where the arguments are no order.
+fn say_usage(count: usize, side: &[u8], band: &[u8], level: &[u8])
+    requires { ⌜ isOrder count (now side) (now band) (now level) ≡ false ⌝ }
+{
     io::write_all(
         libc::STDERR_FILENO,
         b"desk SIDE BAND POSITION: side 0 to 2, band 0 to 10, position 0 to 31 or mute\n",
     );
 }
 
-// Reads the sheet, gives the order, and writes the sheet after it.
-fn read_sheet(side: u32, band: u32, setting: Setting) {
+// Reads the sheet, for arguments that are an order.
+fn read_sheet(count: usize, side: &[u8], band: &[u8], level: &[u8])
+    requires { ⌜ isOrder count (now side) (now band) (now level) ≡ true ⌝ }
+{
     let mut bytes = [0u8; sheet::SHEET_ROOM];
     let received = console::receive_all(libc::STDIN_FILENO, b"standard input", &mut bytes);
     if received.is_failed {
         return;
     }
-    let count = received.count;
-    let mut sheet = [0u8; sheet::SHEET_SIZE];
-    let verdict = order(&bytes[..count], side, band, setting, &mut sheet);
-    if !refusals::accepted(verdict) {
-        console::refuse(verdict);
-        return;
-    }
-    console::write_out(&sheet);
+    let size = received.count;
+    order(side, band, level, &bytes[..size]);
 }
 
-// The order to the unit that these bytes carry. The answer is the sheet's refusal, or then the order's. Accepted, the sheet after the order
-// is at the front of the buffer; refused, the buffer is unchanged.
-fn order(bytes: &[u8], side: u32, band: u32, setting: Setting, sheet: &mut [u8]) -> Verdict
-    ensures { λ r. ⌜ (r ≡ deskVerdict (now (bytes .entry)) side band setting) × (now (sheet .exit) ≡ deskSheet (now (bytes .entry)) side band setting (now (sheet .entry))) ⌝ }
+// Gives the order to the sheet of these bytes.
+fn order(side: &[u8], band: &[u8], level: &[u8], bytes: &[u8]) {
+    let mut sheet = [0u8; sheet::SHEET_SIZE];
+    let verdict = decisions::order(side, band, level, bytes, &mut sheet);
+    answer(side, band, level, bytes, verdict);
+    if !refusals::accepted(verdict) {
+        return;
+    }
+    hand_out(side, band, level, bytes, &sheet);
+}
+
+// What is said of the order to the sheet of these bytes.
+fn answer(side: &[u8], band: &[u8], level: &[u8], bytes: &[u8], verdict: Verdict)
+    requires { ⌜ verdict ≡ deskVerdict (now bytes) (orderIn (now side) (now band) (now level)) ⌝ }
 {
-    let set = bands::house_set();
-    let house = loading::load(&set);
-    let given = house.unit;
-    let read = reading::read(bytes, given);
-    let found = read.verdict;
-    if !refusals::accepted(found) {
-        return found;
-    }
-    let unit = read.unit;
-    let ordered = orders::order(unit, side, band, setting);
-    let verdict = ordered.verdict;
-    if refusals::accepted(verdict) {
-        let after = ordered.unit;
-        writing::fill(after, sheet);
-    }
-    verdict
+    console::answer(verdict);
+}
+
+// Writes the sheet after the order to standard output.
+fn hand_out(side: &[u8], band: &[u8], level: &[u8], bytes: &[u8], sheet: &[u8])
+    requires { ⌜ HandsOut (now bytes) (orderIn (now side) (now band) (now level)) (now sheet) ⌝ }
+{
+    console::write_out(sheet);
 }

@@ -1,16 +1,16 @@
 -- A turn is the next read of the stream, and turns are one block of all that was read.
-use mathlib.Core.Path.{_≡_, refl, sym, ap, ap₂, _∙_, subst}
+use mathlib.Core.Path.{_≡_, sym, ap, ap₂, _∙_, subst}
 use mathlib.Core.List.{List, [], _++_}
-use Prim.Native.Nat.{ℕ, _%_, _≤_, _<_}
+use Prim.Native.Nat.{ℕ, _+_, _≤_, _<_}
 use native.Mathlib.Nat.{mod-lt}
 use native.Mathlib.Omega.{arith}
 use lib.Dec.{lit≤}
-use lib.ListN.{length, take, length-take}
-use lib.Seq.{length-take-le, take-append-le}
+use lib.ListN.{length, take, drop, length-take, length-drop}
+use lib.Seq.{length-take-le, take-append-le, take-at}
 use Rattle.unit.specs.declared.Unit.{Unit}
 use Rattle.unit.specs.Fit.{Fit}
 use Rattle.stream.specs.declared.Advanced.{Advanced}
-use Rattle.stream.specs.Advance.{advanced, advancedOutput, advancedInput}
+use Rattle.stream.specs.Advance.{advanced, advancedOutput, tailFirst}
 use Rattle.stream.specs.Claim.{Stream, oneBlock, begun, next, Advances, Ready}
 use Rattle.stream.proofs.Cuts.{tail-length}
 use Rattle.stream.proofs.Holds.{block-next, begun-empty, cut-anywhere}
@@ -35,62 +35,74 @@ module _ (p : Progress) (input input' output : List ℕ) (r : Received) (can : T
   advances : Advances s (read .bytes) output
   advances = cut-anywhere .advances s (read .bytes) output (can .ready) (omega (arith, piece-length, read .count-fits, read .length-is, can .output-room))
 
-  held-length : length (next s (read .bytes) .held) ≡ length piece % 4
+  -- what was asked of the unit, the input and the output
+  abbrev answer : Advanced
+  answer = advanced 2 (p .unit) piece (length output)
+
+  piece-is : take (r .count) input' ≡ piece
+  piece-is = read .front-is
+
+  -- less than a frame is held
+  tail-few : length (next s (read .bytes) .held) < 4
   unfolding next oneBlock
-  held-length = tail-length piece
+  tail-few = subst (λ (n : ℕ). n < 4) (sym (tail-length piece)) (mod-lt (length piece) {m = 4} (lit≤ tt))
 
-  held-of : advanced 2 (p .unit) piece (length output) .held ≡ length piece % 4
-  unfolding advanced
-  held-of = refl
+  module _ (a : Advanced) (answers : a ≡ advanced 2 (p .unit) (take (r .count) input') (length output)) where
+    answer-is : a ≡ answer
+    answer-is = answers ∙ ap (λ (l : List ℕ). advanced 2 (p .unit) l (length output)) piece-is
 
-  -- what stands at the front of the output is their sound
-  pub sounded : (a : Advanced) (output' : List ℕ) → a ≡ advanced 2 (p .unit) (take (r .count) input') (length output) → output' ≡ advancedOutput 2 (p .unit) (take (r .count) input') output → IsSound (take (a .whole) output')
-  unfolding next
-  sounded a output' answer sounds =
-      record {
-        unit = p .unit;
-        input = piece;
-        fit = can .ready .fit;
-        bytes-are =
-            ap₂ take (ap (λ (v : Advanced). v .whole) answer) sounds
-            ∙ ap (λ (l : List ℕ). take (advanced 2 (p .unit) l (length output) .whole) (advancedOutput 2 (p .unit) l output)) (read .front-is)
-            ∙ advances .sound-is;
-      }
+    -- what stands at the front of the output is the piece's sound
+    pub sounded : (output' : List ℕ) → output' ≡ advancedOutput 2 (p .unit) (take (r .count) input') output → IsSound (p .unit) (take (r .count) input') (take (a .played) output')
+    unfolding next
+    sounded output' sounds =
+        record {
+          fit = can .ready .fit;
+          sound-is =
+              ap₂ take (ap (λ (v : Advanced). v .played) answer-is) (sounds ∙ ap (λ (l : List ℕ). advancedOutput 2 (p .unit) l output) piece-is)
+              ∙ advances .sound-is
+              ∙ ap (λ (l : List ℕ). oneBlock (p .unit) l .sound) (sym piece-is);
+        }
 
-  pub turn-gives : (a : Advanced) (kept rest : List ℕ) (after : Progress) → a ≡ advanced 2 (p .unit) (take (r .count) input') (length output) → kept ≡ advancedInput 2 (p .unit) (take (r .count) input') (length output) → after .unit ≡ a .unit → after .held ≡ a .held → TurnGives p input after (kept ++ rest)
-  turn-gives a kept rest after answer keeps unit-after held-after =
-      record {
-        bytes = read .bytes;
-        unit-is = unit-is';
-        held-is = take-append-le (after .held) kept rest enough ∙ front;
-        held-count = count ∙ sym held-length;
-        held-few = subst (λ (n : ℕ). n < 4) (sym count) (mod-lt (length piece) {m = 4} (lit≤ tt));
-        ready = record { fit = subst Fit (sym unit-is') (after-ready .fit); channels-are = ap (λ (u : Unit). length (u .channels)) unit-is' ∙ after-ready .channels-are };
-      }
-    where
-      answer' : a ≡ advanced 2 (p .unit) piece (length output)
-      answer' = answer ∙ ap (λ (l : List ℕ). advanced 2 (p .unit) l (length output)) (read .front-is)
+    -- what is held
+    rest-is : drop (a .played) (take (r .count) input') ≡ next s (read .bytes) .held
+    rest-is = ap₂ drop (ap (λ (v : Advanced). v .played) answer-is) piece-is ∙ advances .held-is
 
-      keeps' : kept ≡ advancedInput 2 (p .unit) piece (length output)
-      keeps' = keeps ∙ ap (λ (l : List ℕ). advancedInput 2 (p .unit) l (length output)) (read .front-is)
+    held-is : a .held ≡ length (next s (read .bytes) .held)
+    held-is = ap (λ (v : Advanced). v .held) answer-is ∙ advances .held-count
 
-      unit-is' : after .unit ≡ next s (read .bytes) .unit
-      unit-is' = unit-after ∙ ap (λ (v : Advanced). v .unit) answer' ∙ advances .unit-is
+    -- the tail is within the piece, and less than a frame
+    pub tail-fits : (a .played ≤ length (take (r .count) input')) × (length (take (r .count) input') ≤ a .played + 4)
+    tail-fits = (few, omega (arith, few, ap length rest-is, length-drop (a .played) (take (r .count) input'), tail-few))
+      where
+        few : a .played ≤ length (take (r .count) input')
+        few = omega (arith, ap (λ (v : Advanced). v .played) answer-is, ap length piece-is, advances .played-few)
 
-      after-ready : Ready (next s (read .bytes))
-      after-ready = cut-anywhere .stays-ready s (read .bytes) (can .ready)
+    pub turn-gives : (kept rest : List ℕ) (after : Progress) → kept ≡ tailFirst (a .played) (take (r .count) input') → after .unit ≡ a .unit → after .held ≡ a .held → TurnGives p input after (kept ++ rest)
+    unfolding tailFirst
+    turn-gives kept rest after keeps unit-after held-after =
+        record {
+          bytes = read .bytes;
+          unit-is = unit-is';
+          held-is = take-append-le (after .held) kept rest enough ∙ front;
+          held-count = held-after ∙ held-is;
+          held-few = subst (λ (n : ℕ). n < 4) (sym (held-after ∙ held-is)) tail-few;
+          ready = record { fit = subst Fit (sym unit-is') (after-ready .fit); channels-are = ap (λ (u : Unit). length (u .channels)) unit-is' ∙ after-ready .channels-are };
+        }
+      where
+        unit-is' : after .unit ≡ next s (read .bytes) .unit
+        unit-is' = unit-after ∙ ap (λ (v : Advanced). v .unit) answer-is ∙ advances .unit-is
 
-      held-is' : after .held ≡ advanced 2 (p .unit) piece (length output) .held
-      held-is' = held-after ∙ ap (λ (v : Advanced). v .held) answer'
+        after-ready : Ready (next s (read .bytes))
+        after-ready = cut-anywhere .stays-ready s (read .bytes) (can .ready)
 
-      count : after .held ≡ length piece % 4
-      count = held-is' ∙ held-of
+        held-length : length (drop (a .played) (take (r .count) input')) ≡ after .held
+        held-length = ap length rest-is ∙ sym (held-after ∙ held-is)
 
-      front : take (after .held) kept ≡ next s (read .bytes) .held
-      front = ap₂ take held-is' keeps' ∙ advances .held-is
+        front : take (after .held) kept ≡ next s (read .bytes) .held
+        front = ap (take (after .held)) keeps ∙ take-at (drop (a .played) (take (r .count) input')) (drop (length (drop (a .played) (take (r .count) input'))) (take (r .count) input')) (after .held) held-length ∙ rest-is
 
-      enough : after .held ≤ length kept
-      enough = omega (arith, count, held-length, ap length front, length-take (after .held) kept)
+        enough : after .held ≤ length kept
+        enough = omega (arith, held-after ∙ held-is, ap length front, length-take (after .held) kept)
 
 -- ---- turns
 

@@ -6,8 +6,7 @@ use Rattle.unit.specs.declared.Unit.{Unit}
 use Rattle.unit.specs.Fit.{Fit}
 use Rattle.writing.specs.Written.{sheetOf}
 
--- the bytes are the sheet of a fit unit
-pub record IsSheet (bytes : List ℕ) : Type 0 where
-  pub unit : Unit
-  pub fit : Fit unit
-  pub bytes-are : bytes ≡ sheetOf unit
+-- the bytes are the sheet of this unit, which is fit
+pub record IsSheet (u : Unit) (bytes : List ℕ) : Type 0 where
+  pub fit : Fit u
+  pub bytes-are : bytes ≡ sheetOf u

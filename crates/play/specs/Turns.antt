@@ -20,12 +20,10 @@ pub record TurnAsks (p : Progress) (input output : List ℕ) : Type 0 where
   pub input-room : 4 ≤ length input
   pub output-room : length input ≤ length output
 
--- the bytes are the sound of the whole frames of an input, through a fit unit
-pub record IsSound (bytes : List ℕ) : Type 0 where
-  pub unit : Unit
-  pub input : List ℕ
-  pub fit : Fit unit
-  pub bytes-are : bytes ≡ oneBlock unit input .sound
+-- the sound is that of a piece's whole frames through this unit, which is fit
+pub record IsSound (u : Unit) (piece sound : List ℕ) : Type 0 where
+  pub fit : Fit u
+  pub sound-is : sound ≡ oneBlock u piece .sound
 
 -- a turn is the next read of the stream
 pub record TurnGives (p : Progress) (input : List ℕ) (after : Progress) (input' : List ℕ) : Type 0 where

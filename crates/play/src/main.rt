@@ -1,11 +1,16 @@
 // Plays a sound through a strip sheet: the sheet from strip.sht, frames from standard input to standard output, and the sheet after them
-// to strip.new. A refusal is one line on standard error, its number.
-ghost use Rattle.unit.specs.Fit.{Fit};
+// to strip.new. A refusal is one line on standard error, its number. What is answered is decided in `decisions`; here it is followed.
+ghost use mathlib.Core.Path.{_≡_};
+ghost use Rattle.roundtrip.specs.Claim.{ReadsAs};
+ghost use Rattle.decisions.specs.Decisions.{opened, endingOf};
+ghost use Rattle.play.specs.Turns.{PlayGives};
 
 mod playing;
 mod saving;
 
+use playing::Progress;
 use refusals::Verdict;
+use unit::Unit;
 
 fn main() {
     let fd = os::open_read(b"strip.sht");
@@ -31,31 +36,52 @@ fn read_sheet(fd: i32) {
 
 // Plays through the sheet of these bytes. After a refused one nothing is played or written.
 fn start(bytes: &[u8]) {
-    let house = loading::load(&bands::house_set());
-    let given = house.unit;
-    let read = reading::read(bytes, given);
-    let verdict = read.verdict;
+    let opening = decisions::opening(bytes);
+    let verdict = opening.verdict;
+    answer_sheet(bytes, verdict);
     if !refusals::accepted(verdict) {
-        console::refuse(verdict);
         return;
     }
     if !saving::can_save() {
         return;
     }
-    let unit = read.unit;
-    finish(playing::play(unit));
+    let unit = opening.unit;
+    pass(bytes, unit);
 }
 
-// The sheet is written, and then a tail is refused. Where sound was lost on its way out there is no sheet.
-fn finish(stream: playing::Progress)
-    requires { ⌜ Fit (stream .unit) ⌝ }
+// What is said of the sheet of these bytes.
+fn answer_sheet(bytes: &[u8], verdict: Verdict)
+    requires { ⌜ verdict ≡ opened (now bytes) .verdict ⌝ }
 {
-    if stream.is_lost {
-        return;
+    console::answer(verdict);
+}
+
+// A pass through the unit that the sheet of these bytes carries.
+fn pass(bytes: &[u8], unit: Unit)
+    requires { ⌜ ReadsAs (now bytes) unit ⌝ }
+{
+    let stream = playing::play(unit);
+    finish(unit, stream);
+}
+
+// The end of a pass that began with this unit: the sheet, and what is said of a tail.
+fn finish(begun: Unit, stream: Progress)
+    requires { ⌜ PlayGives begun stream ⌝ }
+{
+    let is_lost = stream.is_lost;
+    let held = stream.held;
+    let ending = decisions::ending(is_lost, held);
+    let verdict = ending.verdict;
+    if ending.is_saved {
+        let unit = stream.unit;
+        saving::save(unit);
     }
-    let unit = stream.unit;
-    saving::save(unit);
-    if stream.held > 0 {
-        console::refuse(Verdict::InputLength);
-    }
+    answer_end(is_lost, held, verdict);
+}
+
+// What is said at the end of a pass.
+fn answer_end(is_lost: bool, held: usize, verdict: Verdict)
+    requires { ⌜ verdict ≡ endingOf «is_lost» held .verdict ⌝ }
+{
+    console::answer(verdict);
 }

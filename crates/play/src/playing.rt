@@ -44,10 +44,11 @@ fn turn(stream: Progress, input: &mut [u8], output: &mut [u8]) -> Progress
     let received = console::receive(libc::STDIN_FILENO, b"standard input", input, stream.held);
     let count = received.count;
     let unit = stream.unit;
-    let advanced = stream::advance(unit, &mut input[..count], output);
+    let advanced = stream::advance(unit, &input[..count], output);
     let after = advanced.unit;
-    let whole = advanced.whole;
-    let is_written = send(&output[..whole]);
+    let played = advanced.played;
+    let is_written = send(unit, &input[..count], &output[..played]);
+    stream::keep_tail(&mut input[..count], played);
     Progress {
         unit: after,
         held: advanced.held,
@@ -56,9 +57,9 @@ fn turn(stream: Progress, input: &mut [u8], output: &mut [u8]) -> Progress
     }
 }
 
-// Writes sound to standard output. Where that fails a message says so.
-fn send(sound: &[u8]) -> bool
-    requires { ⌜ IsSound (now sound) ⌝ }
+// Writes the sound of this piece through this unit to standard output. Where that fails a message says so.
+fn send(unit: Unit, piece: &[u8], sound: &[u8]) -> bool
+    requires { ⌜ IsSound unit (now piece) (now sound) ⌝ }
 {
     console::write_out(sound)
 }

@@ -41,22 +41,22 @@ pub fn save(unit: Unit)
 {
     let mut bytes = [0u8; sheet::SHEET_SIZE];
     let sheet = writing::write(unit, &mut bytes);
-    if !store(sheet) {
+    if !store(unit, sheet) {
         os::unlink(&PART);
         io::write_all(libc::STDERR_FILENO, sheet);
     }
 }
 
-// The sheet to the file beside strip.new, and that to its place.
-fn store(sheet: &[u8]) -> bool
-    requires { ⌜ IsSheet (now sheet) ⌝ }
+// The unit's sheet to the file beside strip.new, and that to its place.
+fn store(unit: Unit, sheet: &[u8]) -> bool
+    requires { ⌜ IsSheet unit (now sheet) ⌝ }
 {
     let fd = os::open_overwrite(&PART);
     if fd < 0 {
         os::fail(b"strip.new");
         return false;
     }
-    let is_written = put(fd, sheet);
+    let is_written = put(fd, unit, sheet);
     libc::close(fd);
     if !is_written {
         return false;
@@ -68,9 +68,9 @@ fn store(sheet: &[u8]) -> bool
     true
 }
 
-// All bytes to the file, and from there to its device.
-fn put(fd: i32, sheet: &[u8]) -> bool
-    requires { ⌜ IsSheet (now sheet) ⌝ }
+// The unit's sheet to the file, and from there to its device.
+fn put(fd: i32, unit: Unit, sheet: &[u8]) -> bool
+    requires { ⌜ IsSheet unit (now sheet) ⌝ }
 {
     if !io::write_all(fd, sheet) {
         os::fail(b"strip.new");

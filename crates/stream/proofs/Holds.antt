@@ -1,11 +1,11 @@
 -- A stream, cut anywhere, is played as one block.
-use mathlib.Core.Path.{_≡_, refl, sym, ap, _∙_}
+use mathlib.Core.Path.{_≡_, refl, sym, ap, ap₂, _∙_}
 use mathlib.Core.Bool.{true}
 use mathlib.Core.List.{List, [], _∷_, _++_, append-assoc, append-nil}
-use Prim.Native.Nat.{ℕ, _%_, _≤_}
+use Prim.Native.Nat.{ℕ, _-_, _≤_}
 use native.Mathlib.Nat.{le-refl}
 use native.Mathlib.Omega.{arith}
-use lib.ListN.{length, take, drop}
+use lib.ListN.{length, take, drop, length-drop}
 use lib.Seq.{drop-length, take-at}
 use Rattle.refusals.proofs.Laws.{passed, accepted-only}
 use Rattle.refusals.specs.Numbers.{isAccepted}
@@ -17,9 +17,9 @@ use Rattle.frames.proofs.Many.{sound-length, played-channels}
 use Rattle.blocks.specs.Block.{blockPlayed, blockOutput}
 use Rattle.blocks.proofs.Block.{BlockAccepts, accepts-block, four-a-frame}
 use Rattle.blocks.proofs.Append.{accepted-unit, accepted-output, block-fit, block-append-unit, block-append-output}
-use Rattle.stream.specs.Advance.{wholeCount, wholeFrames, tailBytes, advanced, advancedOutput, advancedInput}
+use Rattle.stream.specs.Advance.{wholeCount, wholeFrames, tailBytes, playedCount, advanced, advancedOutput}
 use Rattle.stream.specs.Claim.{Stream, oneBlock, begun, next, streamed, allOf, Advances, Ready, CutAnywhere}
-use Rattle.stream.proofs.Cuts.{whole-length, tail-length, whole-frames, cut-whole, cut-tail}
+use Rattle.stream.proofs.Cuts.{whole-length, whole-frames, cut-whole, cut-tail}
 
 -- ---- a read after others
 
@@ -98,18 +98,21 @@ module _ (s : Stream) (bytes room : List ℕ) (ready : Ready s) (enough : length
   unfolding blockPlayed
   is-accepted = accepts-block 2 u (length frames) (length room) accepts
 
+  played-all : playedCount 2 u input (length room) ≡ wholeCount 2 input
+  played-all = sym (passed (isAccepted (blockPlayed 2 u frames (length room) .verdict)) (wholeCount 2 input) 0 is-accepted)
+
   advances : Advances s bytes room
-  unfolding advanced advancedOutput advancedInput next oneBlock
+  unfolding advanced advancedOutput next oneBlock
   advances =
       record {
         accepts = accepted-only (blockPlayed 2 u frames (length room) .verdict) is-accepted;
         unit-is = accepted-unit 2 u frames (length room) accepts ∙ sym (accepted-unit 2 u frames (length frames) exactly);
-        held-is =
-            ap (take (length input % 4)) (sym (passed (isAccepted (blockPlayed 2 u frames (length room) .verdict)) (tailBytes 2 input ++ drop (length (tailBytes 2 input)) input) input is-accepted))
-            ∙ take-at (tailBytes 2 input) (drop (length (tailBytes 2 input)) input) (length input % 4) (tail-length input);
+        played-few = omega (arith, played-all);
+        held-is = ap (λ (n : ℕ). drop n input) played-all;
+        held-count = ap (λ (n : ℕ). length input - n) played-all ∙ sym (length-drop (wholeCount 2 input) input);
         sound-is =
             ap (λ (l : List ℕ). s .sound ++ l)
-            (ap (take (wholeCount 2 input)) (accepted-output 2 u frames room accepts)
+            (ap₂ take played-all (accepted-output 2 u frames room accepts)
             ∙ take-at heard (drop (length frames) room) (wholeCount 2 input) (heard-length ∙ whole-length input)
             ∙ sym exact-sound);
       }

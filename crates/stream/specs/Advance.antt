@@ -6,6 +6,7 @@ use lib.ListN.{length, take, drop}
 use Rattle.refusals.specs.Numbers.{isAccepted}
 use Rattle.unit.specs.declared.Unit.{Unit}
 use Rattle.frames.specs.Bytes.{frameSize}
+use Rattle.blocks.specs.declared.Played.{Played}
 use Rattle.blocks.specs.Block.{blockPlayed, blockOutput}
 use Rattle.stream.specs.declared.Advanced.{Advanced}
 
@@ -23,21 +24,28 @@ module _ (channels : ℕ) (input : List ℕ) where
   tailBytes = drop wholeCount input
 
 module _ (channels : ℕ) (u : Unit) (input : List ℕ) where
-  -- the answer is that of the block of the whole frames
+  -- the block of the whole frames, with an output of so many bytes
+  abbrev pub pieceBlock : ℕ → Played
+  pieceBlock room = blockPlayed channels u (wholeFrames channels input) room
+
+  -- how many bytes are played: those of the whole frames, or none of a refused piece
+  abbrev pub playedCount : ℕ → ℕ
+  playedCount room = cond (isAccepted (pieceBlock room .verdict)) (wholeCount channels input) 0
+
+  -- the answer is that of the block; the bytes that were not played are held
   unfoldable pub advanced : ℕ → Advanced
   advanced room =
       record {
-        verdict = blockPlayed channels u (wholeFrames channels input) room .verdict;
-        unit = blockPlayed channels u (wholeFrames channels input) room .unit;
-        whole = wholeCount channels input;
-        held = length input % frameSize channels;
+        verdict = pieceBlock room .verdict;
+        unit = pieceBlock room .unit;
+        played = playedCount room;
+        held = length input - playedCount room;
       }
 
-  -- so is the output
+  -- the output is that of the block
   unfoldable pub advancedOutput : List ℕ → List ℕ
   advancedOutput room = blockOutput channels u (wholeFrames channels input) room
 
-  -- the input afterwards: accepted, the tail at its front; refused, unchanged
-  unfoldable pub advancedInput : ℕ → List ℕ
-  advancedInput room =
-      cond (isAccepted (blockPlayed channels u (wholeFrames channels input) room .verdict)) (tailBytes channels input ++ drop (length (tailBytes channels input)) input) input
+-- the bytes from a place on stand at the front; behind them stands what stood there
+unfoldable pub tailFirst : ℕ → List ℕ → List ℕ
+tailFirst from bytes = drop from bytes ++ drop (length (drop from bytes)) bytes

@@ -1,16 +1,15 @@
 -- That a stream, cut anywhere, is played as one block. Definitions only; `CutAnywhere`, at the end, is proved in proofs/Holds.antt.
 --
--- What it rests on. `advanced`, `advancedOutput` and `advancedInput` (specs/Advance.antt) are what the contract of `stream::advance`
--- promises, for all inputs. Under them stand frames (frames/specs/Played.antt), a block of them (blocks/specs/Block.antt) and fitness (unit/specs/Fit.antt).
+-- What it rests on. `advanced` and `advancedOutput` (specs/Advance.antt) are what the contract of `stream::advance` promises, for all inputs. Under them stand frames (frames/specs/Played.antt), a block of them (blocks/specs/Block.antt) and fitness (unit/specs/Fit.antt).
 use mathlib.Core.Path.{_≡_}
 use mathlib.Core.List.{List, [], _∷_, _++_}
 use Prim.Native.Nat.{ℕ, _≤_}
-use lib.ListN.{length, take}
+use lib.ListN.{length, take, drop}
 use Rattle.refusals.specs.declared.Verdict.the-variants.{Accepted}
 use Rattle.unit.specs.declared.Unit.{Unit}
 use Rattle.unit.specs.Fit.{Fit}
 use Rattle.blocks.specs.Block.{blockPlayed, blockOutput}
-use Rattle.stream.specs.Advance.{wholeFrames, tailBytes, advanced, advancedOutput, advancedInput}
+use Rattle.stream.specs.Advance.{wholeFrames, tailBytes, advanced, advancedOutput}
 
 -- a stream between two reads: the unit, the bytes of a frame that is not whole yet, and the sound so far
 pub record Stream : Type 0 where
@@ -48,13 +47,13 @@ allOf (bytes ∷ reads) = bytes ++ allOf reads
 pub record Advances (s : Stream) (bytes room : List ℕ) : Type 0 where
   pub accepts : advanced 2 (s .unit) (s .held ++ bytes) (length room) .verdict ≡ Accepted
   pub unit-is : advanced 2 (s .unit) (s .held ++ bytes) (length room) .unit ≡ next s bytes .unit
-  -- the held bytes stand at the front of the input
-  pub held-is :
-      take (advanced 2 (s .unit) (s .held ++ bytes) (length room) .held) (advancedInput 2 (s .unit) (s .held ++ bytes) (length room))
-      ≡ next s bytes .held
+  -- the held bytes are those behind the played ones
+  pub played-few : advanced 2 (s .unit) (s .held ++ bytes) (length room) .played ≤ length (s .held ++ bytes)
+  pub held-is : drop (advanced 2 (s .unit) (s .held ++ bytes) (length room) .played) (s .held ++ bytes) ≡ next s bytes .held
+  pub held-count : advanced 2 (s .unit) (s .held ++ bytes) (length room) .held ≡ length (next s bytes .held)
   -- the sound stands at the front of the output
   pub sound-is :
-      s .sound ++ take (advanced 2 (s .unit) (s .held ++ bytes) (length room) .whole) (advancedOutput 2 (s .unit) (s .held ++ bytes) room)
+      s .sound ++ take (advanced 2 (s .unit) (s .held ++ bytes) (length room) .played) (advancedOutput 2 (s .unit) (s .held ++ bytes) room)
       ≡ next s bytes .sound
 
 -- a stream that can go on: its unit is fit, and has two channels, as every unit that a program holds

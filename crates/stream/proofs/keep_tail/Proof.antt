@@ -6,6 +6,7 @@ use native.Mathlib.Omega.{arith}
 use lib.ListN.{length, take, drop, replicate, length-drop}
 use lib.Seq.{take-length}
 use denote.Ref.{now}
+use Rattle.stream.specs.Advance.{tailFirst}
 use Rattle.stream.proofs.Copies.{front-copied, rest-from}
 use borrow.Author.Needs.{needs}
 use Rattle.stream.proofs.keep_tail.Statement.{statement}
@@ -40,6 +41,7 @@ copy-requires-2 : tie.Need-copy-requires-2
 copy-requires-2 c κs = omega (arith, ap length (tail-is (c .before .before .before)), tail-length (c .before .before .before))
 
 returns : tie.Need-returns
+unfolding tailFirst
 returns c =
     c .before .before .copy2 .ensures .1
     ∙ ap (λ (l : List ℕ). take (length l) l ++ drop (length l) (input s)) (tail-is s)

@@ -4,10 +4,10 @@ use mathlib.Core.Bool.{Bool, cond}
 use Prim.Native.Nat.{ℕ}
 use native.Mathlib.Omega.{arith}
 use borrow.Author.Tests.{le-leb, lt-leb}
-use Rattle.desk.specs.Arguments.{byteOf}
+use Rattle.arguments.specs.Meaning.{byteOf}
 use borrow.Author.Needs.{needs}
-use Rattle.desk.proofs.arguments.byte.Statement.{statement}
-use Rattle.desk.proofs.arguments.byte.Tie as tie
+use Rattle.arguments.proofs.byte.Statement.{statement}
+use Rattle.arguments.proofs.byte.Tie as tie
 
 returns : tie.Need-returns
 unfolding byteOf

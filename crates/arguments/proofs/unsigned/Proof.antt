@@ -7,11 +7,11 @@ use mir.Syntax.{w32}
 use Rattle.integers.proofs.Parts.{linear}
 use Rattle.integers.proofs.Order.{ltZ-true, ltZ-false}
 use Rattle.integers.proofs.Machine.{Num, num, literal, unsigned-need, test-of}
-use Rattle.desk.specs.Arguments.{none, unsignedOf}
-use Rattle.desk.proofs.arguments.unsigned.Statement.{statement}
-use Rattle.desk.proofs.arguments.unsigned.Tie as tie
-use Rattle.desk.proofs.arguments.unsigned.Reads as reads
-use Rattle.desk.proofs.arguments.unsigned.Lts as lts
+use Rattle.arguments.specs.Meaning.{none, unsignedOf}
+use Rattle.arguments.proofs.unsigned.Statement.{statement}
+use Rattle.arguments.proofs.unsigned.Tie as tie
+use Rattle.arguments.proofs.unsigned.Reads as reads
+use Rattle.arguments.proofs.unsigned.Lts as lts
 
 abbrev number : lts.Start reads.Pre reads.Post → Num w32
 number c = num (c .args .number) (c .fits .number)

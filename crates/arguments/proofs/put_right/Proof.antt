@@ -1,11 +1,11 @@
 -- `arguments::put_right` meets its contract: the columns from the start on are the text.
 use denote.Ref.{now}
 use borrow.Author.Needs.{needs}
-use Rattle.desk.proofs.Right.{at-right}
-use Rattle.desk.proofs.arguments.put_right.Statement.{statement}
-use Rattle.desk.proofs.arguments.put_right.Tie as tie
-use Rattle.desk.proofs.arguments.put_right.Reads as reads
-use Rattle.desk.proofs.arguments.put_right.Lts as lts
+use Rattle.arguments.proofs.Right.{at-right}
+use Rattle.arguments.proofs.put_right.Statement.{statement}
+use Rattle.arguments.proofs.put_right.Tie as tie
+use Rattle.arguments.proofs.put_right.Reads as reads
+use Rattle.arguments.proofs.put_right.Lts as lts
 use Rattle.bytes.proofs.copy.Reads as copy-reads
 
 returns : tie.Need-returns

@@ -1,0 +1,2 @@
+-- The arguments of desk.
+pub mod Meaning

@@ -1,0 +1,99 @@
+-- One order to a sheet: what the routines called answer is what the definitions say.
+use mathlib.Core.Path.{_≡_, sym, ap, ap₂, _∙_}
+use mathlib.Core.Bool.{Bool, true, false, cond, _&&_}
+use mathlib.Core.List.{List, _++_, append-nil}
+use Prim.Native.Nat.{ℕ}
+use native.Mathlib.Omega.{arith}
+use lib.ListN.{length, drop, drop-of-length-le}
+use borrow.Author.Tests.{le-leb}
+use Rattle.refusals.specs.Numbers.{isAccepted}
+use Rattle.refusals.proofs.Laws.{passed, failed, first-accepted, first-refused, first-both}
+use Rattle.unit.specs.declared.Unit.{Unit}
+use Rattle.unit.specs.Fit.{unitFits}
+use Rattle.unit.proofs.Fitness.{test-of-fit}
+use Rattle.orders.specs.declared.Ordered.{Ordered}
+use Rattle.orders.specs.Orders.{ordered}
+use Rattle.orders.proofs.Laws.{accepted-fit, order-fit}
+use Rattle.sheet.specs.Lines.{sheetSize}
+use Rattle.writing.specs.Written.{sheetOf, writes, filled}
+use Rattle.reading.specs.declared.SheetRead.{SheetRead}
+use Rattle.reading.specs.Reading.{sheetVerdict, unitIn, sheetRead}
+use Rattle.reading.proofs.Laws.{read-accepted}
+use Rattle.arguments.specs.declared.DeskOrder.{DeskOrder}
+use Rattle.decisions.specs.Decisions.{deskOrdered, deskVerdict, deskSheet, HandsOut}
+
+module _ (bytes : List ℕ) (order : DeskOrder) (house : Unit) (r : SheetRead) (read : r ≡ sheetRead bytes house) where
+  verdict-is : r .verdict ≡ sheetVerdict bytes
+  unfolding sheetRead
+  verdict-is = ap (λ (a : SheetRead). a .verdict) read
+
+  pub sheet-refused : (buffer : List ℕ) → isAccepted (r .verdict) ≡ false → (r .verdict ≡ deskVerdict bytes order) × (buffer ≡ deskSheet bytes order buffer)
+  unfolding deskVerdict deskSheet
+  sheet-refused buffer not-accepted = (
+    verdict-is ∙ sym (first-refused (sheetVerdict bytes) (deskOrdered bytes order .verdict) no'),
+    failed (isAccepted (sheetVerdict bytes) && isAccepted (deskOrdered bytes order .verdict)) (filled (deskOrdered bytes order .unit) buffer) buffer
+        (ap (λ (t : Bool). t && isAccepted (deskOrdered bytes order .verdict)) no'),
+  )
+    where
+      no' : isAccepted (sheetVerdict bytes) ≡ false
+      no' = ap isAccepted (sym verdict-is) ∙ not-accepted
+
+  module _ (yes : isAccepted (r .verdict) ≡ true) (o : Ordered) (gives : o ≡ ordered (r .unit) (order .side) (order .band) (order .setting)) where
+    yes' : isAccepted (sheetVerdict bytes) ≡ true
+    yes' = ap isAccepted (sym verdict-is) ∙ yes
+
+    ordered-is : o ≡ deskOrdered bytes order
+    ordered-is = gives ∙ ap (λ (u : Unit). ordered u (order .side) (order .band) (order .setting)) (ap (λ (a : SheetRead). a .unit) (read ∙ read-accepted bytes house yes'))
+
+    pub answered : o .verdict ≡ deskVerdict bytes order
+    unfolding deskVerdict
+    answered = ap (λ (a : Ordered). a .verdict) ordered-is ∙ sym (first-accepted (sheetVerdict bytes) (deskOrdered bytes order .verdict) yes')
+
+    abbrev both : Bool
+    both = isAccepted (sheetVerdict bytes) && isAccepted (deskOrdered bytes order .verdict)
+
+    both-is : both ≡ isAccepted (o .verdict)
+    both-is = ap₂ _&&_ yes' (ap (λ (a : Ordered). isAccepted (a .verdict)) (sym ordered-is))
+
+    pub written : (buffer after : List ℕ) → isAccepted (o .verdict) ≡ true → after ≡ filled (o .unit) buffer → after ≡ deskSheet bytes order buffer
+    unfolding deskSheet
+    written buffer after taken fills =
+        fills
+        ∙ ap (λ (a : Ordered). filled (a .unit) buffer) ordered-is
+        ∙ passed both (filled (deskOrdered bytes order .unit) buffer) buffer (both-is ∙ taken)
+
+    pub unchanged : (buffer : List ℕ) → isAccepted (o .verdict) ≡ false → buffer ≡ deskSheet bytes order buffer
+    unfolding deskSheet
+    unchanged buffer not-accepted = failed both (filled (deskOrdered bytes order .unit) buffer) buffer (both-is ∙ not-accepted)
+
+-- ---- what goes out
+
+module _ (bytes : List ℕ) (order : DeskOrder) (yes : isAccepted (deskVerdict bytes order) ≡ true) where
+  abbrev after : Unit
+  after = deskOrdered bytes order .unit
+
+  -- the sheet is accepted, and so is the order
+  both-accepted : (isAccepted (sheetVerdict bytes) ≡ true) × (isAccepted (deskOrdered bytes order .verdict) ≡ true)
+  unfolding deskVerdict
+  both-accepted = first-both (sheetVerdict bytes) (deskOrdered bytes order .verdict) yes
+
+  -- the unit after the order is fit
+  after-fits : unitFits after ≡ true
+  after-fits =
+      test-of-fit after
+      (order-fit (unitIn bytes) (order .side) (order .band) (order .setting)
+      (accepted-fit (unitIn bytes) (order .side) (order .band) (order .setting) (both-accepted .1)))
+
+  -- so a buffer of a sheet's size becomes the sheet
+  pub hands-out : (room sheet : List ℕ) → length room ≡ sheetSize → sheet ≡ deskSheet bytes order room → HandsOut bytes order sheet
+  unfolding deskSheet filled writes
+  hands-out room sheet size e =
+      record {
+        accepted = yes;
+        sheet-is =
+            e
+            ∙ sym (passed (isAccepted (sheetVerdict bytes) && isAccepted (deskOrdered bytes order .verdict)) (filled after room) room (ap₂ _&&_ (both-accepted .0) (both-accepted .1)))
+            ∙ ap₂ (λ (a b : Bool). cond (a && b) (sheetOf after ++ drop sheetSize room) room) (le-leb sheetSize (length room) (omega (arith, size))) after-fits
+            ∙ ap (λ (l : List ℕ). sheetOf after ++ l) (drop-of-length-le room {i = sheetSize} (omega (arith, size)))
+            ∙ append-nil (sheetOf after);
+      }

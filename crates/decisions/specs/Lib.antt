@@ -1,0 +1,2 @@
+-- What the programs decide.
+pub mod Decisions
