@@ -51,7 +51,7 @@ aimed-volume-fit target e u f =
     record { volume = record { present = f .volume .present; target = e }; bands = f .bands; channels = f .channels }
 
 -- an accepted order's targets are in their ranges
-pub aimed-fit : (u : Unit) (side band : ℕ) (setting : Setting) → isAccepted (orderArguments side band setting) ≡ true → Fit u → Fit (aimedUnit side band (targetOf band setting) u)
+aimed-fit : (u : Unit) (side band : ℕ) (setting : Setting) → isAccepted (orderArguments side band setting) ≡ true → Fit u → Fit (aimedUnit side band (targetOf band setting) u)
 unfolding aimedUnit
 aimed-fit u side band setting e f = go (eqb band volumeBand) refl
   where
