@@ -43,8 +43,8 @@ module _ (channels channel : ℕ) (inside : channel < channels) (set : List ℤ)
         near = λ h. silent-near (bandsOf set);
       }
 
-  begun : Kept channels (startingUnit channels set)
-  begun = begun-kept channels set accepted
+  start-kept : Kept channels (startingUnit channels set)
+  start-kept = begun-kept channels set accepted
 
   begun-tied : TiedUnit channels channel inside (bandsOf set) 0 false (startingUnit channels set) silent
   begun-tied =
@@ -59,7 +59,7 @@ module _ (channels channel : ℕ) (inside : channel < channels) (set : List ℤ)
 
   module _ (calls : List Call) where
     all-follow : Follows (bandsOf set) 0 false (allSamples channels channel set calls) (allLimits channels channel set calls) (allExacts channels channel set calls)
-    all-follow = list-follows channels channel inside (bandsOf set) calls 0 false (startingUnit channels set) silent begun begun-tied
+    all-follow = list-follows channels channel inside (bandsOf set) calls 0 false (startingUnit channels set) silent start-kept begun-tied
 
     at-frame : (i : ℕ) → i < length (allSamples channels channel set calls) → FrameFollows (bandsOf set) i (anyOf (take (suc i) (allLimits channels channel set calls))) (getD (allSamples channels channel set calls) i (pos 0)) (getD (allExacts channels channel set calls) i silent)
     at-frame i h =
@@ -72,13 +72,13 @@ module _ (channels channel : ℕ) (inside : channel < channels) (set : List ℤ)
           exact-frames = lengths .0;
           limits-frames = lengths .1;
           scales = λ i h. at-frame i (omega (arith, lengths .0)) .scale;
-          flag-agrees = list-flag channels channel inside (bandsOf set) calls 0 false (startingUnit channels set) silent begun begun-tied;
+          flag-agrees = list-flag channels channel inside (bandsOf set) calls 0 false (startingUnit channels set) silent start-kept begun-tied;
           stays-fit = after .fit;
           stays-shaped = after .shape;
         }
       where
         after : Kept channels (ended channels channel set calls)
-        after = list-kept channels (startingUnit channels set) calls begun
+        after = list-kept channels (startingUnit channels set) calls start-kept
 
         lengths : (length (allExacts channels channel set calls) ≡ length (allSamples channels channel set calls)) × (length (allLimits channels channel set calls) ≡ length (allSamples channels channel set calls))
         lengths =

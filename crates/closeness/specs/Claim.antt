@@ -269,9 +269,9 @@ module _ (channels channel : ℕ) (set : List ℤ) (calls : List Call) where
   abbrev pub ended : Unit
   ended = handedBack channels (startingUnit channels set) calls
 
-  -- beside it: the three lists speak of the same frames; the exact reckoning stands over (2^22)^n after frame n, on which `Close` rests; the
-  -- flag tells the same as `limits`; and the unit stays fit, so that "14 can't arise in the list", and of its shape: ten bands, and
-  -- `channels` channels of ten sections. In `scales`, n = i + 1
+  -- beside it: the three lists speak of the same frames; the exact reckoning stands over (2^22)^n after frame n, on which `Close` rests (in
+  -- `scales`, n = i + 1); the flag tells the same as `limits`; the unit stays fit, so that "14 can't arise in the list"; and it keeps ten
+  -- bands, and `channels` channels of ten sections
   pub record Agreeing : Type 0 where
     pub exact-frames : length allExacts ≡ length allSamples
     pub limits-frames : length allLimits ≡ length allSamples

@@ -3,7 +3,8 @@
 -- "Demand 3 starts from a cleared unit. Reading back the sheet that a list wrote under these same rules continues that list"
 --
 -- A list may be cut anywhere, in any number of places. At each cut the unit is written to a sheet, the sheet is read back, and the calls
--- go on with the unit that was read. Unit, sound and limiting are those of the list that was not cut, and so demand 3 speaks of its frames.
+-- go on with the unit that was read. Unit, samples and limiting are then those of the list that was not cut, and so demand 3 speaks of
+-- every frame.
 --
 -- What it rests on. The calls, the unit that they hand back, the samples, the limiting, the exact reckoning and `Close` are those of demand 3
 -- (closeness/specs/Claim.antt). `filledPart` (writing/specs/Written.antt) and `sheetRead` (reading/specs/Reading.antt) are what the contracts of
@@ -29,7 +30,8 @@ use Rattle.closeness.specs.Claim.{Call, handedBack, samples, limits, silent, Cl
 
 -- ---- a list that is cut
 
--- some calls, and then a cut: the unit is written into a buffer of `room` bytes, and read back by a reader that is given the unit `given`
+-- some calls, and then a cut: the unit is written into a buffer of `room` bytes, and read back by a reader that is given the unit `given`.
+-- A list `before ++ after` that is cut once is two stretches; behind the last one too the unit is written and read back
 pub record Stretch : Type 0 where
   pub calls : List Call
   pub room : ℕ
@@ -44,13 +46,13 @@ abbrev pub uncut : List Stretch → List Call
 uncut [] = []
 uncut (stretch ∷ stretches) = stretch .calls ++ uncut stretches
 
--- ---- what comes of it. The first stretch begins with the unit u, and each other one with the unit that was read at the cut before it
+-- ---- what a cut list gives. The first stretch begins with the unit u, each other one with the unit that was read at the cut before it
 
 -- the unit that the calls of a stretch hand back
 abbrev pub unitAtCut : Unit → Stretch → Unit
 unitAtCut u stretch = handedBack channelCount u (stretch .calls)
 
--- what the reader of that unit's sheet answers
+-- what the reader answers at the cut behind a stretch
 abbrev pub answerAtCut : Unit → Stretch → SheetRead
 answerAtCut u stretch = sheetRead (filledPart (unitAtCut u stretch) (stretch .room)) (stretch .given)
 
