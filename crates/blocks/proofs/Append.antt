@@ -1,4 +1,4 @@
--- A block of a ++ b is the block of a and then the block of b; and a fit unit stays fit.
+-- A block of a ++ b is the block of a and then the block of b; a fit unit stays fit, and a unit keeps its shape.
 use mathlib.Core.Path.{_≡_, refl, sym, ap, ap₂, _∙_}
 use mathlib.Core.Bool.{Bool, true, false, cond}
 use mathlib.Core.List.{List, _∷_, _++_, append-assoc, append-nil}
@@ -13,9 +13,10 @@ use Rattle.refusals.specs.Numbers.{isAccepted}
 use Rattle.unit.specs.declared.Unit.{Unit}
 use Rattle.unit.specs.Frame.{unitFrame, heard}
 use Rattle.unit.specs.Fit.{Fit}
+use Rattle.unit.specs.Shaped.{Shaped}
 use Rattle.frames.specs.Bytes.{sampleAt, wordsAt, frameSize, frameCount, bytesOf}
 use Rattle.frames.specs.Played.{played, sound}
-use Rattle.frames.proofs.Many.{played-fit}
+use Rattle.frames.proofs.Many.{played-fit, played-shaped}
 use Rattle.blocks.specs.Block.{blockVerdict, blockPlayed, blockOutput}
 use Rattle.blocks.proofs.Block.{BlockAccepts, accepts-block, four-a-frame}
 
@@ -110,14 +111,22 @@ module _ (channels : ℕ) (u : Unit) (input : List ℕ) where
   unfolding blockOutput
   accepted-output room c = simp (accepts-block channels u (length input) (length room) c)
 
+  -- what holds before and after all frames holds of the unit that the block hands back, accepted or refused
+  block-keeps : (P : Unit → Type 0) (room : ℕ) → P u → P (played channels u input (frameCount channels input)) → P (blockPlayed channels u input room .unit)
+  unfolding blockPlayed
+  block-keeps P room before after = go (isAccepted (blockVerdict channels u (length input) room))
+    where
+      go : (t : Bool) → P (cond t (played channels u input (frameCount channels input)) u)
+      go true = after
+      go false = before
+
   -- a fit unit stays fit
   pub block-fit : (room : ℕ) → Fit u → Fit (blockPlayed channels u input room .unit)
-  unfolding blockPlayed
-  block-fit room f = go (isAccepted (blockVerdict channels u (length input) room))
-    where
-      go : (t : Bool) → Fit (cond t (played channels u input (frameCount channels input)) u)
-      go true = played-fit channels u input (frameCount channels input) f
-      go false = f
+  block-fit room f = block-keeps Fit room f (played-fit channels u input (frameCount channels input) f)
+
+  -- and keeps its shape
+  pub block-shaped : (room : ℕ) → Shaped channels u → Shaped channels (blockPlayed channels u input room .unit)
+  block-shaped room s = block-keeps (Shaped channels) room s (played-shaped channels u input (frameCount channels input) s)
 
 -- the room for a, as long as a, and the room for b, at least as long as b
 module _ (u : Unit) (a b p q : List ℕ) (fit : Fit u) (fa : length a % 4 ≡ 0) (fb : length b % 4 ≡ 0) (ha : length p ≡ length a) (hb : length b ≤ length q) where

@@ -2,7 +2,7 @@
 use mathlib.Core.Path.{_≡_, refl, sym, ap, ap₂, _∙_, subst}
 use mathlib.Core.Bool.{Bool, true, false, _||_}
 use mathlib.Core.List.{List, [], _∷_, map}
-use Prim.Native.Nat.{ℕ, suc, _+_, _*_, _^_, _≤_}
+use Prim.Native.Nat.{ℕ, suc, _*_, _^_, _≤_}
 use native.Mathlib.Nat.{pow-suc}
 use native.Mathlib.Omega.{arith}
 use lib.Dec.{T}
@@ -98,12 +98,6 @@ frame-gains x x2 [] (s ∷ ss) h = absurd (omega arith)
 frame-gains x x2 (band ∷ bands) [] h = refl
 frame-gains x x2 (band ∷ bands) (s ∷ ss) h = ap (λ (gs : List Level). moved gainSlope (s .gain) ∷ gs) (frame-gains x x2 bands ss (omega arith))
 
--- and there are as many sections
-frame-length : (x x2 : ℤ) (bands : List Band) (ss : List BandSection) → length ss ≡ length bands → length (sectionsFrame bands x x2 ss) ≡ length bands
-frame-length x x2 [] ss h = refl
-frame-length x x2 (band ∷ bands) [] h = absurd (omega arith)
-frame-length x x2 (band ∷ bands) (s ∷ ss) h = ap suc (frame-length x x2 bands ss (omega arith))
-
 -- ---- the tie, after n frames. `limited` says whether a section of the channel has limited in one of them
 
 pub record Tied (bands : List Band) (n : ℕ) (limited : Bool) (volume : Level) (c : Channel) (e : Exact) : Type 0 where
@@ -113,7 +107,6 @@ pub record Tied (bands : List Band) (n : ℕ) (limited : Bool) (volume : Level) 
   pub x1 : e .x1 ≡ pos (divisor ^ n) *ℤ c .x1
   pub x2 : e .x2 ≡ pos (divisor ^ n) *ℤ c .x2
   pub flags : c .flag ≡ pos (flag limited)
-  pub sections : length (c .sections) ≡ length bands
   pub near : limited ≡ false → NearAll n bands (c .sections) (e .results)
 
 -- a flag rises by what has limited
@@ -124,18 +117,17 @@ flag-raised false true = refl
 flag-raised false false = refl
 
 module _ (bands : List Band) (n : ℕ) (limited : Bool) (volume : Level) (c : Channel) (e : Exact) (t : Tied bands n limited volume c e) where
-  -- a frame keeps it
-  pub frame-tied : (x : ℤ) → Tied bands (suc n) (limited || anyLimits bands x (c .x2) (c .sections)) (moved volumeSlope volume) (channelFrame bands x c) (exactFrame bands x e)
+  -- a frame keeps it, with a section for each band
+  pub frame-tied : length (c .sections) ≡ length bands → (x : ℤ) → Tied bands (suc n) (limited || anyLimits bands x (c .x2) (c .sections)) (moved volumeSlope volume) (channelFrame bands x c) (exactFrame bands x e)
   unfolding channelFrame exactFrame
-  frame-tied x =
+  frame-tied as-many x =
       record {
         scale = ap (λ (z : ℕ). divisor * z) (t .scale) ∙ power;
         volumes = ap (moved volumeSlope) (t .volumes);
-        gains = ap (map (moved gainSlope)) (t .gains) ∙ frame-gains x (c .x2) bands (c .sections) (t .sections);
+        gains = ap (map (moved gainSlope)) (t .gains) ∙ frame-gains x (c .x2) bands (c .sections) as-many;
         x1 = ap (λ (z : ℕ). rescaled (pos z *ℤ x)) (t .scale) ∙ next x;
         x2 = ap rescaled (t .x1) ∙ next (c .x1);
         flags = ap (raised (anyLimits bands x (c .x2) (c .sections))) (t .flags) ∙ flag-raised limited (anyLimits bands x (c .x2) (c .sections));
-        sections = frame-length x (c .x2) bands (c .sections) (t .sections);
         near = near-then;
       }
     where

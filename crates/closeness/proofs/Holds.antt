@@ -4,22 +4,23 @@ use mathlib.Core.Bool.{true, false}
 use mathlib.Core.List.{List, [], _∷_}
 use Prim.Native.Nat.{ℕ, suc, _<_}
 use native.Mathlib.Nat.{zero-add}
+use native.Mathlib.Omega.{arith}
 use lib.IntN.{ℤ, pos}
-use lib.ListN.{length, getD, replicate, length-replicate, getD-replicate}
+use lib.ListN.{length, getD, take, replicate, getD-replicate}
 use Rattle.refusals.specs.Numbers.{isAccepted}
 use Rattle.bands.specs.declared.Band.{Band}
 use Rattle.unit.specs.declared.Channel.{Channel}
 use Rattle.unit.specs.Lists.{anyOf}
 use Rattle.unit.specs.Cleared.{clearedLevel, clearedBandSection, clearedChannel, bandsOf}
-use Rattle.unit.proofs.Fitness.{cleared-fit}
 use Rattle.loading.specs.Loading.{setVerdict}
 use Rattle.loading.specs.declared.Loaded.{Loaded}
-use Rattle.loading.proofs.Laws.{accepted-set, loaded-accepted}
-use Rattle.closeness.specs.Claim.{Call, silentResults, silent, Close, startingUnit, allSamples, allLimits, allExacts, CloseAt, ended, Agreeing, Demand3}
+use Rattle.loading.proofs.Laws.{loaded-accepted}
+use Rattle.closeness.specs.Claim.{Call, silentResults, silent, startingUnit, allSamples, allLimits, allExacts, ended, Agreeing, Demand3}
 use Rattle.closeness.proofs.Band.{near-start}
 use Rattle.closeness.proofs.Channel.{NearAll, Tied}
-use Rattle.closeness.proofs.Follows.{Follows, follows-at, follows-length}
-use Rattle.closeness.proofs.Run.{TiedUnit, Ended, list-follows, list-ended}
+use Rattle.closeness.proofs.Follows.{FrameFollows, Follows, follows-at, follows-length}
+use Rattle.closeness.proofs.Kept.{Kept, begun-kept, list-kept}
+use Rattle.closeness.proofs.Run.{TiedUnit, list-follows, list-flag}
 
 -- ---- where a list begins
 
@@ -39,15 +40,15 @@ module _ (channels channel : ℕ) (inside : channel < channels) (set : List ℤ)
         x1 = refl;
         x2 = refl;
         flags = refl;
-        sections = refl;
         near = λ h. silent-near (bandsOf set);
       }
+
+  start-kept : Kept channels (startingUnit channels set)
+  start-kept = begun-kept channels set accepted
 
   begun-tied : TiedUnit channels channel inside (bandsOf set) 0 false (startingUnit channels set) silent
   begun-tied =
       record {
-        fit = cleared-fit channels (bandsOf set) (accepted-set set accepted .bands);
-        width = length-replicate channels clearedChannel;
         bands-are = refl;
         tied =
             subst (λ (c : Channel). Tied (bandsOf set) 0 false clearedLevel c silent)
@@ -58,24 +59,26 @@ module _ (channels channel : ℕ) (inside : channel < channels) (set : List ℤ)
 
   module _ (calls : List Call) where
     all-follow : Follows (bandsOf set) 0 false (allSamples channels channel set calls) (allLimits channels channel set calls) (allExacts channels channel set calls)
-    all-follow = list-follows channels channel inside (bandsOf set) calls 0 false (startingUnit channels set) silent begun-tied
+    all-follow = list-follows channels channel inside (bandsOf set) calls 0 false (startingUnit channels set) silent start-kept begun-tied
 
-    close-at : (i : ℕ) → CloseAt channels channel set calls i
-    close-at i h q =
-        subst (λ (n : ℕ). Close (bandsOf set) (suc n) (getD (allSamples channels channel set calls) i (pos 0)) (getD (allExacts channels channel set calls) i silent)) (zero-add i)
-        (follows-at (bandsOf set) 0 false (allSamples channels channel set calls) (allLimits channels channel set calls) (allExacts channels channel set calls) (pos 0) silent all-follow i h q)
+    at-frame : (i : ℕ) → i < length (allSamples channels channel set calls) → FrameFollows (bandsOf set) i (anyOf (take (suc i) (allLimits channels channel set calls))) (getD (allSamples channels channel set calls) i (pos 0)) (getD (allExacts channels channel set calls) i silent)
+    at-frame i h =
+        subst (λ (n : ℕ). FrameFollows (bandsOf set) n (anyOf (take (suc i) (allLimits channels channel set calls))) (getD (allSamples channels channel set calls) i (pos 0)) (getD (allExacts channels channel set calls) i silent)) (zero-add i)
+        (follows-at (bandsOf set) 0 false (allSamples channels channel set calls) (allLimits channels channel set calls) (allExacts channels channel set calls) (pos 0) silent all-follow i h)
 
     agreeing : Agreeing channels channel set calls
     agreeing =
         record {
           exact-frames = lengths .0;
           limits-frames = lengths .1;
-          flag-agrees = after .flag-agrees;
-          stays-fit = after .stays-fit;
+          scales = λ i h. at-frame i (omega (arith, lengths .0)) .scale;
+          flag-agrees = list-flag channels channel inside (bandsOf set) calls 0 false (startingUnit channels set) silent start-kept begun-tied;
+          stays-fit = after .fit;
+          stays-shaped = after .shape;
         }
       where
-        after : Ended channels channel inside (bandsOf set) (anyOf (allLimits channels channel set calls)) (ended channels channel set calls)
-        after = list-ended channels channel inside (bandsOf set) calls 0 false (startingUnit channels set) silent begun-tied
+        after : Kept channels (ended channels channel set calls)
+        after = list-kept channels (startingUnit channels set) calls start-kept
 
         lengths : (length (allExacts channels channel set calls) ≡ length (allSamples channels channel set calls)) × (length (allLimits channels channel set calls) ≡ length (allSamples channels channel set calls))
         lengths =
@@ -85,7 +88,7 @@ module _ (channels channel : ℕ) (inside : channel < channels) (set : List ℤ)
 pub demand3 : Demand3
 demand3 =
     record {
-      close = λ channels channel set calls inside accepted. close-at channels channel inside set accepted calls;
+      close = λ channels channel set calls inside accepted i h. at-frame channels channel inside set accepted calls i h .close;
       begins = λ set accepted. ap (λ (l : Loaded). l .unit) (loaded-accepted set accepted);
       agreeing = λ channels channel set calls inside accepted. agreeing channels channel inside set accepted calls;
     }

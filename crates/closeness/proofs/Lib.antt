@@ -4,6 +4,8 @@ pub mod Band
 pub mod Output
 pub mod Channel
 pub mod Follows
+pub mod Kept
 pub mod Run
 pub mod Holds
+pub mod Append
 pub mod Example

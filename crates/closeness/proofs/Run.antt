@@ -18,30 +18,29 @@ use Rattle.unit.specs.declared.Unit.{Unit}
 use Rattle.unit.specs.Lists.{tabulate, changed, anyOf}
 use Rattle.unit.specs.Cleared.{clearedChannel}
 use Rattle.unit.specs.Frame.{anyLimits, channelFrame, unitFrame}
-use Rattle.unit.specs.Fit.{Fit}
+use Rattle.unit.specs.Shaped.{TenSections, Shaped}
 use Rattle.unit.proofs.Fitness.{test-of-fit}
-use Rattle.unit.proofs.Tabulate.{any-append, any-snoc, tabulate-length}
-use Rattle.unit.proofs.Changed.{changed-length, changed-at}
+use Rattle.unit.proofs.Tabulate.{each-getD, any-append, any-snoc, tabulate-length}
+use Rattle.unit.proofs.Changed.{changed-at}
 use Rattle.settings.specs.declared.Setting.{Setting}
 use Rattle.settings.specs.Settings.{volumeBand, names, targetOf, orderArguments}
 use Rattle.orders.specs.Orders.{aimedSection, aimedChannel, aimedVolume, aimedBand, aimedUnit, ordered}
-use Rattle.orders.proofs.Laws.{aimed-fit, order-accepts}
+use Rattle.orders.proofs.Laws.{order-accepts}
 use Rattle.frames.specs.Bytes.{sampleAt, wordAt, frameCount}
 use Rattle.frames.specs.Played.{played}
-use Rattle.frames.proofs.Many.{played-fit, played-channels}
+use Rattle.frames.proofs.Many.{played-shaped}
 use Rattle.blocks.specs.Block.{blockArguments, blockVerdict, blockPlayed, blockOutput}
 use Rattle.blocks.proofs.Block.{BlockAccepts, block-accepted}
 use Rattle.blocks.proofs.Read.{played-channel, output-sample}
 use Rattle.closeness.specs.Claim.{Call, order, block, placeOf, unitAfter, samplesOf, samples, channelIn, limitsOn, limitsOf, limits, handedBack, Results, Exact, exactFrame, exactAimed, exactPlayed, exactAfter, exactsOf, exacts, Close}
 use Rattle.closeness.proofs.Band.{NearResults}
 use Rattle.closeness.proofs.Channel.{gainOf, NearAll, Tied, frame-tied, tied-close}
-use Rattle.closeness.proofs.Follows.{Follows, follows-append}
+use Rattle.closeness.proofs.Follows.{FrameFollows, Follows, follows-append}
+use Rattle.closeness.proofs.Kept.{Kept, call-kept}
 
 module _ (channels channel : ℕ) (inside : channel < channels) (bands : List Band) where
   -- the unit after n frames, and the exact reckoning of its channel
   pub record TiedUnit (n : ℕ) (limited : Bool) (u : Unit) (e : Exact) : Type 0 where
-    pub fit : Fit u
-    pub width : length (u .channels) ≡ channels
     pub bands-are : u .bands ≡ bands
     pub tied : Tied bands n limited (u .volume) (channelIn channels channel u) e
 
@@ -75,7 +74,7 @@ module _ (channels channel : ℕ) (inside : channel < channels) (bands : List Ba
         go true = refl
         go false = refl
 
-    module _ (n : ℕ) (limited : Bool) (u : Unit) (e : Exact) (t : TiedUnit n limited u e) where
+    module _ (n : ℕ) (limited : Bool) (u : Unit) (e : Exact) (kept : Kept channels u) (t : TiedUnit n limited u e) where
       abbrev c : Channel
       c = channelIn channels channel u
 
@@ -92,17 +91,16 @@ module _ (channels channel : ℕ) (inside : channel < channels) (bands : List Ba
             x1 = t .tied .x1;
             x2 = t .tied .x2;
             flags = t .tied .flags;
-            sections = changed-length (eqb band) (aimedSection target) (c .sections) ∙ t .tied .sections;
             near = λ h. aimed-near n (eqb band) bands (c .sections) (e .results) (t .tied .near h);
           }
       named-tied false = t .tied
 
-      aimed-tied : Fit (aimedUnit side band target u) → TiedUnit n limited (aimedUnit side band target u) (exactAimed channels channel bands side band target e)
+      aimed-tied : TiedUnit n limited (aimedUnit side band target u) (exactAimed channels channel bands side band target e)
       unfolding aimedUnit
-      aimed-tied f = go (eqb band volumeBand) f
+      aimed-tied = go (eqb band volumeBand)
         where
-          go : (v : Bool) → Fit (cond v (aimedVolume target u) (aimedBand side band target u)) → TiedUnit n limited (cond v (aimedVolume target u) (aimedBand side band target u)) (record { scale = e .scale; volume = cond v (aimed target (e .volume)) (e .volume); gains = cond v (e .gains) (gainsThen (names side channel)); x1 = e .x1; x2 = e .x2; results = e .results })
-          go true fits = record { fit = fits; width = t .width; bands-are = t .bands-are; tied = volume-tied }
+          go : (v : Bool) → TiedUnit n limited (cond v (aimedVolume target u) (aimedBand side band target u)) (record { scale = e .scale; volume = cond v (aimed target (e .volume)) (e .volume); gains = cond v (e .gains) (gainsThen (names side channel)); x1 = e .x1; x2 = e .x2; results = e .results })
+          go true = record { bands-are = t .bands-are; tied = volume-tied }
             where
               volume-tied : Tied bands n limited (aimed target (u .volume)) c (record { scale = e .scale; volume = aimed target (e .volume); gains = e .gains; x1 = e .x1; x2 = e .x2; results = e .results })
               volume-tied =
@@ -113,23 +111,20 @@ module _ (channels channel : ℕ) (inside : channel < channels) (bands : List Ba
                     x1 = t .tied .x1;
                     x2 = t .tied .x2;
                     flags = t .tied .flags;
-                    sections = t .tied .sections;
                     near = t .tied .near;
                   }
-          go false fits =
+          go false =
               record {
-                fit = fits;
-                width = changed-length (names side) (aimedChannel band target) (u .channels) ∙ t .width;
                 bands-are = t .bands-are;
                 tied =
                     subst (λ (a : Channel). Tied bands n limited (u .volume) a (record { scale = e .scale; volume = e .volume; gains = gainsThen (names side channel); x1 = e .x1; x2 = e .x2; results = e .results }))
-                    (sym (changed-at (names side) (aimedChannel band target) (u .channels) clearedChannel channel (omega (arith, t .width, inside))))
+                    (sym (changed-at (names side) (aimedChannel band target) (u .channels) clearedChannel channel (omega (arith, kept .shape .channels, inside))))
                     (named-tied (names side channel));
               }
 
   -- ---- the frames of a block
 
-  module _ (n : ℕ) (limited : Bool) (u : Unit) (e : Exact) (t : TiedUnit n limited u e) (input : List ℕ) where
+  module _ (n : ℕ) (limited : Bool) (u : Unit) (e : Exact) (kept : Kept channels u) (t : TiedUnit n limited u e) (input : List ℕ) where
     -- whether a section limits in frame k, k from 0
     abbrev limitsIn : ℕ → Bool
     limitsIn k = limitsOn channels channel (wordAt input (placeOf channels channel k)) (played channels u input k)
@@ -146,14 +141,12 @@ module _ (channels channel : ℕ) (inside : channel < channels) (bands : List Ba
     unfolding played exactPlayed unitFrame
     played-next k p =
         record {
-          fit = played-fit channels u input (suc k) (t .fit);
-          width = played-channels channels u input (suc k) (t .width);
           bands-are = p .bands-are;
           tied =
               subst (λ (b : Channel). Tied bands (suc (n + k)) (limitedBy k || limitsIn k) (moved volumeSlope (v .volume)) b (exactFrame bands x (exactBy k)))
-              (sym (played-channel channels u input (t .width) channel clearedChannel inside k))
+              (sym (played-channel channels u input (kept .shape .channels) channel clearedChannel inside k))
               (subst (λ (bs : List Band). Tied bands (suc (n + k)) (limitedBy k || anyLimits bs x (a .x2) (a .sections)) (moved volumeSlope (v .volume)) (channelFrame bs x a) (exactFrame bands x (exactBy k))) (sym (p .bands-are))
-              (frame-tied bands (n + k) (limitedBy k) (v .volume) a (exactBy k) (p .tied) x));
+              (frame-tied bands (n + k) (limitedBy k) (v .volume) a (exactBy k) (p .tied) as-many x));
         }
       where
         v : Unit
@@ -164,6 +157,15 @@ module _ (channels channel : ℕ) (inside : channel < channels) (bands : List Ba
 
         x : ℤ
         x = wordAt input (placeOf channels channel k)
+
+        shape : Shaped channels v
+        shape = played-shaped channels u input k (kept .shape)
+
+        as-many : length (a .sections) ≡ length bands
+        as-many =
+            each-getD TenSections (v .channels) clearedChannel (shape .sections) channel (omega (arith, shape .channels, inside))
+            ∙ sym (shape .bands)
+            ∙ ap length (p .bands-are)
 
     limited-more : (k : ℕ) → limitedBy k || limitsIn k ≡ limitedBy (suc k)
     limited-more k =
@@ -187,27 +189,35 @@ module _ (channels channel : ℕ) (inside : channel < channels) (bands : List Ba
       frames-follow (suc k) h =
           follows-append bands n limited (tabulate k sampleIn) (tabulate k limitsIn) (tabulate k (λ (j : ℕ). exactBy (suc j))) (sampleIn k ∷ []) (limitsIn k ∷ []) (exactBy (suc k) ∷ [])
           (frames-follow k (omega arith))
-          ((λ q. subst (λ (m : ℕ). Close bands (suc m) (sampleIn k) (exactBy (suc k))) (ap (λ (m : ℕ). n + m) (sym (tabulate-length k limitsIn))) (last q)), tt)
+          (subst (λ (m : ℕ). FrameFollows bands m (limitedBy k || limitsIn k) (sampleIn k) (exactBy (suc k))) (ap (λ (m : ℕ). n + m) (sym (tabulate-length k limitsIn))) last, tt)
         where
-          last : limitedBy k || limitsIn k ≡ false → Close bands (suc (n + k)) (sampleIn k) (exactBy (suc k))
-          last q =
-              subst (λ (s : ℤ). Close bands (suc (n + k)) s (exactBy (suc k))) (sym (output-sample channels u input (t .width) channel clearedChannel inside room accepts k (omega arith)))
-              (tied-close bands (suc (n + k)) (limitedBy k || limitsIn k) (played channels u input (suc k) .volume) (channelIn channels channel (played channels u input (suc k))) (exactBy (suc k)) (played-next k (played-tied k) .tied) q)
+          after : TiedUnit (suc (n + k)) (limitedBy k || limitsIn k) (played channels u input (suc k)) (exactBy (suc k))
+          after = played-next k (played-tied k)
+
+          last : FrameFollows bands (n + k) (limitedBy k || limitsIn k) (sampleIn k) (exactBy (suc k))
+          last =
+              record {
+                scale = after .tied .scale;
+                close =
+                    λ q.
+                    subst (λ (s : ℤ). Close bands (suc (n + k)) s (exactBy (suc k))) (sym (output-sample channels u input (kept .shape .channels) channel clearedChannel inside room accepts k (omega arith)))
+                    (tied-close bands (suc (n + k)) (limitedBy k || limitsIn k) (played channels u input (suc k) .volume) (channelIn channels channel (played channels u input (suc k))) (exactBy (suc k)) (after .tied) q);
+              }
 
   -- ---- a call
 
-  module _ (n : ℕ) (limited : Bool) (u : Unit) (e : Exact) (t : TiedUnit n limited u e) where
+  module _ (n : ℕ) (limited : Bool) (u : Unit) (e : Exact) (kept : Kept channels u) (t : TiedUnit n limited u e) where
     -- an order, accepted or refused
     order-tied : (side band : ℕ) (level : Setting) → TiedUnit n limited (ordered u side band level .unit) (exactAfter channels channel bands e (order side band level))
     unfolding ordered
     order-tied side band level =
         subst (λ (a : Bool). TiedUnit n limited (cond a (aimedUnit side band (targetOf band level) u) u) (exactAfter channels channel bands e (order side band level)))
-        (ap isAccepted (sym (order-accepts u side band level (t .fit))))
-        (go (isAccepted (orderArguments side band level)) refl)
+        (ap isAccepted (sym (order-accepts u side band level (kept .fit))))
+        (go (isAccepted (orderArguments side band level)))
       where
-        go : (a : Bool) → isAccepted (orderArguments side band level) ≡ a → TiedUnit n limited (cond a (aimedUnit side band (targetOf band level) u) u) (cond a (exactAimed channels channel bands side band (targetOf band level) e) e)
-        go true p = aimed-tied side band (targetOf band level) n limited u e t (aimed-fit u side band level p (t .fit))
-        go false p = t
+        go : (a : Bool) → TiedUnit n limited (cond a (aimedUnit side band (targetOf band level) u) u) (cond a (exactAimed channels channel bands side band (targetOf band level) e) e)
+        go true = aimed-tied side band (targetOf band level) n limited u e kept t
+        go false = t
 
     module _ (input room : List ℕ) where
       -- 14 can't arise: the arguments decide
@@ -216,14 +226,14 @@ module _ (channels channel : ℕ) (inside : channel < channels) (bands : List Ba
 
       arguments-decide : accepted ≡ isAccepted (blockVerdict channels u (length input) (length room))
       unfolding blockVerdict
-      arguments-decide = simp (test-of-fit u (t .fit))
+      arguments-decide = simp (test-of-fit u (kept .fit))
 
       abbrev frames : ℕ
       frames = frameCount channels input
 
       -- a block's frames, accepted or refused
       abbrev limitsThen : Bool → List Bool
-      limitsThen a = cond a (tabulate frames (limitsIn n limited u e t input)) []
+      limitsThen a = cond a (tabulate frames (limitsIn n limited u e kept t input)) []
 
       block-tied : TiedUnit (n + length (limitsOf channels channel u (block input room))) (limited || anyOf (limitsOf channels channel u (block input room))) (blockPlayed channels u input (length room) .unit) (exactAfter channels channel bands e (block input room))
       unfolding blockPlayed
@@ -233,8 +243,8 @@ module _ (channels channel : ℕ) (inside : channel < channels) (bands : List Ba
         where
           go : (a : Bool) → TiedUnit (n + length (limitsThen a)) (limited || anyOf (limitsThen a)) (cond a (played channels u input frames) u) (cond a (exactPlayed channels channel bands input e frames) e)
           go true =
-              tied-from (played channels u input frames) (exactPlayed channels channel bands input e frames) (ap (λ (m : ℕ). n + m) (sym (tabulate-length frames (limitsIn n limited u e t input)))) refl
-              (played-tied n limited u e t input frames)
+              tied-from (played channels u input frames) (exactPlayed channels channel bands input e frames) (ap (λ (m : ℕ). n + m) (sym (tabulate-length frames (limitsIn n limited u e kept t input)))) refl
+              (played-tied n limited u e kept t input frames)
           go false = tied-from u e (omega arith) (sym (or-false limited)) t
 
       block-follows : Follows bands n limited (samplesOf channels channel u (block input room)) (limitsOf channels channel u (block input room)) (exactsOf channels channel bands e (block input room))
@@ -248,7 +258,7 @@ module _ (channels channel : ℕ) (inside : channel < channels) (bands : List Ba
 
           go : (a : Bool) → accepted ≡ a → Follows bands n limited (cond a (tabulate frames sampleOf) []) (limitsThen a) (cond a (tabulate frames (λ (j : ℕ). exactPlayed channels channel bands input e (suc j))) [])
           go true p =
-              frames-follow n limited u e t input room (block-accepted channels u (length input) (length room) (sym arguments-decide ∙ p)) frames (omega arith)
+              frames-follow n limited u e kept t input room (block-accepted channels u (length input) (length room) (sym arguments-decide ∙ p)) frames (omega arith)
           go false p = tt
 
     call-tied : (call : Call) → TiedUnit (n + length (limitsOf channels channel u call)) (limited || anyOf (limitsOf channels channel u call)) (unitAfter channels u call) (exactAfter channels channel bands e call)
@@ -263,24 +273,19 @@ module _ (channels channel : ℕ) (inside : channel < channels) (bands : List Ba
   -- ---- the list
 
   -- the claim holds of every frame of it
-  pub list-follows : (calls : List Call) (n : ℕ) (limited : Bool) (u : Unit) (e : Exact) → TiedUnit n limited u e → Follows bands n limited (samples channels channel u calls) (limits channels channel u calls) (exacts channels channel bands e calls)
-  list-follows [] n limited u e t = tt
-  list-follows (call ∷ calls) n limited u e t =
+  pub list-follows : (calls : List Call) (n : ℕ) (limited : Bool) (u : Unit) (e : Exact) → Kept channels u → TiedUnit n limited u e → Follows bands n limited (samples channels channel u calls) (limits channels channel u calls) (exacts channels channel bands e calls)
+  list-follows [] n limited u e kept t = tt
+  list-follows (call ∷ calls) n limited u e kept t =
       follows-append bands n limited (samplesOf channels channel u call) (limitsOf channels channel u call) (exactsOf channels channel bands e call) (samples channels channel (unitAfter channels u call) calls) (limits channels channel (unitAfter channels u call) calls) (exacts channels channel bands (exactAfter channels channel bands e call) calls)
-      (call-follows n limited u e t call)
-      (list-follows calls (n + length (limitsOf channels channel u call)) (limited || anyOf (limitsOf channels channel u call)) (unitAfter channels u call) (exactAfter channels channel bands e call) (call-tied n limited u e t call))
+      (call-follows n limited u e kept t call)
+      (list-follows calls (n + length (limitsOf channels channel u call)) (limited || anyOf (limitsOf channels channel u call)) (unitAfter channels u call) (exactAfter channels channel bands e call) (call-kept channels u call kept) (call-tied n limited u e kept t call))
 
-  -- the unit after it: its flag says whether a section has limited, and it is fit
-  pub record Ended (limited : Bool) (u : Unit) : Type 0 where
-    pub flag-agrees : channelIn channels channel u .flag ≡ pos (flag limited)
-    pub stays-fit : Fit u
-
-  pub list-ended : (calls : List Call) (n : ℕ) (limited : Bool) (u : Unit) (e : Exact) → TiedUnit n limited u e → Ended (limited || anyOf (limits channels channel u calls)) (handedBack channels u calls)
-  list-ended [] n limited u e t =
-      record { flag-agrees = t .tied .flags ∙ ap (λ (b : Bool). pos (flag b)) (sym (or-false limited)); stays-fit = t .fit }
-  list-ended (call ∷ calls) n limited u e t =
-      subst (λ (b : Bool). Ended b (handedBack channels (unitAfter channels u call) calls)) joined
-      (list-ended calls (n + length (limitsOf channels channel u call)) (limited || anyOf (limitsOf channels channel u call)) (unitAfter channels u call) (exactAfter channels channel bands e call) (call-tied n limited u e t call))
+  -- the flag after it says whether a section has limited
+  pub list-flag : (calls : List Call) (n : ℕ) (limited : Bool) (u : Unit) (e : Exact) → Kept channels u → TiedUnit n limited u e → channelIn channels channel (handedBack channels u calls) .flag ≡ pos (flag (limited || anyOf (limits channels channel u calls)))
+  list-flag [] n limited u e kept t = t .tied .flags ∙ ap (λ (b : Bool). pos (flag b)) (sym (or-false limited))
+  list-flag (call ∷ calls) n limited u e kept t =
+      list-flag calls (n + length (limitsOf channels channel u call)) (limited || anyOf (limitsOf channels channel u call)) (unitAfter channels u call) (exactAfter channels channel bands e call) (call-kept channels u call kept) (call-tied n limited u e kept t call)
+      ∙ ap (λ (b : Bool). pos (flag b)) joined
     where
       joined : (limited || anyOf (limitsOf channels channel u call)) || anyOf (limits channels channel (unitAfter channels u call) calls) ≡ limited || anyOf (limits channels channel u (call ∷ calls))
       joined =

@@ -29,6 +29,7 @@ use Rattle.unit.specs.Lists.{tabulate, changed, anyOf}
 use Rattle.unit.specs.Cleared.{clearedLevel, clearedChannel, clearedUnit, bandsOf}
 use Rattle.unit.specs.Frame.{anyLimits, sampleLow, sampleHigh}
 use Rattle.unit.specs.Fit.{Fit}
+use Rattle.unit.specs.Shaped.{Shaped}
 use Rattle.loading.specs.Loading.{setVerdict, loaded}
 use Rattle.settings.specs.declared.Setting.{Setting}
 use Rattle.settings.specs.Settings.{volumeBand, names, targetOf, orderArguments}
@@ -268,13 +269,16 @@ module _ (channels channel : ℕ) (set : List ℤ) (calls : List Call) where
   abbrev pub ended : Unit
   ended = handedBack channels (startingUnit channels set) calls
 
-  -- beside it: the three lists speak of the same frames; the flag tells the same as `limits`; and the unit stays fit, so that "14 can't
-  -- arise in the list"
+  -- beside it: the three lists speak of the same frames; the exact reckoning stands over (2^22)^n after frame n, on which `Close` rests (in
+  -- `scales`, n = i + 1); the flag tells the same as `limits`; the unit stays fit, so that "14 can't arise in the list"; and it keeps ten
+  -- bands, and `channels` channels of ten sections
   pub record Agreeing : Type 0 where
     pub exact-frames : length allExacts ≡ length allSamples
     pub limits-frames : length allLimits ≡ length allSamples
+    pub scales : (i : ℕ) → i < length allExacts → getD allExacts i silent .scale ≡ divisor ^ suc i
     pub flag-agrees : channelIn channels channel ended .flag ≡ pos (flag (anyOf allLimits))
     pub stays-fit : Fit ended
+    pub stays-shaped : Shaped channels ended
 
 -- "For every such list, whatever the orders ask and the blocks hold, and for every frame n and each side"
 pub record Demand3 : Type 0 where

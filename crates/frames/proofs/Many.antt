@@ -6,15 +6,16 @@ use native.Mathlib.Omega.{arith}
 use lib.IntN.{ℤ}
 use lib.ListN.{length, set, drop, length-append, length-drop, length-map}
 use lib.Seq.{set-at, drop-drop}
-use Rattle.bands.specs.declared.Band.{Band}
 use Rattle.levels.specs.declared.Level.{Level}
 use Rattle.levels.specs.Levels.{volumeSlope, moved}
 use Rattle.unit.specs.declared.Channel.{Channel}
 use Rattle.unit.specs.declared.Unit.{Unit}
 use Rattle.unit.specs.Cleared.{bandsOf}
-use Rattle.unit.specs.Frame.{channelFrame, channelsFrame, unitFrame, mix, output, heard}
+use Rattle.unit.specs.Frame.{channelFrame, unitFrame, mix, output, heard}
 use Rattle.unit.specs.Fit.{Fit}
+use Rattle.unit.specs.Shaped.{Shaped}
 use Rattle.unit.proofs.Stays.{unit-stays}
+use Rattle.unit.proofs.Shaped.{frame-channels, frame-shaped}
 use Rattle.engine.specs.Numbers.{channelOf}
 use Rattle.frames.specs.Bytes.{wordAt, wordsAt, frameSize, lowByte, highByte, bytesOf}
 use Rattle.frames.specs.Played.{played, sound}
@@ -34,19 +35,20 @@ pub words-length : (channels : ℕ) (input : List ℕ) (at : ℕ) → length (wo
 words-length zero input at = refl
 words-length (suc channels) input at = ap suc (words-length channels input (at + 2))
 
-channels-length : (bands : List Band) (xs : List ℤ) (cs : List Channel) → length xs ≡ length cs → length (channelsFrame bands xs cs) ≡ length cs
-channels-length bands [] [] h = refl
-channels-length bands [] (c ∷ cs) h = absurd (omega arith)
-channels-length bands (x ∷ xs) [] h = absurd (omega arith)
-channels-length bands (x ∷ xs) (c ∷ cs) h = ap suc (channels-length bands xs cs (omega arith))
-
 pub played-channels : (channels : ℕ) (u : Unit) (input : List ℕ) (n : ℕ) → length (u .channels) ≡ channels → length (played channels u input n .channels) ≡ channels
 unfolding played unitFrame
 played-channels channels u input zero h = h
 played-channels channels u input (suc n) h =
-    channels-length (played channels u input n .bands) (wordsAt channels input (frameSize channels * n)) (played channels u input n .channels)
+    frame-channels (played channels u input n .bands) (wordsAt channels input (frameSize channels * n)) (played channels u input n .channels)
     (words-length channels input (frameSize channels * n) ∙ sym (played-channels channels u input n h))
     ∙ played-channels channels u input n h
+
+-- the unit keeps its shape
+pub played-shaped : (channels : ℕ) (u : Unit) (input : List ℕ) (n : ℕ) → Shaped channels u → Shaped channels (played channels u input n)
+unfolding played
+played-shaped channels u input zero s = s
+played-shaped channels u input (suc n) s =
+    frame-shaped channels (wordsAt channels input (frameSize channels * n)) (played channels u input n) (words-length channels input (frameSize channels * n)) (played-shaped channels u input n s)
 
 pub bytes-length : (ss : List ℤ) → length (bytesOf ss) ≡ 2 * length ss
 bytes-length [] = refl

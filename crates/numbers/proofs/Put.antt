@@ -1,7 +1,7 @@
 -- Reading behind a start, and storing from the front: one number, some numbers, and one store after another.
 use mathlib.Core.Path.{_≡_, refl, sym, ap, _∙_, subst}
 use mathlib.Core.List.{List, [], _∷_, _++_, append-assoc, append-nil}
-use Prim.Native.Nat.{ℕ, zero, suc, _+_, _-_, _≤_, _<_}
+use Prim.Native.Nat.{ℕ, _+_, _-_, _≤_, _<_}
 use native.Mathlib.Numerals.{add-one}
 use native.Mathlib.Omega.{arith}
 use lib.IntN.{ℤ, pos, natAbs}
@@ -11,18 +11,11 @@ use mir.Syntax.{w32, w64}
 use mir.Val.{SFits, toZ, ofZ}
 use Rattle.integers.proofs.Machine.{num, below-fits, unary-need, unary-reads}
 use Rattle.bands.specs.Words.{wordSize}
-use Rattle.unit.specs.Lists.{Each}
 use Rattle.numbers.specs.Layout.{unitSize, joined, PutGives}
 
 -- the number behind a start
 pub behind : (l : List ℤ) (start i j : ℕ) → j ≡ start + i → getD l j (pos 0) ≡ getD (drop start l) i (pos 0)
 behind l start i j e = ap (λ (n : ℕ). getD l n (pos 0)) e ∙ sym (getD-drop start l i (pos 0))
-
--- what holds of every entry holds of entry k
-pub each-getD : {A : Type 0} (P : A → Type 0) (l : List A) (d : A) → Each P l → (k : ℕ) → k < length l → P (getD l k d)
-each-getD P [] d h k e = absurd (omega arith)
-each-getD P (a ∷ l) d h zero e = h .0
-each-getD P (a ∷ l) d h (suc k) e = each-getD P l d (h .1) k (omega arith)
 
 -- ---- a number of the size of a word loses nothing in 32 bits
 

@@ -8,16 +8,17 @@ use lib.ListN.{length, getD, drop, length-append}
 use lib.Seq.{drop-at, drop-drop}
 use Rattle.bands.specs.Bands.{bandCount, bandAt, setSize}
 use Rattle.bands.specs.declared.Band.{Band}
-use Rattle.unit.specs.Sizes.{channelSize}
+use Rattle.unit.specs.Sizes.{channelCount, channelSize}
 use Rattle.unit.specs.declared.BandSection.{BandSection}
 use Rattle.unit.specs.declared.Channel.{Channel}
 use Rattle.unit.specs.declared.Unit.{Unit}
 use Rattle.unit.specs.Lists.{tabulate, Each}
 use Rattle.unit.specs.Cleared.{bandsOf, clearedBandSection}
+use Rattle.unit.specs.Shaped.{TenSections, Shaped}
 use Rattle.unit.proofs.Tabulate.{tabulate-cong, tabulate-all}
 use Rattle.unit.proofs.PastEnd.{zeroBand}
 use Rattle.engine.specs.Numbers.{place, sectionAt, channelOf}
-use Rattle.numbers.specs.Layout.{unitSize, joined, bandNumbers, sectionNumbers, channelNumbers, numbersOf, unitOf, Shaped}
+use Rattle.numbers.specs.Layout.{unitSize, joined, bandNumbers, sectionNumbers, channelNumbers, numbersOf, unitOf}
 
 -- ---- how many numbers
 
@@ -29,10 +30,10 @@ sections-length : (sections : List BandSection) → length (joined sectionNumber
 sections-length [] = refl
 sections-length (s ∷ sections) = omega (arith, sections-length sections)
 
-channel-length : (c : Channel) → length (c .sections) ≡ bandCount → length (channelNumbers c) ≡ channelSize
+channel-length : (c : Channel) → TenSections c → length (channelNumbers c) ≡ channelSize
 channel-length c h = omega (arith, sections-length (c .sections))
 
-channels-length : (cs : List Channel) → length cs ≡ 2 → Each (λ (c : Channel). length (c .sections) ≡ bandCount) cs → length (joined channelNumbers cs) ≡ 2 * channelSize
+channels-length : (cs : List Channel) → length cs ≡ 2 → Each TenSections cs → length (joined channelNumbers cs) ≡ 2 * channelSize
 channels-length [] e h = absurd (omega arith)
 channels-length (a ∷ []) e h = absurd (omega arith)
 channels-length (a ∷ b ∷ []) e h =
@@ -40,7 +41,7 @@ channels-length (a ∷ b ∷ []) e h =
     ∙ ap₂ _+_ (channel-length a (h .0)) (ap length (append-nil (channelNumbers b)) ∙ channel-length b (h .1 .0))
 channels-length (a ∷ b ∷ c ∷ cs) e h = absurd (omega arith)
 
-pub numbers-length : (u : Unit) → Shaped u → length (numbersOf u) ≡ unitSize
+pub numbers-length : (u : Unit) → Shaped channelCount u → length (numbersOf u) ≡ unitSize
 unfolding numbersOf
 numbers-length u s =
     omega (
@@ -52,7 +53,7 @@ numbers-length u s =
     )
 
 -- numbers stand for a unit of this shape
-pub unit-shaped : (l : List ℤ) → Shaped (unitOf l)
+pub unit-shaped : (l : List ℤ) → Shaped channelCount (unitOf l)
 unfolding unitOf
 unit-shaped l = record { bands = refl; channels = refl; sections = (refl, (refl, tt)) }
 
@@ -123,7 +124,7 @@ module _ (x1 x2 flag : ℤ) where
           }
 
 -- a channel's numbers stand for it, whatever follows them
-channel-of : (c : Channel) (m : List ℤ) → length (c .sections) ≡ bandCount → channelOf (channelNumbers c ++ m) ≡ c
+channel-of : (c : Channel) (m : List ℤ) → TenSections c → channelOf (channelNumbers c ++ m) ≡ c
 channel-of c m e =
     λ i.
     record {
@@ -135,7 +136,7 @@ channel-of c m e =
           (λ k h. section-of (c .x1) (c .x2) (c .flag) (c .sections) m k (omega arith)) i;
     }
 
-channels-of : (cs : List Channel) → length cs ≡ 2 → Each (λ (c : Channel). length (c .sections) ≡ bandCount) cs → channelOf (joined channelNumbers cs) ∷ channelOf (drop channelSize (joined channelNumbers cs)) ∷ [] ≡ cs
+channels-of : (cs : List Channel) → length cs ≡ 2 → Each TenSections cs → channelOf (joined channelNumbers cs) ∷ channelOf (drop channelSize (joined channelNumbers cs)) ∷ [] ≡ cs
 channels-of [] e h = absurd (omega arith)
 channels-of (a ∷ []) e h = absurd (omega arith)
 channels-of (a ∷ b ∷ []) e h = λ i. channel-of a (channelNumbers b ++ []) (h .0) i ∷ second i ∷ []
@@ -148,7 +149,7 @@ channels-of (a ∷ b ∷ c ∷ cs) e h = absurd (omega arith)
 
 -- ---- the unit
 
-module _ (u : Unit) (s : Shaped u) where
+module _ (u : Unit) (s : Shaped channelCount u) where
   -- the numbers of its bands, and those of its channels
   abbrev first : List ℤ
   first = joined bandNumbers (u .bands)

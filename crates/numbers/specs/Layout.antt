@@ -5,14 +5,13 @@ use mathlib.Core.List.{List, [], _∷_, _++_}
 use Prim.Native.Nat.{ℕ, _+_, _≤_}
 use lib.IntN.{ℤ, pos}
 use lib.ListN.{length, getD, take, drop}
-use Rattle.bands.specs.Bands.{bandCount, setSize}
+use Rattle.bands.specs.Bands.{setSize}
 use Rattle.bands.specs.declared.Band.{Band}
 use Rattle.levels.specs.declared.Level.{Level}
 use Rattle.unit.specs.declared.BandSection.{BandSection}
 use Rattle.unit.specs.declared.Channel.{Channel}
 use Rattle.unit.specs.declared.Unit.{Unit}
-use Rattle.unit.specs.Sizes.{channelCount, channelSize}
-use Rattle.unit.specs.Lists.{Each}
+use Rattle.unit.specs.Sizes.{channelSize}
 use Rattle.unit.specs.Cleared.{bandsOf}
 use Rattle.engine.specs.Numbers.{channelOf}
 
@@ -65,12 +64,6 @@ unitOf l =
       bands = bandsOf (drop bandsPlace l);
       channels = channelOf (drop leftPlace l) ∷ channelOf (drop rightPlace l) ∷ [];
     }
-
--- ten bands, and two channels of ten sections
-pub record Shaped (u : Unit) : Type 0 where
-  pub bands : length (u .bands) ≡ bandCount
-  pub channels : length (u .channels) ≡ channelCount
-  pub sections : Each (λ (c : Channel). length (c .sections) ≡ bandCount) (u .channels)
 
 -- ---- storing a unit's numbers from the front
 

@@ -1,5 +1,5 @@
--- The laws of level orders: an order keeps a fit unit fit, and in a fit unit only the arguments decide.
-use mathlib.Core.Path.{_≡_, refl}
+-- The laws of level orders: an order keeps a fit unit fit and keeps its shape, and in a fit unit only the arguments decide.
+use mathlib.Core.Path.{_≡_, refl, _∙_}
 use mathlib.Core.Bool.{Bool, true, false, cond}
 use Prim.Native.Nat.{ℕ}
 use lib.Dec.{eqb}
@@ -10,10 +10,11 @@ use Rattle.refusals.specs.declared.Verdict.the-variants.{Unfit}
 use Rattle.refusals.proofs.Laws.{unless-accepted}
 use Rattle.bands.specs.Words.{isWord}
 use Rattle.unit.specs.Fit.{isVolume, SectionFit, ChannelFit, Fit, unitFits}
+use Rattle.unit.specs.Shaped.{TenSections, Shaped}
 use Rattle.unit.specs.declared.BandSection.{BandSection}
 use Rattle.unit.specs.declared.Channel.{Channel}
 use Rattle.unit.specs.declared.Unit.{Unit}
-use Rattle.unit.proofs.Changed.{changed-each}
+use Rattle.unit.proofs.Changed.{changed-length, changed-each}
 use Rattle.unit.proofs.Fitness.{fit-of-test, test-of-fit}
 use Rattle.settings.specs.declared.Setting.{Setting}
 use Rattle.settings.specs.Settings.{volumeBand, names, targetOf, orderArguments}
@@ -50,7 +51,7 @@ aimed-volume-fit target e u f =
     record { volume = record { present = f .volume .present; target = e }; bands = f .bands; channels = f .channels }
 
 -- an accepted order's targets are in their ranges
-pub aimed-fit : (u : Unit) (side band : ℕ) (setting : Setting) → isAccepted (orderArguments side band setting) ≡ true → Fit u → Fit (aimedUnit side band (targetOf band setting) u)
+aimed-fit : (u : Unit) (side band : ℕ) (setting : Setting) → isAccepted (orderArguments side band setting) ≡ true → Fit u → Fit (aimedUnit side band (targetOf band setting) u)
 unfolding aimedUnit
 aimed-fit u side band setting e f = go (eqb band volumeBand) refl
   where
@@ -94,3 +95,30 @@ order-fit u side band setting f = go (isAccepted (orderVerdict u side band setti
     go : (t : Bool) → isAccepted (orderVerdict u side band setting) ≡ t → Fit (cond t (aimedUnit side band (targetOf band setting) u) u)
     go true e = aimed-fit u side band setting (unless-accepted (unitFits u) Unfit (orderArguments side band setting) (λ t. refl) e .1) f
     go false e = f
+
+-- ---- the shape
+
+-- targets change no list's length
+aimed-shaped : (channels side band : ℕ) (target : ℤ) (u : Unit) → Shaped channels u → Shaped channels (aimedUnit side band target u)
+unfolding aimedUnit
+aimed-shaped channels side band target u s = go (eqb band volumeBand)
+  where
+    go : (t : Bool) → Shaped channels (cond t (aimedVolume target u) (aimedBand side band target u))
+    go true = record { bands = s .bands; channels = s .channels; sections = s .sections }
+    go false =
+        record {
+          bands = s .bands;
+          channels = changed-length (names side) (aimedChannel band target) (u .channels) ∙ s .channels;
+          sections =
+              changed-each TenSections (names side) (aimedChannel band target) (u .channels)
+              (λ c h. changed-length (eqb band) (aimedSection target) (c .sections) ∙ h) (s .sections);
+        }
+
+-- an order keeps the unit's shape
+pub order-shaped : (channels : ℕ) (u : Unit) (side band : ℕ) (setting : Setting) → Shaped channels u → Shaped channels (ordered u side band setting .unit)
+unfolding ordered
+order-shaped channels u side band setting s = go (isAccepted (orderVerdict u side band setting))
+  where
+    go : (t : Bool) → Shaped channels (cond t (aimedUnit side band (targetOf band setting) u) u)
+    go true = aimed-shaped channels side band (targetOf band setting) u s
+    go false = s

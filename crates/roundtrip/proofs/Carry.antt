@@ -11,12 +11,14 @@ use Rattle.refusals.specs.Numbers.{isAccepted}
 use Rattle.bands.specs.Bands.{bandCount}
 use Rattle.bands.specs.declared.Band.{Band}
 use Rattle.levels.specs.declared.Level.{Level}
+use Rattle.unit.specs.Sizes.{channelCount}
 use Rattle.unit.specs.Lists.{Each}
 use Rattle.unit.specs.Fit.{VolumeFit, BandFit, SectionFit, ChannelFit, Fit}
+use Rattle.unit.specs.Shaped.{TenSections, Shaped}
 use Rattle.unit.specs.declared.BandSection.{BandSection}
 use Rattle.unit.specs.declared.Channel.{Channel}
 use Rattle.unit.specs.declared.Unit.{Unit}
-use Rattle.numbers.specs.Layout.{joined, volumeNumbers, bandNumbers, sectionNumbers, channelNumbers, numbersOf, Shaped}
+use Rattle.numbers.specs.Layout.{joined, volumeNumbers, bandNumbers, sectionNumbers, channelNumbers, numbersOf}
 use Rattle.sheet.specs.declared.Line.{Line}
 use Rattle.sheet.specs.declared.Line.the-variants.{Volume, Band as BandLine, Left, Section, Right}
 use Rattle.sheet.specs.Lines.{lines, rangesOf, together, fieldCount}
@@ -87,7 +89,7 @@ abbrev channelFront : Channel → List ℤ
 channelFront c = c .x1 ∷ c .x2 ∷ c .flag ∷ []
 
 -- an L or R line: its ranges are those of an L line, and its numbers are refused for nothing together
-module _ (line : Line) (same : rangesOf Left ≡ rangesOf line) (free : (numbers : List ℤ) → isAccepted (together line numbers) ≡ true) (rest : List Line) (behind : List ℤ) (c : Channel) (ten : length (c .sections) ≡ bandCount) where
+module _ (line : Line) (same : rangesOf Left ≡ rangesOf line) (free : (numbers : List ℤ) → isAccepted (together line numbers) ≡ true) (rest : List Line) (behind : List ℤ) (c : Channel) (ten : TenSections c) where
   -- the channel's lines
   abbrev channelLines : ℕ → List Line
   channelLines n = line ∷ (replicate n Section ++ rest)
@@ -124,10 +126,7 @@ module _ (line : Line) (same : rangesOf Left ≡ rangesOf line) (free : (numbers
 abbrev bothLines : List Line
 bothLines = Left ∷ (replicate bandCount Section ++ (Right ∷ replicate bandCount Section))
 
-abbrev Ten : Channel → Type 0
-Ten c = length (c .sections) ≡ bandCount
-
-channels-join : (cs : List Channel) → length cs ≡ 2 → Each Ten cs → Each ChannelFit cs → LinesPass bothLines (joined channelNumbers cs)
+channels-join : (cs : List Channel) → length cs ≡ 2 → Each TenSections cs → Each ChannelFit cs → LinesPass bothLines (joined channelNumbers cs)
 channels-join [] e s h = absurd (omega arith)
 channels-join (a ∷ []) e s h = absurd (omega arith)
 channels-join (a ∷ b ∷ []) e s h =
@@ -135,7 +134,7 @@ channels-join (a ∷ b ∷ []) e s h =
     (channel-joins Right refl (λ numbers. refl) [] [] b (s .1 .0) (h .1 .0) refl)
 channels-join (a ∷ b ∷ c ∷ cs) e s h = absurd (omega arith)
 
-channels-part : (cs : List Channel) → length cs ≡ 2 → Each Ten cs → LinesPass bothLines (joined channelNumbers cs) → Each ChannelFit cs
+channels-part : (cs : List Channel) → length cs ≡ 2 → Each TenSections cs → LinesPass bothLines (joined channelNumbers cs) → Each ChannelFit cs
 channels-part [] e s h = absurd (omega arith)
 channels-part (a ∷ []) e s h = absurd (omega arith)
 channels-part (a ∷ b ∷ []) e s h =
@@ -147,7 +146,7 @@ channels-part (a ∷ b ∷ c ∷ cs) e s h = absurd (omega arith)
 
 -- ---- the unit
 
-module _ (u : Unit) (s : Shaped u) where
+module _ (u : Unit) (s : Shaped channelCount u) where
   -- the lines of so many bands and what follows them
   abbrev bandLines : ℕ → List Line
   bandLines n = replicate n BandLine ++ bothLines

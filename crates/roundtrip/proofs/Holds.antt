@@ -11,8 +11,10 @@ use Rattle.refusals.specs.declared.Verdict.{Verdict}
 use Rattle.refusals.specs.declared.Verdict.the-variants.{Accepted, SheetLength}
 use Rattle.refusals.proofs.Laws.{unless-accepted, accepted-only}
 use Rattle.unit.specs.declared.Unit.{Unit}
+use Rattle.unit.specs.Sizes.{channelCount}
+use Rattle.unit.specs.Shaped.{Shaped}
 use Rattle.unit.proofs.Fitness.{fit-of-test, test-of-fit}
-use Rattle.numbers.specs.Layout.{numbersOf, unitOf, Shaped}
+use Rattle.numbers.specs.Layout.{numbersOf, unitOf}
 use Rattle.numbers.proofs.Laws.{numbers-of-unit}
 use Rattle.numbers.proofs.Units.{unit-shaped, unit-of-numbers}
 use Rattle.sheet.specs.Lines.{sheetSize, lines}
@@ -40,7 +42,7 @@ pub part-is-sheet : (u : Unit) (room : ℕ) → HasSheet u → sheetSize ≤ roo
 unfolding filledPart writes
 part-is-sheet u room has h = ap₂ (λ (a b : Bool). cond (a && b) (sheetOf u) []) (le-leb sheetSize room h) has
 
-module _ (u : Unit) (s : Shaped u) (has : HasSheet u) where
+module _ (u : Unit) (s : Shaped channelCount u) (has : HasSheet u) where
   -- its lines are accepted, and give the unit's numbers
   lines-carry : LinesBack lines (numbersOf u) (sheetOf u)
   unfolding sheetOf
@@ -87,9 +89,9 @@ module _ (bytes : List ℕ) (u : Unit) (reads : ReadsAs bytes u) where
   numbers-carried =
       ap numbersOf (sym unit-is-carried) ∙ numbers-of-unit (numbersIn lines bytes) (numbers-in-length lines bytes)
 
-  accepted-shaped : Shaped u
+  accepted-shaped : Shaped channelCount u
   unfolding unitIn
-  accepted-shaped = subst Shaped unit-is-carried (unit-shaped (numbersIn lines bytes))
+  accepted-shaped = subst (Shaped channelCount) unit-is-carried (unit-shaped (numbersIn lines bytes))
 
   accepted-fit : HasSheet u
   accepted-fit = test-of-fit u (passes-fit u accepted-shaped (subst (LinesPass lines) (sym numbers-carried) (lines-told .pass)))
@@ -104,7 +106,7 @@ module _ (bytes : List ℕ) (u : Unit) (reads : ReadsAs bytes u) where
 -- ---- two units
 
 -- they are equal where their sheets are
-sheets-tell : (u w : Unit) → Shaped u → Shaped w → HasSheet u → HasSheet w → sheetOf u ≡ sheetOf w → u ≡ w
+sheets-tell : (u w : Unit) → Shaped channelCount u → Shaped channelCount w → HasSheet u → HasSheet w → sheetOf u ≡ sheetOf w → u ≡ w
 sheets-tell u w s t p q e = sym (unit-carried u s p) ∙ ap unitIn e ∙ unit-carried w t q
 
 -- the claim

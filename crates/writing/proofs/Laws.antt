@@ -7,7 +7,9 @@ use lib.IntN.{ℤ}
 use lib.ListN.{length, take, drop, length-append, length-drop}
 use lib.Seq.{length-take-le, drop-drop}
 use Rattle.unit.specs.declared.Unit.{Unit}
-use Rattle.numbers.specs.Layout.{joined, numbersOf, Shaped}
+use Rattle.unit.specs.Sizes.{channelCount}
+use Rattle.unit.specs.Shaped.{Shaped}
+use Rattle.numbers.specs.Layout.{joined, numbersOf}
 use Rattle.numbers.proofs.Units.{numbers-length}
 use Rattle.fields.specs.Fields.{fieldSize, field}
 use Rattle.fields.proofs.Laws.{field-length}
@@ -39,7 +41,7 @@ written-length (line ∷ ls) ns h =
     (written-length ls (drop (fieldCount line) ns) (omega (arith, length-drop (fieldCount line) ns)))
 
 -- "1,128 bytes"
-pub sheet-length : (u : Unit) → Shaped u → length (sheetOf u) ≡ sheetSize
+pub sheet-length : (u : Unit) → Shaped channelCount u → length (sheetOf u) ≡ sheetSize
 unfolding sheetOf
 sheet-length u s = written-length lines (numbersOf u) (omega (arith, numbers-length u s))
 

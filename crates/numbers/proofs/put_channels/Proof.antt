@@ -7,8 +7,9 @@ use lib.IntN.{ℤ}
 use denote.Ref.{now}
 use Rattle.unit.specs.Fit.{ChannelFit}
 use Rattle.unit.proofs.PastEnd.{zeroChannel}
+use Rattle.unit.proofs.Tabulate.{each-getD}
 use Rattle.numbers.specs.Layout.{unitSize, leftPlace, channelNumbers, PutGives}
-use Rattle.numbers.proofs.Put.{put-then, each-getD, joined-two}
+use Rattle.numbers.proofs.Put.{put-then, joined-two}
 use borrow.Author.Needs.{needs}
 use Rattle.numbers.proofs.put_channels.Statement.{statement}
 use Rattle.numbers.proofs.put_channels.Tie as tie

@@ -1,0 +1,2 @@
+-- Continuing a list of calls from its sheet.
+pub mod Holds
