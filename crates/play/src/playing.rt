@@ -44,10 +44,11 @@ fn turn(stream: Progress, input: &mut [u8], output: &mut [u8]) -> Progress
     let received = console::receive(libc::STDIN_FILENO, b"standard input", input, stream.held);
     let count = received.count;
     let unit = stream.unit;
-    let advanced = stream::advance(unit, &input[..count], output);
+    let piece = &input[..count];
+    let advanced = stream::advance(unit, piece, output);
     let after = advanced.unit;
     let played = advanced.played;
-    let is_written = send(unit, &input[..count], &output[..played]);
+    let is_written = send(unit, piece, &output[..played]);
     stream::keep_tail(&mut input[..count], played);
     Progress {
         unit: after,

@@ -36,41 +36,41 @@ module _ (a : lts.After-advance (receive-reads.Asked, receive-reads.Learnt, adva
   piece-fits : (a .advance .result .played ≤ length (take (got .receive .result .count) input)) × (length (take (got .receive .result .count) input) ≤ a .advance .result .played + 4)
   piece-fits = tail-fits (from .args .stream) (now (from .args .input)) input (now (from .args .output)) (got .receive .result) (from .pre) (got .receive .ensures) (a .advance .result) (a .advance .ensures .0)
 
-  -- what is played fits the output
-  played-fits : a .advance .result .played ≤ length (a .advance .last .1 .1 .0)
-  played-fits = omega (arith, piece-fits .0, piece-size got, got .receive .ensures .count-fits, a .advance .kept .1 .1 .0, got .receive .ensures .length-is, from .pre .output-room)
+  -- what is played fits the piece, and so the output
+  sound-fits : (a .advance .result .played ≤ length (take (got .receive .result .count) input)) × (length (take (got .receive .result .count) input) ≤ length (a .advance .last .1 .1 .0))
+  sound-fits = (
+    piece-fits .0,
+    omega (arith, piece-size got, got .receive .ensures .count-fits, got .receive .ensures .length-is, from .pre .output-room, a .advance .kept .1 .1 .0),
+  )
 
-slice-aggregate-advance : tie.Need-slice-aggregate-advance
-slice-aggregate-advance c = piece-size (c .before .before .before .before)
+slice-aggregate-piece : tie.Need-slice-aggregate-piece
+slice-aggregate-piece c = piece-size (c .before .before .before .before)
+
+slice-reshare-prefix-send : tie.Need-slice-reshare-prefix-send
+slice-reshare-prefix-send c = omega (arith, sound-fits (c .before .before .before))
 
 slice-aggregate-send : tie.Need-slice-aggregate-send
-slice-aggregate-send c = piece-size (got (c .before .before .before .before))
-
-slice-reshare-prefix-send-2 : tie.Need-slice-reshare-prefix-send-2
-slice-reshare-prefix-send-2 c = played-fits (c .before .before .before .before)
-
-slice-aggregate-send-2 : tie.Need-slice-aggregate-send-2
-slice-aggregate-send-2 c =
-    let a = c .before .before .before .before .before in
-    sym (length-take-le (a .advance .result .played) (a .advance .last .1 .1 .0) (played-fits a))
+slice-aggregate-send c =
+    let a = c .before .before .before .before in
+    sym (length-take-le (a .advance .result .played) _ (omega (arith, sound-fits a)))
 
 send-requires : tie.Need-send-requires
 send-requires c κs =
-    let a = c .before .before .before .before .before in
+    let a = c .before .before .before .before in
     let s = from a in
     let g = got a in
     sounded (s .args .stream) (now (s .args .input)) (input a) (now (s .args .output)) (g .receive .result) (s .pre) (g .receive .ensures)
     (a .advance .result) (a .advance .ensures .0) (a .advance .last .1 .1 .0) (a .advance .ensures .1)
 
 slice-aggregate-keep-tail : tie.Need-slice-aggregate-keep-tail
-slice-aggregate-keep-tail c = piece-size (got (c .before .before .before .before .before .before .before))
+slice-aggregate-keep-tail c = piece-size (got (c .before .before .before .before .before .before))
 
 keep-tail-requires : tie.Need-keep-tail-requires
-keep-tail-requires c κs = piece-fits (c .before .before .before .before .before .before .before)
+keep-tail-requires c κs = piece-fits (c .before .before .before .before .before .before)
 
 returns : tie.Need-returns
 returns c =
-    let a = c .before .before .before .before .before .before .before .before .before .before .before in
+    let a = c .before .before .before .before .before .before .before .before .before .before in
     let s = from a in
     let g = got a in
     turn-gives (s .args .stream) (now (s .args .input)) (input a) (now (s .args .output)) (g .receive .result) (s .pre) (g .receive .ensures)
@@ -83,12 +83,10 @@ turn-spec =
     (λ c. search needs)
     (λ c κs. search needs)
     (λ c. search needs)
-    slice-aggregate-advance
+    slice-aggregate-piece
     (λ c κs. search needs)
-    (λ c. search needs)
+    slice-reshare-prefix-send
     slice-aggregate-send
-    slice-reshare-prefix-send-2
-    slice-aggregate-send-2
     send-requires
     (λ c. search needs)
     slice-aggregate-keep-tail
