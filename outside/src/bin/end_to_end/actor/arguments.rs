@@ -77,7 +77,7 @@ impl Actor {
 
     /// The order that the arguments give.
     pub fn order(&self, arguments: &[&[u8]]) -> Result<Order, Stop> {
-        if self.is(Fault::DeskFourth) && arguments.len() > 3 {
+        if arguments.len() > 3 && !self.is(Fault::DeskFourth) {
             return Err(self.usage());
         }
         let side = self.number(self.argument(arguments, 0)?)?;

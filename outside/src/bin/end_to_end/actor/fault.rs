@@ -183,7 +183,7 @@ pub const WRONG: [Wrong; 75] = [
     wrong(Fault::DeskBlankBehind, "desk-blank-behind", "a blank behind a number is accepted", &[ARGUMENTS]),
     wrong(Fault::DeskLong, "desk-long", "only nine columns of an argument are looked at", &[ARGUMENTS]),
     wrong(Fault::DeskMissing, "desk-missing", "a missing argument is 0", &[ARGUMENTS]),
-    wrong(Fault::DeskFourth, "desk-fourth", "a fourth argument is not accepted", &[ARGUMENTS]),
+    wrong(Fault::DeskFourth, "desk-fourth", "a fourth argument is not looked at", &[ARGUMENTS]),
     wrong(Fault::DeskMuteBegun, "desk-mute-begun", "a word that begins with mute is mute", &[ARGUMENTS]),
     wrong(Fault::DeskMuteAnyCase, "desk-mute-any-case", "mute is accepted in capitals", &[ARGUMENTS]),
 ];

@@ -37,7 +37,7 @@ fn number(text: &[u8]) -> Option<u32> {
 
 /// The order that these arguments give, if they give one.
 fn order(arguments: &[&[u8]]) -> Option<Order> {
-    let [side, band, level, ..] = arguments else {
+    let [side, band, level] = arguments else {
         return None;
     };
     let (side, band) = (number(side)?, number(band)?);

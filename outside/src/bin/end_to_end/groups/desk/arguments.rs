@@ -87,14 +87,15 @@ const TOO_FEW: [&[&[u8]]; 6] = [
     &[b"0", b"mute"],
 ];
 
-/// Three that give an order, and more behind them.
-const MORE: [&[&[u8]]; 6] = [
+/// Three that would give an order, and more behind them.
+const TOO_MANY: [&[&[u8]]; 7] = [
     &[b"0", b"3", b"20", b"x"],
     &[b"1", b"3", b"mute", b"20"],
     &[b"2", b"10", b"25", b""],
     &[b"2", b"10", b"mute", b"mute"],
     &[b"0", b"0", b"0", b"-1", b"99", b"\xff"],
     &[b"0", b"0", b"32", b"0"],
+    &[b"2", b"10", b"26", b"2", b"1", b"24"],
 ];
 
 /// Numbers with blanks before them, as a field has them.
@@ -158,10 +159,9 @@ impl Desk<'_> {
 
 pub fn all(tester: &Tester) -> Outcome {
     let mut desk = Desk::new(tester, SEED);
-    for arguments in TOO_FEW.iter().flat_map(|list| [list; 4]) {
+    for arguments in TOO_FEW.iter().chain(&TOO_MANY).flat_map(|list| [list; 4]) {
         desk.usage(arguments)?;
     }
-    desk.plain_runs(&MORE)?;
     desk.plain_runs(&BLANKS)?;
     desk.bad_levels()?;
     desk.bad_places()?;
