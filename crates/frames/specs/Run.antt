@@ -1,18 +1,19 @@
 -- What the routines within a block ask and give. Definitions only.
 use mathlib.Core.Path.{_≡_}
 use mathlib.Core.List.{List, [], _∷_, _++_}
-use Prim.Native.Nat.{ℕ, _+_, _*_, _≤_, _<_}
+use Prim.Native.Nat.{ℕ, _+_, _*_, _≤_}
 use lib.IntN.{ℤ, natAbs}
 use lib.ListN.{length, set, drop}
+use lib.Signed.{_≤ℤ_}
 use Rattle.levels.specs.declared.Level.{Level}
 use Rattle.unit.specs.declared.Unit.{Unit}
 use Rattle.unit.specs.Sizes.{channelCount, channelSize}
 use Rattle.unit.specs.Lists.{Each}
 use Rattle.unit.specs.Cleared.{bandsOf}
-use Rattle.unit.specs.Frame.{channelFrame, mix}
+use Rattle.unit.specs.Frame.{sampleLow, sampleHigh, channelFrame, mix}
 use Rattle.unit.specs.Fit.{BandFit, ChannelFit, Fit}
 use Rattle.engine.specs.Numbers.{channelOf, mixSize}
-use Rattle.frames.specs.Bytes.{wordAt, frameSize, lowByte, highByte}
+use Rattle.frames.specs.Bytes.{wordOf, frameSize, lowByte, highByte}
 use Rattle.frames.specs.Played.{played, sound}
 
 -- a sample stored as two bytes
@@ -21,18 +22,19 @@ putSample bytes at s = set (set bytes at (lowByte s)) (at + 1) (highByte s)
 
 -- ---- one channel's part in a frame
 
--- what it asks
-pub record ChannelMixAsks (bands l : List ℤ) (input : List ℕ) (at : ℕ) : Type 0 where
+-- what it asks, for a sample s
+pub record ChannelMixAsks (bands l : List ℤ) (s : ℤ) : Type 0 where
   pub bands-fit : Each BandFit (bandsOf bands)
   pub size : length l ≡ channelSize
   pub channel-fit : ChannelFit (channelOf l)
-  pub input-has : at + 1 < length input
+  pub low : sampleLow ≤ℤ s
+  pub high : s ≤ℤ sampleHigh
 
 -- what it gives: the numbers of the channel after the frame, and its m
-pub record ChannelMixGives (bands l : List ℤ) (input : List ℕ) (at : ℕ) (after : List ℤ) (m : ℤ) : Type 0 where
+pub record ChannelMixGives (bands l : List ℤ) (s : ℤ) (after : List ℤ) (m : ℤ) : Type 0 where
   pub size : length after ≡ channelSize
-  pub channel : channelOf after ≡ channelFrame (bandsOf bands) (wordAt input at) (channelOf l)
-  pub mixed : m ≡ mix (channelFrame (bandsOf bands) (wordAt input at) (channelOf l))
+  pub channel : channelOf after ≡ channelFrame (bandsOf bands) (wordOf s) (channelOf l)
+  pub mixed : m ≡ mix (channelFrame (bandsOf bands) (wordOf s) (channelOf l))
   pub small : natAbs m ≤ mixSize
 
 -- ---- all frames

@@ -1,5 +1,5 @@
 // Frames of sound through a unit's flat numbers. A frame is four bytes: left then right, low byte first.
-// Where a sample goes: from `frames` to `channel_mix`, which reads it and hands it to the engine, and back through `put_sound`.
+// Where a sample goes: `frames` reads it, `channel_mix` hands it to the engine, and what is heard goes back through `put_sound`.
 ghost use mathlib.Core.Path.{_≡_};
 ghost use Prim.Native.Nat.{_+_, _<_};
 ghost use lib.ListN.{length};
@@ -33,8 +33,10 @@ pub fn frames(
     while i < count {
         level = level.moved(levels::VOLUME_SLOPE);
         let present = level.present;
-        let left_mix = channel_mix(bands, left, input, FRAME_SIZE * i);
-        let right_mix = channel_mix(bands, right, input, FRAME_SIZE * i + SAMPLE_SIZE);
+        let left_sample = sample(input, FRAME_SIZE * i);
+        let left_mix = channel_mix(bands, left, left_sample);
+        let right_sample = sample(input, FRAME_SIZE * i + SAMPLE_SIZE);
+        let right_mix = channel_mix(bands, right, right_sample);
         put_sound(output, FRAME_SIZE * i, present, left_mix);
         put_sound(output, FRAME_SIZE * i + SAMPLE_SIZE, present, right_mix);
         i += 1;
@@ -42,17 +44,16 @@ pub fn frames(
     level
 }
 
-// A channel's frame on its sample at `at` of the input. Gives m.
+// A channel's frame on a sample of the input. Gives m.
 fn channel_mix(
     bands: &[i64; bands::SET_SIZE],
     channel: &mut [i64; unit::CHANNEL_SIZE],
-    input: &[u8],
-    at: usize,
+    sample: i64,
 ) -> i64
-    requires { ⌜ ChannelMixAsks (now bands) (now channel) (now input) at ⌝ }
-    ensures { λ r. ⌜ ChannelMixGives (now (bands .entry)) (now (channel .entry)) (now (input .entry)) at (now (channel .exit)) r ⌝ }
+    requires { ⌜ ChannelMixAsks (now bands) (now channel) sample ⌝ }
+    ensures { λ r. ⌜ ChannelMixGives (now (bands .entry)) (now (channel .entry)) sample (now (channel .exit)) r ⌝ }
 {
-    let x = 256 * sample(input, at);
+    let x = 256 * sample;
     engine::channel_frame(bands, channel, x)
 }
 

@@ -93,12 +93,7 @@ pub fn order(numbers: &mut [i32; numbers::UNIT_SIZE], side: u32, band: u32, sett
 pub fn sheet_read(numbers: &mut [i32; numbers::UNIT_SIZE], bytes: &[u8]) -> u32
     ensures { λ r. ⌜ SheetReadGives (now (numbers .entry)) (now (bytes .entry)) r (now (numbers .exit)) ⌝ }
 {
-    let mut carried = [0i32; numbers::UNIT_SIZE];
-    let found = reading::read_numbers(bytes, &mut carried);
-    if !refusals::accepted(found) {
-        return refusals::number(found);
-    }
-    *numbers = carried;
+    let found = reading::read_numbers(bytes, numbers);
     refusals::number(found)
 }
 

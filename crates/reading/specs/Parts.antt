@@ -1,15 +1,12 @@
--- What the routines that read a sheet leave behind: each stops at the first refusal, and has stored the numbers ahead of it. Definitions only.
+-- What the routines that read lines of a sheet leave behind: each stops at the first refusal, and has stored the numbers ahead of it. Definitions only.
 use mathlib.Core.List.{List, [], _∷_}
 use Prim.Native.Nat.{ℕ}
-use lib.Dec.{eqb}
-use lib.ListN.{length, drop, replicate}
-use Rattle.refusals.specs.Numbers.{unless}
-use Rattle.refusals.specs.declared.Verdict.the-variants.{Accepted, SheetLength}
+use lib.ListN.{drop, replicate}
 use Rattle.bands.specs.Bands.{bandCount}
 use Rattle.sheet.specs.declared.Line.{Line}
 use Rattle.sheet.specs.declared.Line.the-variants.{Left, Section}
-use Rattle.sheet.specs.Lines.{sheetSize, lines, channelRanges, lineSize}
-use Rattle.line_reading.specs.Parts.{Part, empty, test, andThen, plainPart, linePart}
+use Rattle.sheet.specs.Lines.{channelRanges, lineSize}
+use Rattle.line_reading.specs.Parts.{Part, empty, andThen, plainPart, linePart}
 
 -- some lines
 unfoldable pub linesPart : List Line → List ℕ → Part
@@ -19,7 +16,3 @@ linesPart (line ∷ rest) bytes = andThen (linePart line bytes) (linesPart rest 
 -- the lines of a channel: an L or an R line, and ten S lines
 abbrev pub channelPart : ℕ → List ℕ → Part
 channelPart letter bytes = andThen (plainPart letter channelRanges bytes) (linesPart (replicate bandCount Section) (drop (lineSize Left) bytes))
-
--- the sheet: its length, then all lines
-unfoldable pub sheetPart : List ℕ → Part
-sheetPart bytes = andThen (test (unless (eqb (length bytes) sheetSize) SheetLength Accepted)) (linesPart lines bytes)

@@ -35,6 +35,10 @@ numbersIn (line ∷ rest) bytes = lineNumbers line bytes ++ numbersIn rest (drop
 unfoldable pub sheetVerdict : List ℕ → Verdict
 sheetVerdict bytes = unless (eqb (length bytes) sheetSize) SheetLength (linesVerdict lines bytes)
 
+-- a unit's numbers after a sheet is read into them: accepted, those of the sheet's fields; refused, the given ones
+unfoldable pub numbersRead : List ℕ → List ℤ → List ℤ
+numbersRead bytes given = cond (isAccepted (sheetVerdict bytes)) (numbersIn lines bytes) given
+
 -- the unit that a sheet carries
 unfoldable pub unitIn : List ℕ → Unit
 unitIn bytes = unitOf (numbersIn lines bytes)

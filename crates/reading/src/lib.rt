@@ -1,5 +1,5 @@
-// Reading the strip sheet: the unit that it carries, or the first refusal and the given unit.
-// A routine that reads a part of the sheet stops at the first refusal; it has then stored the numbers ahead of it.
+// Reading the strip sheet: the unit or the numbers that it carries, or the first refusal, with the given unit or numbers as they were.
+// A routine that reads a part of the sheet stops at the first refusal; it has then stored the numbers ahead of it, in an array that no caller sees.
 ghost use mathlib.Core.Path.{_≡_};
 ghost use Prim.Native.Nat.{_+_, _*_, _≤_};
 ghost use lib.ListN.{length, drop, replicate};
@@ -8,8 +8,8 @@ ghost use Rattle.unit.specs.Sizes.{channelSize};
 ghost use Rattle.numbers.specs.Layout.{unitSize, bandsPlace};
 ghost use Rattle.sheet.specs.Lines.{channelBytes, sheetSize, lines, fieldCount, lineSize};
 ghost use Rattle.line_reading.specs.Parts.{linePart, ReadGives};
-ghost use Rattle.reading.specs.Reading.{sheetRead};
-ghost use Rattle.reading.specs.Parts.{linesPart, channelPart, sheetPart};
+ghost use Rattle.reading.specs.Reading.{sheetVerdict, numbersRead, sheetRead};
+ghost use Rattle.reading.specs.Parts.{linesPart, channelPart};
 use refusals::Verdict;
 use sheet::Line;
 use unit::Unit;
@@ -39,15 +39,21 @@ pub fn read(bytes: &[u8], given: Unit) -> SheetRead
     }
 }
 
-// Reads a sheet into a unit's numbers: 11 for a wrong length, then the first refusal from the first byte on.
+// Reads a sheet into a unit's numbers: 11 for a wrong length, then the first refusal from the first byte on. Refused, the lent numbers stay
+// as they are.
 pub fn read_numbers(bytes: &[u8], numbers: &mut [i32; numbers::UNIT_SIZE]) -> Verdict
-    requires { ⌜ length (now numbers) ≡ unitSize ⌝ }
-    ensures { λ r. ⌜ ReadGives (sheetPart (now (bytes .entry))) (now (numbers .entry)) 0 r (now (numbers .exit)) ⌝ }
+    ensures { λ r. ⌜ (r ≡ sheetVerdict (now (bytes .entry))) × (now (numbers .exit) ≡ numbersRead (now (bytes .entry)) (now (numbers .entry))) ⌝ }
 {
     if bytes.len() != sheet::SHEET_SIZE {
         return Verdict::SheetLength;
     }
-    read_lines(bytes, numbers)
+    let mut carried = [0i32; numbers::UNIT_SIZE];
+    let lines = read_lines(bytes, &mut carried);
+    if !refusals::accepted(lines) {
+        return lines;
+    }
+    *numbers = carried;
+    lines
 }
 
 // Reads all lines: the V line, ten C lines, then the lines of the left and of the right channel.

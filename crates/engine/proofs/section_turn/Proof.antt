@@ -1,11 +1,9 @@
 -- `engine::section_turn` meets its contract: the section as read, its gain moved, its y worked, limited and stored, is the definition's.
-use mathlib.Core.Path.{_≡_, sym, ap, ap₂, _∙_, subst}
+use mathlib.Core.Path.{_≡_, ap, ap₂, _∙_}
 use mathlib.Core.Bool.{not}
 use mathlib.Core.List.{List}
 use Prim.Native.Nat.{ℕ, _≤_}
-use native.Mathlib.Nat.{le-trans}
 use native.Mathlib.Omega.{arith}
-use lib.Dec.{lit≤}
 use lib.IntN.{ℤ, natAbs}
 use denote.Ref.{now}
 use mir.Syntax.{w64}
@@ -20,7 +18,7 @@ use Rattle.section.specs.Equation.{exactSum, sumShift, worked}
 use Rattle.section.specs.Asks.{RoundedSumAsks}
 use Rattle.section.proofs.Laws.{worked-size}
 use Rattle.levels.specs.declared.Level.{Level}
-use Rattle.levels.specs.Levels.{gainSlope, moved, MovedAsks}
+use Rattle.levels.specs.Levels.{gainSlope, moved}
 use Rattle.levels.proofs.Laws.{ramp-size}
 use Rattle.unit.specs.declared.BandSection.{BandSection}
 use Rattle.unit.specs.Frame.{sectionFrame}
@@ -84,9 +82,6 @@ module _ (c : lts.After-section-at (section-at-reads.Asked, section-at-reads.Lea
 
   target-size : natAbs (S .gain .target) ≤ wordSize
   target-size = word-size (S .gain .target) (fit .target)
-
-  ramped : MovedAsks (S .gain)
-  ramped = record { present-size = le-trans present-size (lit≤ tt); target-size = le-trans target-size (lit≤ tt) }
 
 -- a number of at most 2^23 in size is read back
 reads-small : (z : ℤ) → natAbs z ≤ wordSize → toZ w64 (ofZ w64 z) ≡ z
@@ -177,10 +172,6 @@ module _ (c : lts.After-limit-word (section-at-reads.Asked, section-at-reads.Lea
   unfolding sectionFrame
   stored-is = λ i. record { y1 = y-reads i; y2 = y1-reads d i; gain = gain-is i }
 
-moved-requires : tie.Need-moved-requires
-moved-requires c κs =
-    subst (λ (s : BandSection). MovedAsks (s .gain)) (sym (before-is (c .before .before .before))) (ramped (c .before .before .before))
-
 rounded-sum-requires : tie.Need-rounded-sum-requires
 rounded-sum-requires c κs =
     simp (alpha-reads c, beta-reads c, gamma-reads c, x-reads c, x2-reads c, y1-reads c, y2-reads c) (small (a c))
@@ -206,7 +197,7 @@ section-turn-spec =
     tie.close
     (tie.spec
     (λ c κs. search needs)
-    moved-requires
+    (λ c κs. search needs)
     (λ c. search needs)
     (λ c. search needs)
     (λ c. search needs)

@@ -1,10 +1,7 @@
 -- `exports::fonddrys_level_moved` meets its contract: the moved number lies between the level's two, so that it fits as they do.
 use mathlib.Core.Path.{_≡_, sym, ap, ap₂, _∙_, subst}
-use Prim.Native.Nat.{_^_, _≤_}
-use native.Mathlib.Nat.{le-trans}
-use lib.Dec.{lit≤}
-use lib.IntN.{ℤ, pos, natAbs}
-use lib.Signed.{natAbs-le}
+use lib.IntN.{ℤ, pos}
+use borrow.Author.Needs.{needs}
 use mir.Syntax.{w32, w64}
 use mir.Val.{SFits, toZ, ofZ}
 use mir.Facts.{sfits-widen}
@@ -72,15 +69,6 @@ cast-t6 c = widen-need tt (present c) (c .fits .present)
 cast-t7 : tie.Need-cast-t7
 cast-t7 c = widen-need tt (target c) (c .fits .target)
 
-moved-requires : tie.Need-moved-requires
-moved-requires c κs =
-    record {
-      present-size =
-          subst (λ (z : ℤ). natAbs z ≤ 2 ^ 61) (sym (present-reads c)) (le-trans (natAbs-le (present c) (c .fits .present .sfits)) (lit≤ tt));
-      target-size =
-          subst (λ (z : ℤ). natAbs z ≤ 2 ^ 61) (sym (target-reads c)) (le-trans (natAbs-le (target c) (c .fits .target .sfits)) (lit≤ tt));
-    }
-
 cast-result : tie.Need-cast-result
 cast-result c =
     unary-need (λ (z : ℤ). z) (num (after (c .before .before)) (after-wide (c .before .before))) (after-fits (c .before .before))
@@ -91,4 +79,4 @@ returns c =
     ∙ after-is (c .before .before)
 
 pub fonddrys-level-moved-spec : {M : Type 1} → statement M
-fonddrys-level-moved-spec = tie.close (tie.spec cast-t6 cast-t7 moved-requires cast-result returns)
+fonddrys-level-moved-spec = tie.close (tie.spec cast-t6 cast-t7 (λ c κs. search needs) cast-result returns)

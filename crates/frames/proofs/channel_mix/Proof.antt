@@ -1,5 +1,6 @@
 -- `frames::channel_mix` meets its contract: 256 × the sample is an input word, and the frame's m is small.
 use mathlib.Core.Path.{_≡_, sym, ap, _∙_, subst}
+use mathlib.Core.Bool.{true}
 use mathlib.Core.List.{List}
 use Prim.Native.Nat.{_≤_}
 use native.Mathlib.Nat.{le-trans}
@@ -9,32 +10,26 @@ use denote.Ref.{now}
 use mir.Syntax.{w64}
 use mir.Val.{SFits, toZ, ofZ}
 use mir.Facts.{toZ-ofZ}
-use Rattle.integers.proofs.Machine.{Num, literal, below-fits, binary, binary-need}
+use Rattle.integers.proofs.Machine.{Num, num, literal, below-fits, binary, binary-need}
 use Rattle.bands.specs.Words.{wordSize}
 use Rattle.unit.specs.declared.Channel.{Channel}
 use Rattle.unit.specs.Cleared.{bandsOf}
 use Rattle.unit.specs.Frame.{channelFrame, mix}
-use Rattle.unit.specs.Fit.{ChannelFit}
-use Rattle.unit.proofs.Ranges.{input-size}
+use Rattle.unit.specs.Fit.{isInput, ChannelFit}
+use Rattle.unit.proofs.Ranges.{input-size, sample-input}
 use Rattle.unit.proofs.Mix.{mix-size}
 use Rattle.unit.proofs.Stays.{channel-stays}
 use Rattle.engine.specs.Numbers.{channelOf, mixSize, ChannelFrameAsks}
-use Rattle.frames.specs.Bytes.{sampleAt, wordAt}
-use Rattle.frames.proofs.Bytes.{word-input}
-use borrow.Author.Needs.{needs}
+use Rattle.frames.specs.Bytes.{wordOf}
 use Rattle.frames.proofs.channel_mix.Statement.{statement}
 use Rattle.frames.proofs.channel_mix.Tie as tie
 use Rattle.frames.proofs.channel_mix.Reads as reads
 use Rattle.frames.proofs.channel_mix.Lts as lts
-use Rattle.frames.proofs.sample.Reads as sample-reads
 use Rattle.engine.proofs.channel_frame.Reads as channel-frame-reads
 
 -- ---- the input word
 
-module _ (c : lts.After-sample (sample-reads.Asked, sample-reads.Learnt, channel-frame-reads.Asked, channel-frame-reads.Learnt) reads.Pre reads.Post) where
-  abbrev s : lts.Start (sample-reads.Asked, sample-reads.Learnt, channel-frame-reads.Asked, channel-frame-reads.Learnt) reads.Pre reads.Post
-  s = c .before .before
-
+module _ (s : lts.Start (channel-frame-reads.Asked, channel-frame-reads.Learnt) reads.Pre reads.Post) where
   abbrev bands : List ℤ
   bands = now (s .args .bands)
 
@@ -42,13 +37,16 @@ module _ (c : lts.After-sample (sample-reads.Asked, sample-reads.Learnt, channel
   l = now (s .args .channel)
 
   abbrev x : ℤ
-  x = wordAt (now (s .args .input)) (s .args .at)
+  x = wordOf (s .args .sample)
+
+  x-input : isInput x ≡ true
+  x-input = sample-input (s .args .sample) (s .pre .low) (s .pre .high)
 
   x-size : natAbs x ≤ wordSize
-  x-size = input-size x (word-input (now (s .args .input)) (s .args .at))
+  x-size = input-size x x-input
 
   abbrev Sample : Num w64
-  Sample = record { bits = ofZ w64 (c .sample .result); value = sampleAt (now (s .args .input)) (s .args .at); reads = toZ-ofZ (record { sfits = c .sample .ok }) ∙ c .sample .ensures }
+  Sample = num (s .args .sample) (s .fits .sample)
 
   x-fits : SFits w64 (pos 256 *ℤ Sample .value)
   x-fits = below-fits {z = x} x-size tt
@@ -61,7 +59,7 @@ module _ (c : lts.After-sample (sample-reads.Asked, sample-reads.Learnt, channel
   after = channelFrame (bandsOf bands) x (channelOf l)
 
   after-fit : ChannelFit after
-  after-fit = channel-stays (bandsOf bands) x (channelOf l) (word-input (now (s .args .input)) (s .args .at)) (s .pre .channel-fit)
+  after-fit = channel-stays (bandsOf bands) x (channelOf l) x-input (s .pre .channel-fit)
 
   after-mix : natAbs (mix after) ≤ mixSize
   unfolding channelFrame
@@ -72,37 +70,27 @@ mul-x c = binary-need _*ℤ_ (literal 256) (Sample c) (x-fits c)
 
 channel-frame-requires : tie.Need-channel-frame-requires
 channel-frame-requires c κs =
-    subst (λ (z : ℤ). ChannelFrameAsks (bands (c .before)) (l (c .before)) z) (sym (x-reads (c .before)))
-    (record {
-      size = s (c .before) .pre .size;
-      bands-fit = s (c .before) .pre .bands-fit;
-      channel-fit = s (c .before) .pre .channel-fit;
-      x-size = x-size (c .before);
-    })
+    let s = c .before in
+    subst (λ (z : ℤ). ChannelFrameAsks (bands s) (l s) z) (sym (x-reads s))
+    (record { size = s .pre .size; bands-fit = s .pre .bands-fit; channel-fit = s .pre .channel-fit; x-size = x-size s })
 
 returns : tie.Need-returns
 returns c =
     record {
       size = c .channel-frame .ensures .size;
-      channel = c .channel-frame .ensures .channel ∙ ap (λ (z : ℤ). channelFrame (bandsOf (bands a)) z (channelOf (l a))) (x-reads a);
+      channel = c .channel-frame .ensures .channel ∙ ap (λ (z : ℤ). channelFrame (bandsOf (bands s)) z (channelOf (l s))) (x-reads s);
       mixed = reads-m;
-      small = subst (λ (z : ℤ). natAbs z ≤ mixSize) (sym reads-m) (after-mix a);
+      small = subst (λ (z : ℤ). natAbs z ≤ mixSize) (sym reads-m) (after-mix s);
     }
   where
-    a : lts.After-sample (sample-reads.Asked, sample-reads.Learnt, channel-frame-reads.Asked, channel-frame-reads.Learnt) reads.Pre reads.Post
-    a = c .before .before
+    s : lts.Start (channel-frame-reads.Asked, channel-frame-reads.Learnt) reads.Pre reads.Post
+    s = c .before .before
 
-    reads-m : toZ w64 (ofZ w64 (c .channel-frame .result)) ≡ mix (after a)
+    reads-m : toZ w64 (ofZ w64 (c .channel-frame .result)) ≡ mix (after s)
     reads-m =
         toZ-ofZ (record { sfits = c .channel-frame .ok })
         ∙ c .channel-frame .ensures .mixed
-        ∙ ap (λ (z : ℤ). mix (channelFrame (bandsOf (bands a)) z (channelOf (l a)))) (x-reads a)
+        ∙ ap (λ (z : ℤ). mix (channelFrame (bandsOf (bands s)) z (channelOf (l s)))) (x-reads s)
 
 pub channel-mix-spec : {M : Type 1} → statement M
-channel-mix-spec =
-    tie.close
-    (tie.spec
-    (λ c κs. search needs)
-    mul-x
-    channel-frame-requires
-    returns)
+channel-mix-spec = tie.close (tie.spec mul-x channel-frame-requires returns)

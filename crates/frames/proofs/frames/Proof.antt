@@ -2,10 +2,8 @@
 use mathlib.Core.Path.{_≡_, refl, sym, ap, ap₂, _∙_, subst}
 use mathlib.Core.List.{List, _++_}
 use Prim.Native.Nat.{ℕ, suc, _+_, _-_, _*_, _^_, _≤_, _<_}
-use native.Mathlib.Nat.{le-trans}
 use native.Mathlib.Numerals.{add-one}
 use native.Mathlib.Omega.{arith}
-use lib.Dec.{lit≤}
 use lib.IntN.{ℤ, natAbs}
 use lib.ListN.{length, drop, length-set, length-append, length-drop}
 use denote.Ref.{now}
@@ -16,16 +14,19 @@ use mir.Facts.{toZ-ofZ}
 use Rattle.integers.proofs.Machine.{below-fits}
 use Rattle.bands.specs.Words.{wordSize}
 use Rattle.levels.specs.declared.Level.{Level}
-use Rattle.levels.specs.Levels.{volumeSlope, moved, MovedAsks}
+use Rattle.levels.specs.Levels.{volumeSlope, moved}
 use Rattle.unit.specs.Sizes.{channelSize}
 use Rattle.unit.specs.declared.Unit.{Unit}
-use Rattle.unit.specs.Frame.{mix, output}
+use Rattle.unit.specs.Cleared.{bandsOf}
+use Rattle.unit.specs.Frame.{channelFrame, mix, output}
 use Rattle.unit.specs.Fit.{Fit}
 use Rattle.unit.proofs.Ranges.{volume-size}
 use Rattle.unit.proofs.Stays.{volume-stays}
 use Rattle.engine.specs.Numbers.{channelOf, mixSize, OutputAsks}
+use Rattle.frames.specs.Bytes.{sampleAt, wordOf}
 use Rattle.frames.specs.Played.{played, sound}
 use Rattle.frames.specs.Run.{putSample, ChannelMixAsks, unitWith}
+use Rattle.frames.proofs.Bytes.{sample-range}
 use Rattle.frames.proofs.Many.{played-fit, sound-length, unit-more, bytes-more}
 use Rattle.frames.proofs.frames.Statement.{statement}
 use Rattle.frames.proofs.frames.Tie as tie
@@ -33,6 +34,7 @@ use Rattle.frames.proofs.frames.Reads as reads
 use Rattle.frames.proofs.frames.Lts as lts
 use Rattle.frames.proofs.channel_mix.Reads as channel-mix-reads
 use Rattle.frames.proofs.put_sound.Reads as put-sound-reads
+use Rattle.frames.proofs.sample.Reads as sample-reads
 use Rattle.levels.proofs.Level.moved.Reads as moved-reads
 
 pub record Inv (u : Unit) (bands : List ℤ) (count : ℕ) (input room : List ℕ) (l r : List ℤ) (out : List ℕ) (level : Level) (i : ℕ) : Type 0 where
@@ -66,8 +68,8 @@ loop-holds c =
 
 -- ---- before a frame
 
-module _ (c : lts.In-loop (moved-reads.Asked, moved-reads.Learnt, channel-mix-reads.Asked, channel-mix-reads.Learnt, put-sound-reads.Asked, put-sound-reads.Learnt) reads.Pre reads.Post Inv-loop μ-loop) where
-  abbrev s : lts.Start (moved-reads.Asked, moved-reads.Learnt, channel-mix-reads.Asked, channel-mix-reads.Learnt, put-sound-reads.Asked, put-sound-reads.Learnt) reads.Pre reads.Post Inv-loop μ-loop
+module _ (c : lts.In-loop (moved-reads.Asked, moved-reads.Learnt, sample-reads.Asked, sample-reads.Learnt, channel-mix-reads.Asked, channel-mix-reads.Learnt, put-sound-reads.Asked, put-sound-reads.Learnt) reads.Pre reads.Post Inv-loop μ-loop) where
+  abbrev s : lts.Start (moved-reads.Asked, moved-reads.Learnt, sample-reads.Asked, sample-reads.Learnt, channel-mix-reads.Asked, channel-mix-reads.Learnt, put-sound-reads.Asked, put-sound-reads.Learnt) reads.Pre reads.Post Inv-loop μ-loop
   s = c .before .before .before .before
 
   abbrev bands : List ℤ
@@ -116,13 +118,6 @@ module _ (c : lts.In-loop (moved-reads.Asked, moved-reads.Learnt, channel-mix-re
       ∙ length-append (sound 2 U input i) (drop (4 * i) room)
       ∙ omega (arith, sound-length 2 U input i refl, length-drop (4 * i) room, below, s .pre .room-has)
 
-  ramped : MovedAsks level
-  ramped =
-      record {
-        present-size = le-trans (volume-size (level .present) (fit .volume .present)) (lit≤ tt);
-        target-size = le-trans (volume-size (level .target) (fit .volume .target)) (lit≤ tt);
-      }
-
   -- the volume of the frame
   abbrev next : Level
   next = moved volumeSlope level
@@ -130,13 +125,10 @@ module _ (c : lts.In-loop (moved-reads.Asked, moved-reads.Learnt, channel-mix-re
   next-size : natAbs (next .present) ≤ wordSize
   next-size = volume-size (next .present) (volume-stays level (fit .volume))
 
-moved-requires : tie.Need-moved-requires Inv-loop μ-loop
-moved-requires c κs = ramped c
-
 -- ---- the volume moved
 
-module _ (c : lts.After-moved (moved-reads.Asked, moved-reads.Learnt, channel-mix-reads.Asked, channel-mix-reads.Learnt, put-sound-reads.Asked, put-sound-reads.Learnt) reads.Pre reads.Post Inv-loop μ-loop) where
-  abbrev n : lts.In-loop (moved-reads.Asked, moved-reads.Learnt, channel-mix-reads.Asked, channel-mix-reads.Learnt, put-sound-reads.Asked, put-sound-reads.Learnt) reads.Pre reads.Post Inv-loop μ-loop
+module _ (c : lts.After-moved (moved-reads.Asked, moved-reads.Learnt, sample-reads.Asked, sample-reads.Learnt, channel-mix-reads.Asked, channel-mix-reads.Learnt, put-sound-reads.Asked, put-sound-reads.Learnt) reads.Pre reads.Post Inv-loop μ-loop) where
+  abbrev n : lts.In-loop (moved-reads.Asked, moved-reads.Learnt, sample-reads.Asked, sample-reads.Learnt, channel-mix-reads.Asked, channel-mix-reads.Learnt, put-sound-reads.Asked, put-sound-reads.Learnt) reads.Pre reads.Post Inv-loop μ-loop
   n = c .before
 
   level-is : c .moved .result ≡ next n
@@ -151,49 +143,83 @@ module _ (c : lts.After-moved (moved-reads.Asked, moved-reads.Learnt, channel-mi
   volume-small : natAbs V′ ≤ wordSize
   volume-small = subst (λ (z : ℤ). natAbs z ≤ wordSize) (sym volume-is) (next-size n)
 
-  left-mixes : ChannelMixAsks (bands n) (l n) (input n) (4 * i n)
+  -- the frame's last byte is in the input
+  last-has : 4 * i n + 3 < length (input n)
+  last-has = omega (arith, below n, s n .pre .input-has)
+
+  left-mixes : ChannelMixAsks (bands n) (l n) (sampleAt (input n) (4 * i n))
   left-mixes =
       record {
         bands-fit = fit n .bands;
         size = inv n .left-size;
         channel-fit = fit n .channels .0;
-        input-has = omega (arith, below n, s n .pre .input-has);
+        low = sample-range (input n) (4 * i n) .0;
+        high = sample-range (input n) (4 * i n) .1;
       }
 
-  right-mixes : ChannelMixAsks (bands n) (r n) (input n) (4 * i n + 2)
+  right-mixes : ChannelMixAsks (bands n) (r n) (sampleAt (input n) (4 * i n + 2))
   right-mixes =
       record {
         bands-fit = fit n .bands;
         size = inv n .right-size;
         channel-fit = fit n .channels .1 .0;
-        input-has = omega (arith, below n, s n .pre .input-has);
+        low = sample-range (input n) (4 * i n + 2) .0;
+        high = sample-range (input n) (4 * i n + 2) .1;
       }
 
-mul-channel-mix : tie.Need-mul-channel-mix Inv-loop μ-loop
-mul-channel-mix c = omega (arith, below (c .before .before .before), s (c .before .before .before) .pre .input-has)
+mul-sample : tie.Need-mul-sample Inv-loop μ-loop
+mul-sample c = omega (arith, few (n (c .before)))
+
+sample-requires : tie.Need-sample-requires Inv-loop μ-loop
+sample-requires c κs = omega (arith, last-has (c .before))
+
+-- ---- the left sample read
+
+module _ (c : lts.After-sample (moved-reads.Asked, moved-reads.Learnt, sample-reads.Asked, sample-reads.Learnt, channel-mix-reads.Asked, channel-mix-reads.Learnt, put-sound-reads.Asked, put-sound-reads.Learnt) reads.Pre reads.Post Inv-loop μ-loop) where
+  abbrev f : lts.After-moved (moved-reads.Asked, moved-reads.Learnt, sample-reads.Asked, sample-reads.Learnt, channel-mix-reads.Asked, channel-mix-reads.Learnt, put-sound-reads.Asked, put-sound-reads.Learnt) reads.Pre reads.Post Inv-loop μ-loop
+  f = c .before .before
+
+  left-sample : toZ w64 (ofZ w64 (c .sample .result)) ≡ sampleAt (input (n f)) (4 * i (n f))
+  left-sample = toZ-ofZ (record { sfits = c .sample .ok }) ∙ c .sample .ensures
 
 channel-mix-requires : tie.Need-channel-mix-requires Inv-loop μ-loop
-channel-mix-requires c κs = left-mixes (c .before .before)
+channel-mix-requires c κs =
+    let o = f (c .before) in
+    subst (λ (z : ℤ). ChannelMixAsks (bands (n o)) (l (n o)) z) (sym (left-sample (c .before))) (left-mixes o)
 
-mul-channel-mix-2 : tie.Need-mul-channel-mix-2 Inv-loop μ-loop
-mul-channel-mix-2 c = omega (arith, below (c .before .before .before .before .before), s (c .before .before .before .before .before) .pre .input-has)
+mul-sample-2 : tie.Need-mul-sample-2 Inv-loop μ-loop
+mul-sample-2 c = omega (arith, few (n (f (c .before .before))))
 
-add-channel-mix : tie.Need-add-channel-mix Inv-loop μ-loop
-add-channel-mix c = omega (arith, below (c .before .before .before .before .before), s (c .before .before .before .before .before) .pre .input-has)
+add-sample : tie.Need-add-sample Inv-loop μ-loop
+add-sample c = omega (arith, few (n (f (c .before .before))))
+
+sample-requires-2 : tie.Need-sample-requires-2 Inv-loop μ-loop
+sample-requires-2 c κs = omega (arith, last-has (f (c .before .before)))
+
+-- ---- the right sample read
+
+module _ (c : lts.After-sample2 (moved-reads.Asked, moved-reads.Learnt, sample-reads.Asked, sample-reads.Learnt, channel-mix-reads.Asked, channel-mix-reads.Learnt, put-sound-reads.Asked, put-sound-reads.Learnt) reads.Pre reads.Post Inv-loop μ-loop) where
+  abbrev g : lts.After-moved (moved-reads.Asked, moved-reads.Learnt, sample-reads.Asked, sample-reads.Learnt, channel-mix-reads.Asked, channel-mix-reads.Learnt, put-sound-reads.Asked, put-sound-reads.Learnt) reads.Pre reads.Post Inv-loop μ-loop
+  g = f (c .before .before .before)
+
+  right-sample : toZ w64 (ofZ w64 (c .sample2 .result)) ≡ sampleAt (input (n g)) (4 * i (n g) + 2)
+  right-sample = toZ-ofZ (record { sfits = c .sample2 .ok }) ∙ c .sample2 .ensures
 
 channel-mix-requires-2 : tie.Need-channel-mix-requires-2 Inv-loop μ-loop
-channel-mix-requires-2 c κs = right-mixes (c .before .before .before .before)
+channel-mix-requires-2 c κs =
+    let o = g (c .before) in
+    subst (λ (z : ℤ). ChannelMixAsks (bands (n o)) (r (n o)) z) (sym (right-sample (c .before))) (right-mixes o)
 
 -- ---- both mixed
 
-module _ (c : lts.After-channel-mix2 (moved-reads.Asked, moved-reads.Learnt, channel-mix-reads.Asked, channel-mix-reads.Learnt, put-sound-reads.Asked, put-sound-reads.Learnt) reads.Pre reads.Post Inv-loop μ-loop) where
-  abbrev h : lts.After-channel-mix (moved-reads.Asked, moved-reads.Learnt, channel-mix-reads.Asked, channel-mix-reads.Learnt, put-sound-reads.Asked, put-sound-reads.Learnt) reads.Pre reads.Post Inv-loop μ-loop
-  h = c .before .before
+module _ (c : lts.After-channel-mix2 (moved-reads.Asked, moved-reads.Learnt, sample-reads.Asked, sample-reads.Learnt, channel-mix-reads.Asked, channel-mix-reads.Learnt, put-sound-reads.Asked, put-sound-reads.Learnt) reads.Pre reads.Post Inv-loop μ-loop) where
+  abbrev h : lts.After-channel-mix (moved-reads.Asked, moved-reads.Learnt, sample-reads.Asked, sample-reads.Learnt, channel-mix-reads.Asked, channel-mix-reads.Learnt, put-sound-reads.Asked, put-sound-reads.Learnt) reads.Pre reads.Post Inv-loop μ-loop
+  h = c .before .before .before
 
-  abbrev a : lts.After-moved (moved-reads.Asked, moved-reads.Learnt, channel-mix-reads.Asked, channel-mix-reads.Learnt, put-sound-reads.Asked, put-sound-reads.Learnt) reads.Pre reads.Post Inv-loop μ-loop
-  a = h .before .before .before
+  abbrev a : lts.After-moved (moved-reads.Asked, moved-reads.Learnt, sample-reads.Asked, sample-reads.Learnt, channel-mix-reads.Asked, channel-mix-reads.Learnt, put-sound-reads.Asked, put-sound-reads.Learnt) reads.Pre reads.Post Inv-loop μ-loop
+  a = h .before .before .before .before
 
-  abbrev b : lts.In-loop (moved-reads.Asked, moved-reads.Learnt, channel-mix-reads.Asked, channel-mix-reads.Learnt, put-sound-reads.Asked, put-sound-reads.Learnt) reads.Pre reads.Post Inv-loop μ-loop
+  abbrev b : lts.In-loop (moved-reads.Asked, moved-reads.Learnt, sample-reads.Asked, sample-reads.Learnt, channel-mix-reads.Asked, channel-mix-reads.Learnt, put-sound-reads.Asked, put-sound-reads.Learnt) reads.Pre reads.Post Inv-loop μ-loop
   b = n a
 
   abbrev l′ : List ℤ
@@ -204,7 +230,9 @@ module _ (c : lts.After-channel-mix2 (moved-reads.Asked, moved-reads.Learnt, cha
 
   unit-next : unitWith (next b) (bands b) l′ r′ ≡ played 2 (U b) (input b) (suc (i b))
   unit-next =
-      unit-more (U b) (input b) (i b) (bands b) (level b) (l b) (r b) l′ r′ (inv b .unit) (h .channel-mix .ensures .channel) (c .channel-mix2 .ensures .channel)
+      unit-more (U b) (input b) (i b) (bands b) (level b) (l b) (r b) l′ r′ (inv b .unit)
+      (h .channel-mix .ensures .channel ∙ ap (λ (z : ℤ). channelFrame (bandsOf (bands b)) (wordOf z) (channelOf (l b))) (left-sample (h .before .before)))
+      (c .channel-mix2 .ensures .channel ∙ ap (λ (z : ℤ). channelFrame (bandsOf (bands b)) (wordOf z) (channelOf (r b))) (right-sample (c .before .before)))
 
   -- m as it is read, of the channel after the frame
   left-reads : toZ w64 (ofZ w64 (h .channel-mix .result)) ≡ mix (channelOf l′)
@@ -240,8 +268,8 @@ put-sound-requires c κs = (
 
 -- ---- the left sample stored
 
-module _ (c : lts.After-put-sound (moved-reads.Asked, moved-reads.Learnt, channel-mix-reads.Asked, channel-mix-reads.Learnt, put-sound-reads.Asked, put-sound-reads.Learnt) reads.Pre reads.Post Inv-loop μ-loop) where
-  abbrev m : lts.After-channel-mix2 (moved-reads.Asked, moved-reads.Learnt, channel-mix-reads.Asked, channel-mix-reads.Learnt, put-sound-reads.Asked, put-sound-reads.Learnt) reads.Pre reads.Post Inv-loop μ-loop
+module _ (c : lts.After-put-sound (moved-reads.Asked, moved-reads.Learnt, sample-reads.Asked, sample-reads.Learnt, channel-mix-reads.Asked, channel-mix-reads.Learnt, put-sound-reads.Asked, put-sound-reads.Learnt) reads.Pre reads.Post Inv-loop μ-loop) where
+  abbrev m : lts.After-channel-mix2 (moved-reads.Asked, moved-reads.Learnt, sample-reads.Asked, sample-reads.Learnt, channel-mix-reads.Asked, channel-mix-reads.Learnt, put-sound-reads.Asked, put-sound-reads.Learnt) reads.Pre reads.Post Inv-loop μ-loop
   m = c .before .before
 
   -- the output with the left sample
@@ -265,14 +293,14 @@ put-sound-requires-2 c κs = (
 
 -- ---- after a frame
 
-module _ (c : lts.After-put-sound2 (moved-reads.Asked, moved-reads.Learnt, channel-mix-reads.Asked, channel-mix-reads.Learnt, put-sound-reads.Asked, put-sound-reads.Learnt) reads.Pre reads.Post Inv-loop μ-loop) where
-  abbrev e : lts.After-put-sound (moved-reads.Asked, moved-reads.Learnt, channel-mix-reads.Asked, channel-mix-reads.Learnt, put-sound-reads.Asked, put-sound-reads.Learnt) reads.Pre reads.Post Inv-loop μ-loop
+module _ (c : lts.After-put-sound2 (moved-reads.Asked, moved-reads.Learnt, sample-reads.Asked, sample-reads.Learnt, channel-mix-reads.Asked, channel-mix-reads.Learnt, put-sound-reads.Asked, put-sound-reads.Learnt) reads.Pre reads.Post Inv-loop μ-loop) where
+  abbrev e : lts.After-put-sound (moved-reads.Asked, moved-reads.Learnt, sample-reads.Asked, sample-reads.Learnt, channel-mix-reads.Asked, channel-mix-reads.Learnt, put-sound-reads.Asked, put-sound-reads.Learnt) reads.Pre reads.Post Inv-loop μ-loop
   e = c .before .before .before .before
 
-  abbrev k : lts.After-channel-mix2 (moved-reads.Asked, moved-reads.Learnt, channel-mix-reads.Asked, channel-mix-reads.Learnt, put-sound-reads.Asked, put-sound-reads.Learnt) reads.Pre reads.Post Inv-loop μ-loop
+  abbrev k : lts.After-channel-mix2 (moved-reads.Asked, moved-reads.Learnt, sample-reads.Asked, sample-reads.Learnt, channel-mix-reads.Asked, channel-mix-reads.Learnt, put-sound-reads.Asked, put-sound-reads.Learnt) reads.Pre reads.Post Inv-loop μ-loop
   k = m e
 
-  abbrev w : lts.In-loop (moved-reads.Asked, moved-reads.Learnt, channel-mix-reads.Asked, channel-mix-reads.Learnt, put-sound-reads.Asked, put-sound-reads.Learnt) reads.Pre reads.Post Inv-loop μ-loop
+  abbrev w : lts.In-loop (moved-reads.Asked, moved-reads.Learnt, sample-reads.Asked, sample-reads.Learnt, channel-mix-reads.Asked, channel-mix-reads.Learnt, put-sound-reads.Asked, put-sound-reads.Learnt) reads.Pre reads.Post Inv-loop μ-loop
   w = b k
 
   abbrev full : List ℕ
@@ -303,19 +331,19 @@ loop-again c =
       bytes = bytes-next p;
     })
   where
-    p : lts.After-put-sound2 (moved-reads.Asked, moved-reads.Learnt, channel-mix-reads.Asked, channel-mix-reads.Learnt, put-sound-reads.Asked, put-sound-reads.Learnt) reads.Pre reads.Post Inv-loop μ-loop
+    p : lts.After-put-sound2 (moved-reads.Asked, moved-reads.Learnt, sample-reads.Asked, sample-reads.Learnt, channel-mix-reads.Asked, channel-mix-reads.Learnt, put-sound-reads.Asked, put-sound-reads.Learnt) reads.Pre reads.Post Inv-loop μ-loop
     p = c .before .before
 
-    q : lts.After-channel-mix2 (moved-reads.Asked, moved-reads.Learnt, channel-mix-reads.Asked, channel-mix-reads.Learnt, put-sound-reads.Asked, put-sound-reads.Learnt) reads.Pre reads.Post Inv-loop μ-loop
+    q : lts.After-channel-mix2 (moved-reads.Asked, moved-reads.Learnt, sample-reads.Asked, sample-reads.Learnt, channel-mix-reads.Asked, channel-mix-reads.Learnt, put-sound-reads.Asked, put-sound-reads.Learnt) reads.Pre reads.Post Inv-loop μ-loop
     q = k p
 
-    v : lts.In-loop (moved-reads.Asked, moved-reads.Learnt, channel-mix-reads.Asked, channel-mix-reads.Learnt, put-sound-reads.Asked, put-sound-reads.Learnt) reads.Pre reads.Post Inv-loop μ-loop
+    v : lts.In-loop (moved-reads.Asked, moved-reads.Learnt, sample-reads.Asked, sample-reads.Learnt, channel-mix-reads.Asked, channel-mix-reads.Learnt, put-sound-reads.Asked, put-sound-reads.Learnt) reads.Pre reads.Post Inv-loop μ-loop
     v = w p
 
 -- ---- after the last frame
 
-module _ (c : lts.After-loop (moved-reads.Asked, moved-reads.Learnt, channel-mix-reads.Asked, channel-mix-reads.Learnt, put-sound-reads.Asked, put-sound-reads.Learnt) reads.Pre reads.Post Inv-loop μ-loop) where
-  abbrev start : lts.Start (moved-reads.Asked, moved-reads.Learnt, channel-mix-reads.Asked, channel-mix-reads.Learnt, put-sound-reads.Asked, put-sound-reads.Learnt) reads.Pre reads.Post Inv-loop μ-loop
+module _ (c : lts.After-loop (moved-reads.Asked, moved-reads.Learnt, sample-reads.Asked, sample-reads.Learnt, channel-mix-reads.Asked, channel-mix-reads.Learnt, put-sound-reads.Asked, put-sound-reads.Learnt) reads.Pre reads.Post Inv-loop μ-loop) where
+  abbrev start : lts.Start (moved-reads.Asked, moved-reads.Learnt, sample-reads.Asked, sample-reads.Learnt, channel-mix-reads.Asked, channel-mix-reads.Learnt, put-sound-reads.Asked, put-sound-reads.Learnt) reads.Pre reads.Post Inv-loop μ-loop
   start = c .before .before .before .before
 
   all : c .before .loop .i ≡ start .args .count
@@ -343,11 +371,13 @@ frames-spec =
     Inv-loop
     μ-loop
     loop-holds
-    moved-requires
-    mul-channel-mix
+    (λ c κs. search needs)
+    mul-sample
+    sample-requires
     channel-mix-requires
-    mul-channel-mix-2
-    add-channel-mix
+    mul-sample-2
+    add-sample
+    sample-requires-2
     channel-mix-requires-2
     mul-put-sound
     put-sound-requires

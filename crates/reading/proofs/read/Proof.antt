@@ -4,14 +4,14 @@ use mathlib.Core.Bool.{true}
 use mathlib.Core.List.{List}
 use Prim.Native.Nat.{ℕ}
 use lib.IntN.{pos}
-use lib.ListN.{length-replicate}
+use lib.ListN.{replicate}
 use denote.Ref.{now}
 use borrow.Author.Needs.{needs}
 use Rattle.refusals.specs.Numbers.{isAccepted}
 use Rattle.unit.specs.declared.Unit.{Unit}
 use Rattle.numbers.specs.Layout.{unitSize, unitOf}
 use Rattle.reading.specs.Reading.{sheetVerdict, unitIn}
-use Rattle.reading.proofs.Laws.{sheet-verdict, sheet-numbers, read-accepted, read-refused}
+use Rattle.reading.proofs.Laws.{numbers-accepted, read-accepted, read-refused}
 use Rattle.reading.proofs.read.Statement.{statement}
 use Rattle.reading.proofs.read.Tie as tie
 use Rattle.reading.proofs.read.Reads as reads
@@ -33,7 +33,7 @@ module _ (c : lts.After-accepted (read-numbers-reads.Asked, read-numbers-reads.L
   given = start .args .given
 
   verdict-is : c .before .read-numbers .result ≡ sheetVerdict bytes
-  verdict-is = c .before .read-numbers .ensures .verdict-is ∙ sheet-verdict bytes
+  verdict-is = c .before .read-numbers .ensures .0
 
   sheet-test : c .accepted .result ≡ isAccepted (sheetVerdict bytes)
   sheet-test = c .accepted .ensures ∙ ap isAccepted verdict-is
@@ -41,7 +41,7 @@ module _ (c : lts.After-accepted (read-numbers-reads.Asked, read-numbers-reads.L
   -- accepted, the numbers make the unit that the sheet carries
   unit-is : c .accepted .result ≡ true → unitOf (c .before .read-numbers .last .1 .0) ≡ unitIn bytes
   unfolding unitIn
-  unit-is e = ap unitOf (sheet-numbers bytes (c .before .read-numbers .ensures) (length-replicate unitSize (pos 0)) (sym (c .accepted .ensures) ∙ e))
+  unit-is e = ap unitOf (c .before .read-numbers .ensures .1 ∙ numbers-accepted bytes (replicate unitSize (pos 0)) (sym sheet-test ∙ e))
 
 returns : tie.Need-returns
 returns c =
