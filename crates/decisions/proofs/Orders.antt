@@ -29,42 +29,32 @@ module _ (bytes : List ℕ) (order : DeskOrder) (house : Unit) (r : SheetRead) (
 
   pub sheet-refused : (buffer : List ℕ) → isAccepted (r .verdict) ≡ false → (r .verdict ≡ deskVerdict bytes order) × (buffer ≡ deskSheet bytes order buffer)
   unfolding deskVerdict deskSheet
-  sheet-refused buffer not-accepted = (
-    verdict-is ∙ sym (first-refused (sheetVerdict bytes) (deskOrdered bytes order .verdict) no'),
-    failed (isAccepted (sheetVerdict bytes) && isAccepted (deskOrdered bytes order .verdict)) (filled (deskOrdered bytes order .unit) buffer) buffer
-        (ap (λ (t : Bool). t && isAccepted (deskOrdered bytes order .verdict)) no'),
-  )
+  sheet-refused buffer refused = (stays, failed (isAccepted (deskVerdict bytes order)) (filled (deskOrdered bytes order .unit) buffer) buffer (ap isAccepted (sym stays) ∙ refused))
     where
-      no' : isAccepted (sheetVerdict bytes) ≡ false
-      no' = ap isAccepted (sym verdict-is) ∙ not-accepted
+      stays : r .verdict ≡ deskVerdict bytes order
+      stays = verdict-is ∙ sym (first-refused (sheetVerdict bytes) (deskOrdered bytes order .verdict) (ap isAccepted (sym verdict-is) ∙ refused))
 
   module _ (yes : isAccepted (r .verdict) ≡ true) (o : Ordered) (gives : o ≡ ordered (r .unit) (order .side) (order .band) (order .setting)) where
-    yes' : isAccepted (sheetVerdict bytes) ≡ true
-    yes' = ap isAccepted (sym verdict-is) ∙ yes
+    accepted : isAccepted (sheetVerdict bytes) ≡ true
+    accepted = ap isAccepted (sym verdict-is) ∙ yes
 
     ordered-is : o ≡ deskOrdered bytes order
-    ordered-is = gives ∙ ap (λ (u : Unit). ordered u (order .side) (order .band) (order .setting)) (ap (λ (a : SheetRead). a .unit) (read ∙ read-accepted bytes house yes'))
+    ordered-is = gives ∙ ap (λ (u : Unit). ordered u (order .side) (order .band) (order .setting)) (ap (λ (a : SheetRead). a .unit) (read ∙ read-accepted bytes house accepted))
 
     pub answered : o .verdict ≡ deskVerdict bytes order
     unfolding deskVerdict
-    answered = ap (λ (a : Ordered). a .verdict) ordered-is ∙ sym (first-accepted (sheetVerdict bytes) (deskOrdered bytes order .verdict) yes')
-
-    abbrev both : Bool
-    both = isAccepted (sheetVerdict bytes) && isAccepted (deskOrdered bytes order .verdict)
-
-    both-is : both ≡ isAccepted (o .verdict)
-    both-is = ap₂ _&&_ yes' (ap (λ (a : Ordered). isAccepted (a .verdict)) (sym ordered-is))
+    answered = ap (λ (a : Ordered). a .verdict) ordered-is ∙ sym (first-accepted (sheetVerdict bytes) (deskOrdered bytes order .verdict) accepted)
 
     pub written : (buffer after : List ℕ) → isAccepted (o .verdict) ≡ true → after ≡ filled (o .unit) buffer → after ≡ deskSheet bytes order buffer
     unfolding deskSheet
     written buffer after taken fills =
         fills
         ∙ ap (λ (a : Ordered). filled (a .unit) buffer) ordered-is
-        ∙ passed both (filled (deskOrdered bytes order .unit) buffer) buffer (both-is ∙ taken)
+        ∙ passed (isAccepted (deskVerdict bytes order)) (filled (deskOrdered bytes order .unit) buffer) buffer (ap isAccepted (sym answered) ∙ taken)
 
     pub unchanged : (buffer : List ℕ) → isAccepted (o .verdict) ≡ false → buffer ≡ deskSheet bytes order buffer
     unfolding deskSheet
-    unchanged buffer not-accepted = failed both (filled (deskOrdered bytes order .unit) buffer) buffer (both-is ∙ not-accepted)
+    unchanged buffer refused = failed (isAccepted (deskVerdict bytes order)) (filled (deskOrdered bytes order .unit) buffer) buffer (ap isAccepted (sym answered) ∙ refused)
 
 -- ---- what goes out
 
@@ -72,17 +62,13 @@ module _ (bytes : List ℕ) (order : DeskOrder) (yes : isAccepted (deskVerdict b
   abbrev after : Unit
   after = deskOrdered bytes order .unit
 
-  -- the sheet is accepted, and so is the order
-  both-accepted : (isAccepted (sheetVerdict bytes) ≡ true) × (isAccepted (deskOrdered bytes order .verdict) ≡ true)
-  unfolding deskVerdict
-  both-accepted = first-both (sheetVerdict bytes) (deskOrdered bytes order .verdict) yes
-
   -- the unit after the order is fit
   after-fits : unitFits after ≡ true
+  unfolding deskVerdict
   after-fits =
       test-of-fit after
       (order-fit (unitIn bytes) (order .side) (order .band) (order .setting)
-      (accepted-fit (unitIn bytes) (order .side) (order .band) (order .setting) (both-accepted .1)))
+      (accepted-fit (unitIn bytes) (order .side) (order .band) (order .setting) (first-both (sheetVerdict bytes) (deskOrdered bytes order .verdict) yes .1)))
 
   -- so a buffer of a sheet's size becomes the sheet
   pub hands-out : (room sheet : List ℕ) → length room ≡ sheetSize → sheet ≡ deskSheet bytes order room → HandsOut bytes order sheet
@@ -92,7 +78,7 @@ module _ (bytes : List ℕ) (order : DeskOrder) (yes : isAccepted (deskVerdict b
         accepted = yes;
         sheet-is =
             e
-            ∙ sym (passed (isAccepted (sheetVerdict bytes) && isAccepted (deskOrdered bytes order .verdict)) (filled after room) room (ap₂ _&&_ (both-accepted .0) (both-accepted .1)))
+            ∙ sym (passed (isAccepted (deskVerdict bytes order)) (filled after room) room yes)
             ∙ ap₂ (λ (a b : Bool). cond (a && b) (sheetOf after ++ drop sheetSize room) room) (le-leb sheetSize (length room) (omega (arith, size))) after-fits
             ∙ ap (λ (l : List ℕ). sheetOf after ++ l) (drop-of-length-le room {i = sheetSize} (omega (arith, size)))
             ∙ append-nil (sheetOf after);

@@ -1,6 +1,6 @@
 -- What the programs decide. Definitions only.
 use mathlib.Core.Path.{_≡_}
-use mathlib.Core.Bool.{Bool, true, cond, not, _&&_}
+use mathlib.Core.Bool.{Bool, true, cond, not}
 use mathlib.Core.List.{List}
 use Prim.Native.Nat.{ℕ}
 use lib.Dec.{eqb}
@@ -41,7 +41,7 @@ module _ (bytes : List ℕ) (order : DeskOrder) where
 
   -- accepted, the sheet of the unit after the order, at the front of the buffer; refused, the buffer unchanged
   unfoldable pub deskSheet : List ℕ → List ℕ
-  deskSheet buffer = cond (isAccepted (sheetVerdict bytes) && isAccepted (deskOrdered .verdict)) (filled (deskOrdered .unit) buffer) buffer
+  deskSheet buffer = cond (isAccepted deskVerdict) (filled (deskOrdered .unit) buffer) buffer
 
   -- what may go out: of an accepted order, the sheet of the unit after it
   pub record HandsOut (sheet : List ℕ) : Type 0 where
