@@ -49,10 +49,14 @@ settingIn text = cond (isMute text) Mute (Position (byteOf (argumentNumber text)
 
 -- ---- all arguments
 
--- so many arguments, the name of the program among them, and the first three behind it: there are no others, side and band are numbers, and
--- the level is a number or the word "mute"
+-- the name of the program, side, band and level
+abbrev pub argumentCount : ℕ
+argumentCount = 4
+
+-- so many arguments, and the three behind the name: there are no others, side and band are numbers, and the level is a number or the word
+-- "mute"
 abbrev pub isOrder : ℕ → List ℕ → List ℕ → List ℕ → Bool
-isOrder count side band level = ((eqb count 4 && isNumber side) && isNumber band) && (isMute level || isNumber level)
+isOrder count side band level = ((eqb count argumentCount && isNumber side) && isNumber band) && (isMute level || isNumber level)
 
 -- the order that they mean
 abbrev pub orderIn : List ℕ → List ℕ → List ℕ → DeskOrder

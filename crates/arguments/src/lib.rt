@@ -9,8 +9,8 @@ use settings::Setting;
 // Stands for no number.
 const NONE: u32 = fields::NO_NUMBER as u32;
 
-// How many arguments an order has, the name of the program among them: side, band and level behind it.
-const ORDER_ARGUMENTS: usize = 4;
+// How many arguments there are with an order: the name of the program, side, band and level.
+const ARGUMENT_COUNT: usize = 4;
 
 // A level order.
 pub struct DeskOrder {
@@ -19,11 +19,12 @@ pub struct DeskOrder {
     pub setting: Setting,
 }
 
-// Whether so many arguments, and the first three behind the name, are an order: no more than these, side and band numbers, the level a number or the word "mute".
+// Whether so many arguments, and the three behind the name, are an order: there are no others, side and band are numbers, and the level is a
+// number or the word "mute".
 pub fn is_order(count: usize, side: &[u8], band: &[u8], level: &[u8]) -> bool
     ensures { λ r. ⌜ r ≡ isOrder count (now (side .entry)) (now (band .entry)) (now (level .entry)) ⌝ }
 {
-    (count == ORDER_ARGUMENTS)
+    (count == ARGUMENT_COUNT)
         & (number(side) != NONE)
         & (number(band) != NONE)
         & (is_mute(level) | (number(level) != NONE))
