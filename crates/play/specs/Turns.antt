@@ -5,7 +5,9 @@ use mathlib.Core.List.{List, []}
 use Prim.Native.Nat.{ℕ, _≤_, _<_}
 use lib.ListN.{length, take}
 use Rattle.unit.specs.declared.Unit.{Unit}
+use Rattle.unit.specs.Sizes.{channelCount}
 use Rattle.unit.specs.Fit.{Fit}
+use Rattle.frames.specs.Bytes.{frameSize}
 use Rattle.stream.specs.Claim.{Stream, oneBlock, next, Ready}
 use Rattle.play.specs.declared.playing.Progress.{Progress}
 
@@ -16,8 +18,8 @@ inHand p input = record { unit = p .unit; held = take (p .held) input; sound = [
 -- it can be read on: the unit is fit and has two channels, less than a frame is held, and the output has room for all that the input has
 pub record TurnAsks (p : Progress) (input output : List ℕ) : Type 0 where
   pub ready : Ready (inHand p input)
-  pub held-few : p .held < 4
-  pub input-room : 4 ≤ length input
+  pub held-few : p .held < frameSize channelCount
+  pub input-room : frameSize channelCount ≤ length input
   pub output-room : length input ≤ length output
 
 -- the sound is that of a piece's whole frames through this unit, which is fit
@@ -31,7 +33,7 @@ pub record TurnGives (p : Progress) (input : List ℕ) (after : Progress) (input
   pub unit-is : after .unit ≡ next (inHand p input) bytes .unit
   pub held-is : take (after .held) input' ≡ next (inHand p input) bytes .held
   pub held-count : after .held ≡ length (next (inHand p input) bytes .held)
-  pub held-few : after .held < 4
+  pub held-few : after .held < frameSize channelCount
   pub ready : Ready (inHand after input')
 
 -- "its sound and sheet are those of one block": the unit at the end is that of one block of all that was read, and its tail is held

@@ -43,8 +43,15 @@ pub fn save(unit: Unit)
     let sheet = writing::write(unit, &mut bytes);
     if !store(unit, sheet) {
         os::unlink(&PART);
-        io::write_all(libc::STDERR_FILENO, sheet);
+        show(unit, sheet);
     }
+}
+
+// Writes the unit's sheet to standard error.
+fn show(unit: Unit, sheet: &[u8])
+    requires { ⌜ IsSheet unit (now sheet) ⌝ }
+{
+    io::write_all(libc::STDERR_FILENO, sheet);
 }
 
 // The unit's sheet to the file beside strip.new, and that to its place.

@@ -7,6 +7,7 @@ use Prim.Native.Nat.{ℕ, _≤_}
 use lib.ListN.{length, take, drop}
 use Rattle.refusals.specs.declared.Verdict.the-variants.{Accepted}
 use Rattle.unit.specs.declared.Unit.{Unit}
+use Rattle.unit.specs.Sizes.{channelCount}
 use Rattle.unit.specs.Fit.{Fit}
 use Rattle.blocks.specs.Block.{blockPlayed, blockOutput}
 use Rattle.stream.specs.Advance.{wholeFrames, tailBytes, advanced, advancedOutput}
@@ -20,8 +21,8 @@ pub record Stream : Type 0 where
 -- the whole frames of these bytes as one block, with an output as long as they are; the tail is held
 unfoldable pub oneBlock : Unit → List ℕ → Stream
 oneBlock u bytes =
-    let frames = wholeFrames 2 bytes in
-    record { unit = blockPlayed 2 u frames (length frames) .unit; held = tailBytes 2 bytes; sound = blockOutput 2 u frames frames }
+    let frames = wholeFrames channelCount bytes in
+    record { unit = blockPlayed channelCount u frames (length frames) .unit; held = tailBytes channelCount bytes; sound = blockOutput channelCount u frames frames }
 
 -- before the first read
 abbrev pub begun : Unit → Stream
@@ -45,21 +46,21 @@ allOf (bytes ∷ reads) = bytes ++ allOf reads
 
 -- `stream::advance`, lent the held bytes and those that came, and an output with room for them, is the next read
 pub record Advances (s : Stream) (bytes room : List ℕ) : Type 0 where
-  pub accepts : advanced 2 (s .unit) (s .held ++ bytes) (length room) .verdict ≡ Accepted
-  pub unit-is : advanced 2 (s .unit) (s .held ++ bytes) (length room) .unit ≡ next s bytes .unit
+  pub accepts : advanced channelCount (s .unit) (s .held ++ bytes) (length room) .verdict ≡ Accepted
+  pub unit-is : advanced channelCount (s .unit) (s .held ++ bytes) (length room) .unit ≡ next s bytes .unit
   -- the held bytes are those behind the played ones
-  pub played-few : advanced 2 (s .unit) (s .held ++ bytes) (length room) .played ≤ length (s .held ++ bytes)
-  pub held-is : drop (advanced 2 (s .unit) (s .held ++ bytes) (length room) .played) (s .held ++ bytes) ≡ next s bytes .held
-  pub held-count : advanced 2 (s .unit) (s .held ++ bytes) (length room) .held ≡ length (next s bytes .held)
+  pub played-few : advanced channelCount (s .unit) (s .held ++ bytes) (length room) .played ≤ length (s .held ++ bytes)
+  pub held-is : drop (advanced channelCount (s .unit) (s .held ++ bytes) (length room) .played) (s .held ++ bytes) ≡ next s bytes .held
+  pub held-count : advanced channelCount (s .unit) (s .held ++ bytes) (length room) .held ≡ length (next s bytes .held)
   -- the sound stands at the front of the output
   pub sound-is :
-      s .sound ++ take (advanced 2 (s .unit) (s .held ++ bytes) (length room) .played) (advancedOutput 2 (s .unit) (s .held ++ bytes) room)
+      s .sound ++ take (advanced channelCount (s .unit) (s .held ++ bytes) (length room) .played) (advancedOutput channelCount (s .unit) (s .held ++ bytes) room)
       ≡ next s bytes .sound
 
 -- a stream that can go on: its unit is fit, and has two channels, as every unit that a program holds
 pub record Ready (s : Stream) : Type 0 where
   pub fit : Fit (s .unit)
-  pub channels-are : length (s .unit .channels) ≡ 2
+  pub channels-are : length (s .unit .channels) ≡ channelCount
 
 pub record CutAnywhere : Type 0 where
   pub advances : (s : Stream) (bytes room : List ℕ) → Ready s → length (s .held ++ bytes) ≤ length room → Advances s bytes room
