@@ -1,9 +1,8 @@
 // What the programs share: a refusal's line, and reading and writing that says what failed.
-ghost use mathlib.Core.Path.{_≡_};
 ghost use Prim.Native.Nat.{_≤_};
 ghost use lib.ListN.{length};
 ghost use Rattle.io.specs.Counts.{Counts};
-ghost use Rattle.console.specs.Answers.{refusalLine};
+ghost use Rattle.console.specs.Answers.{SayAsks};
 ghost use Rattle.console.specs.Reads.{ReceiveGives};
 use refusals::Verdict;
 
@@ -36,7 +35,7 @@ pub fn answer(verdict: Verdict) {
 
 // Writes the line of a refusal.
 fn say(verdict: Verdict, line: &[u8])
-    requires { ⌜ now line ≡ refusalLine verdict ⌝ }
+    requires { ⌜ SayAsks verdict (now line) ⌝ }
 {
     io::write_all(libc::STDERR_FILENO, line);
 }

@@ -73,8 +73,7 @@ fn finish(begun: Unit, stream: Progress)
     let ending = decisions::ending(is_lost, held);
     let verdict = ending.verdict;
     if ending.is_saved {
-        let unit = stream.unit;
-        saving::save(unit);
+        saving::save(stream);
     }
     answer_end(is_lost, held, verdict);
 }

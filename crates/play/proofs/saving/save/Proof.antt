@@ -14,8 +14,8 @@ use Rattle.os.proofs.unlink.Reads as unlink-reads
 use Rattle.writing.proofs.write.Reads as write-reads
 
 -- what the writer hands back is the unit's sheet
-part : (w : lts.After-write (write-reads.Asked, write-reads.Learnt, store-reads.Asked, store-reads.Learnt, unlink-reads.Asked, unlink-reads.Learnt, show-reads.Asked, show-reads.Learnt) reads.Pre reads.Post) → IsSheet (w .before .before .args .unit) (now (w .write .result))
-part w = part-sheet (w .before .before .args .unit) 1128 _ (w .before .before .pre) (lit≤ tt) (w .write .ensures .0)
+part : (w : lts.After-write (write-reads.Asked, write-reads.Learnt, store-reads.Asked, store-reads.Learnt, unlink-reads.Asked, unlink-reads.Learnt, show-reads.Asked, show-reads.Learnt) reads.Pre reads.Post) → IsSheet (w .before .before .before .args .stream .unit) (now (w .write .result))
+part w = part-sheet (w .before .before .before .args .stream .unit) 1128 _ (w .before .before .before .pre .fit) (lit≤ tt) (w .write .ensures .0)
 
 store-requires : tie.Need-store-requires
 store-requires c κs = part (c .before)
