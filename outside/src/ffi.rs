@@ -22,29 +22,11 @@ pub mod raw {
             output: *mut u8,
             output_len: usize,
         ) -> u32;
-        pub fn fonddrys_order_position(
-            unit: *mut [i32; 118],
-            side: u32,
-            band: u32,
-            position: u8,
-        ) -> u32;
-        pub fn fonddrys_order_factor(
-            unit: *mut [i32; 118],
-            side: u32,
-            band: u32,
-            factor: f32,
-        ) -> u32;
+        pub fn fonddrys_order_position(unit: *mut [i32; 118], side: u32, band: u32, position: u8) -> u32;
+        pub fn fonddrys_order_factor(unit: *mut [i32; 118], side: u32, band: u32, factor: f32) -> u32;
         pub fn fonddrys_order_mute(unit: *mut [i32; 118], side: u32, band: u32) -> u32;
-        pub fn fonddrys_sheet_write(
-            unit: *const [i32; 118],
-            buffer: *mut u8,
-            buffer_len: usize,
-        ) -> usize;
-        pub fn fonddrys_sheet_read(
-            unit: *mut [i32; 118],
-            bytes: *const u8,
-            bytes_len: usize,
-        ) -> u32;
+        pub fn fonddrys_sheet_write(unit: *const [i32; 118], buffer: *mut u8, buffer_len: usize) -> usize;
+        pub fn fonddrys_sheet_read(unit: *mut [i32; 118], bytes: *const u8, bytes_len: usize) -> u32;
         pub fn fonddrys_preview(
             alpha: i32,
             beta: i32,

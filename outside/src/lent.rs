@@ -55,10 +55,7 @@ fn house_keeps() -> bool {
 }
 
 fn steps_keep() -> bool {
-    let calls = [
-        ([6606, 4_181_093, 8_375_315, 0, 0, 0, 0], 256_000),
-        ([-1; 7], 0),
-    ];
+    let calls = [([6606, 4_181_093, 8_375_315, 0, 0, 0, 0], 256_000), ([-1; 7], 0)];
     calls.iter().all(|(section, x)| {
         // SAFETY: seven numbers are lent.
         lend(section, |section| unsafe {
@@ -101,9 +98,7 @@ fn blocks_keep() -> bool {
     let units = [cleared(&house_set()), [-1; 118]];
     let lengths = [(0, 0), (4, 4), (5, 9), (8, 4), (64, 64), (64, 71), (68, 67)];
     units.iter().all(|unit| {
-        lengths.iter().all(|&(input, output)| {
-            (0..4).all(|odd| block_keeps(unit, &vec![0x77; input], output, odd))
-        })
+        lengths.iter().all(|&(input, output)| (0..4).all(|odd| block_keeps(unit, &vec![0x77; input], output, odd)))
     })
 }
 
@@ -129,12 +124,7 @@ fn orders_keep() -> bool {
     let units = [cleared(&house_set()), [-1; 118]];
     let places = [(0, 0), (1, 9), (2, 9), (2, 10), (0, 10), (2, 11), (3, 0)];
     let far = [(2, 118), (2, 1 << 29), (u32::MAX, u32::MAX)];
-    units.iter().all(|unit| {
-        places
-            .iter()
-            .chain(&far)
-            .all(|&(side, band)| order_keeps(unit, side, band))
-    })
+    units.iter().all(|unit| places.iter().chain(&far).all(|&(side, band)| order_keeps(unit, side, band)))
 }
 
 fn order_keeps(unit: &[i32; 118], side: u32, band: u32) -> bool {
@@ -204,20 +194,14 @@ fn read_keeps(unit: &[i32; 118], bytes: &[u8], odd: usize) -> bool {
 /// Lists of several lengths, with room behind the results, without and with too
 /// little; accepted bands and words and refused ones.
 fn previews_keep() -> bool {
-    let bands = [
-        [6_606, 4_181_093, 8_375_315],
-        [8_388_607, -4_194_303, 0],
-        [-1; 3],
-    ];
+    let bands = [[6_606, 4_181_093, 8_375_315], [8_388_607, -4_194_303, 0], [-1; 3]];
     bands.iter().all(|band| {
         [0, 1, 2, 3, 4, 5, 8, 17, 64, 1_001].iter().all(|&length| {
             let right: Vec<i32> = [WORD_MAX, WORD_MIN, 0].repeat(length)[..length].to_vec();
             let mut wrong = right.clone();
             wrong.iter_mut().rev().take(1).for_each(|word| *word = MARK);
             let rooms = [0, length / 2, length.saturating_sub(1), length, length + 9];
-            rooms
-                .iter()
-                .all(|&room| preview_keeps(band, &right, room) && preview_keeps(band, &wrong, room))
+            rooms.iter().all(|&room| preview_keeps(band, &right, room) && preview_keeps(band, &wrong, room))
         })
     })
 }

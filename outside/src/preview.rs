@@ -12,12 +12,7 @@ pub const RESULTS_TOO_SHORT: u32 = 6;
 /// "The preview's user: 8 to 10, then 6 (results buffer shorter than the
 /// words), then 15 a number that is no word." Whether all are words is judged
 /// by the given function.
-fn refusal_by(
-    [a, b, g]: [i32; 3],
-    words: &[i32],
-    room: usize,
-    all_words: impl Fn(&[i32]) -> bool,
-) -> u32 {
+fn refusal_by([a, b, g]: [i32; 3], words: &[i32], room: usize, all_words: impl Fn(&[i32]) -> bool) -> u32 {
     match band_refusal(a, b, g) {
         ACCEPTED if room < words.len() => RESULTS_TOO_SHORT,
         ACCEPTED if !all_words(words) => NO_WORD,
@@ -87,12 +82,7 @@ pub mod fast {
     impl Preview {
         fn cleared(band: [i32; 3]) -> Preview {
             let [a, b, g] = band.map(|word| f64::from(word) / 4_194_304.0);
-            Preview {
-                a,
-                b,
-                g,
-                ..Preview::default()
-            }
+            Preview { a, b, g, ..Preview::default() }
         }
 
         /// The next y.

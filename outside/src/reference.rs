@@ -119,11 +119,7 @@ pub mod exact {
         let unit = 1_i128 << k.min(100);
         let below = i128::from(v).div_euclid(unit);
         let over = i128::from(v).rem_euclid(unit);
-        let up = if 2 * over == unit {
-            below.rem_euclid(2) == 1
-        } else {
-            2 * over > unit
-        };
+        let up = if 2 * over == unit { below.rem_euclid(2) == 1 } else { 2 * over > unit };
         (if up { below + 1 } else { below }) as i64
     }
 

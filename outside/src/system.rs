@@ -28,12 +28,7 @@ mod raw {
         pub fn fcntl(descriptor: c_int, command: c_int, ...) -> c_int;
         pub fn ioctl(descriptor: c_int, request: c_ulong, ...) -> c_int;
         pub fn signal(number: c_int, handler: usize) -> usize;
-        pub fn wait4(
-            process: c_int,
-            status: *mut c_int,
-            options: c_int,
-            usage: *mut Rusage,
-        ) -> c_int;
+        pub fn wait4(process: c_int, status: *mut c_int, options: c_int, usage: *mut Rusage) -> c_int;
         pub fn getrusage(who: c_int, usage: *mut Rusage) -> c_int;
     }
 }
@@ -84,13 +79,9 @@ pub struct Used {
 impl Used {
     fn of(usage: &raw::Rusage) -> Used {
         let time = |time: raw::Timeval| {
-            Duration::from_secs(time.seconds as u64)
-                + Duration::from_micros(time.microseconds as u64)
+            Duration::from_secs(time.seconds as u64) + Duration::from_micros(time.microseconds as u64)
         };
-        Used {
-            user: time(usage.user),
-            system: time(usage.system),
-        }
+        Used { user: time(usage.user), system: time(usage.system) }
     }
 
     pub fn total(&self) -> Duration {

@@ -4,18 +4,16 @@
 use std::process::ExitCode;
 
 use outside::checks::groups::{
-    Group, DISTANCE, LISTS_OF_CALLS, MANY_SHEETS, ORDER_GROUPS, PREVIEW_GROUPS, SECTION_GROUPS,
-    SHEET_GROUPS, SOUND_GROUPS, UNIT_GROUPS,
+    Group, DISTANCE, LISTS_OF_CALLS, MANY_SHEETS, ORDER_GROUPS, PREVIEW_GROUPS, SECTION_GROUPS, SHEET_GROUPS,
+    SOUND_GROUPS, UNIT_GROUPS,
 };
 use outside::checks::report::report;
 use outside::checks::{
-    arithmetic, bands, big_numbers, block_refusals, blocks, call_lists, cuts, distance_lists,
-    factors, fitness, levels, loads, one_step, orders, refusals, steps,
+    arithmetic, bands, big_numbers, block_refusals, blocks, call_lists, cuts, distance_lists, factors, fitness, levels,
+    loads, one_step, orders, refusals, steps,
 };
 use outside::checks::{preview_lengths, preview_refusals, previews};
-use outside::checks::{
-    sheet_damage, sheet_fields, sheet_lengths, sheet_lines, sheet_lists, sheets,
-};
+use outside::checks::{sheet_damage, sheet_fields, sheet_lengths, sheet_lines, sheet_lists, sheets};
 use outside::checks::{Difference, Tally};
 use outside::exact_sound::judge::Distances;
 use outside::faults::{desk, preview, section, sheet, unit, Impostor};
@@ -62,8 +60,7 @@ const SEEDS: [(&str, u64); 29] = [
 ];
 
 fn everything() -> Result<(), Difference> {
-    let numbers =
-        big_numbers::agree().map_err(|difference| format!("big numbers: {difference}"))?;
+    let numbers = big_numbers::agree().map_err(|difference| format!("big numbers: {difference}"))?;
     println!("The arithmetic of the exact sound:");
     println!("  {} answers agree", numbers.answers);
     println!("The fast Rust form against the exact one:");
@@ -86,15 +83,8 @@ fn every_group(subject: &dyn Subject, more: &[Group]) -> Result<(), Difference> 
     let groups = groups.chain(&ORDER_GROUPS).chain(&SOUND_GROUPS);
     let groups = groups.chain(&SHEET_GROUPS).chain(&PREVIEW_GROUPS);
     for group in groups.chain(more) {
-        let tally =
-            (group.run)(subject).map_err(|difference| format!("{}: {difference}", group.name))?;
-        println!(
-            "  {} ({}): {} answers agree{}",
-            group.name,
-            group.what,
-            tally.answers,
-            sound_of(&tally)
-        );
+        let tally = (group.run)(subject).map_err(|difference| format!("{}: {difference}", group.name))?;
+        println!("  {} ({}): {} answers agree{}", group.name, group.what, tally.answers, sound_of(&tally));
         total.add(&tally);
     }
     println!("  in all {} answers, among them", total.answers);
@@ -110,21 +100,12 @@ fn every_group(subject: &dyn Subject, more: &[Group]) -> Result<(), Difference> 
 /// The frames played and the words previewed, where there are any.
 fn sound_of(tally: &Tally) -> String {
     let counts = [(tally.frames, "frames"), (tally.previews.words, "words")];
-    counts
-        .iter()
-        .filter(|(count, _)| *count > 0)
-        .map(|(count, what)| format!(", {count} {what}"))
-        .collect()
+    counts.iter().filter(|(count, _)| *count > 0).map(|(count, what)| format!(", {count} {what}")).collect()
 }
 
 /// Lists that stay far within the bound would pass a wrong sound too.
 fn near_the_bound(distances: &Distances) -> Result<(), Difference> {
-    let Distances {
-        largest,
-        largest_of_sections,
-        judged,
-        ..
-    } = distances;
+    let Distances { largest, largest_of_sections, judged, .. } = distances;
     println!(
         "  largest distance {largest:.6} of the bound over {judged} samples, \
          {largest_of_sections:.6} where the part of the sections is most of it"
@@ -158,8 +139,7 @@ fn every_fault() -> Result<(), Difference> {
 /// be found for something else than their fault.
 fn nothing_wrong(subject: &dyn Subject, groups: &[Group]) -> Result<(), Difference> {
     for group in groups {
-        (group.run)(subject)
-            .map_err(|difference| format!("nothing wrong, {}: {difference}", group.name))?;
+        (group.run)(subject).map_err(|difference| format!("nothing wrong, {}: {difference}", group.name))?;
     }
     Ok(())
 }

@@ -69,15 +69,9 @@ const EVERY_G: [i32; 15] = [
     i32::MAX,
 ];
 
-fn same_refusal(
-    subject: &dyn Subject,
-    [a, b, g]: Band,
-    tally: &mut Tally,
-) -> Result<(), Difference> {
+fn same_refusal(subject: &dyn Subject, [a, b, g]: Band, tally: &mut Tally) -> Result<(), Difference> {
     let got = subject.band_refusal(a, b, g);
-    same(tally, band_refusal(a, b, g), got, || {
-        format!("band A = {a}, B = {b}, G = {g}")
-    })
+    same(tally, band_refusal(a, b, g), got, || format!("band A = {a}, B = {b}, G = {g}"))
 }
 
 /// Every G of the list and those at the edge that goes with this B.
@@ -124,28 +118,19 @@ pub fn house(subject: &dyn Subject) -> Outcome {
     let (expected, got) = (house_set(), subject.house_set());
     for place in 0..30 {
         let name = ["A", "B", "G"][place % 3];
-        same(&mut tally, expected[place], got[place], || {
-            format!("house set, {name} of band {}", place / 3)
-        })?;
+        same(&mut tally, expected[place], got[place], || format!("house set, {name} of band {}", place / 3))?;
     }
     for band in got.chunks_exact(3) {
         let [a, b, g] = [band[0], band[1], band[2]];
-        same(&mut tally, ACCEPTED, band_refusal(a, b, g), || {
-            format!("house band {band:?}")
-        })?;
-        same(&mut tally, ACCEPTED, subject.band_refusal(a, b, g), || {
-            format!("house band {band:?}")
-        })?;
+        same(&mut tally, ACCEPTED, band_refusal(a, b, g), || format!("house band {band:?}"))?;
+        same(&mut tally, ACCEPTED, subject.band_refusal(a, b, g), || format!("house band {band:?}"))?;
     }
     Ok(tally)
 }
 
 /// The ten bands of the house set.
 pub fn house_bands() -> Vec<Band> {
-    house_set()
-        .chunks_exact(3)
-        .map(|band| [band[0], band[1], band[2]])
-        .collect()
+    house_set().chunks_exact(3).map(|band| [band[0], band[1], band[2]]).collect()
 }
 
 /// Any accepted band.
@@ -185,20 +170,14 @@ fn accepted_of(every_a: &[i32], every_b: &[i32], every_g: impl Fn(i32) -> Vec<i3
 
 /// Accepted bands at the corners of the accepted ranges.
 pub fn extreme_accepted() -> Vec<Band> {
-    accepted_of(
-        &[0, 1, 8_388_606, 8_388_607],
-        &[-4_194_303, -4_194_302, -1, 0, 1, 4_194_302, 4_194_303],
-        |b| {
-            let edge = 4_194_304 + b - 1;
-            vec![edge, -edge, edge - 1, 1 - edge, 1, 0, -1]
-        },
-    )
+    accepted_of(&[0, 1, 8_388_606, 8_388_607], &[-4_194_303, -4_194_302, -1, 0, 1, 4_194_302, 4_194_303], |b| {
+        let edge = 4_194_304 + b - 1;
+        vec![edge, -edge, edge - 1, 1 - edge, 1, 0, -1]
+    })
 }
 
 /// Accepted bands of multiples of 2^21, so that S / 2^22 is often at a half.
 pub fn half_accepted() -> Vec<Band> {
     const HALF: i32 = 1 << 21;
-    accepted_of(&[0, HALF, 2 * HALF, 3 * HALF], &[-HALF, 0, HALF], |_| {
-        (-3..=3).map(|n| n * HALF).collect()
-    })
+    accepted_of(&[0, HALF, 2 * HALF, 3 * HALF], &[-HALF, 0, HALF], |_| (-3..=3).map(|n| n * HALF).collect())
 }

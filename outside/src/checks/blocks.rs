@@ -30,12 +30,7 @@ fn set_targets(numbers: &mut Numbers, volume: i32, mut gain: impl FnMut() -> i32
 
 impl Run<'_> {
     /// One block with a few bytes of room behind it.
-    fn block(
-        &mut self,
-        numbers: &mut Numbers,
-        sound: Sound,
-        frames: usize,
-    ) -> Result<(), Difference> {
+    fn block(&mut self, numbers: &mut Numbers, sound: Sound, frames: usize) -> Result<(), Difference> {
         let input = sound.block(frames, &mut self.random);
         let room = input.len() + self.random.below(9) as usize;
         same_block(self.subject, numbers, &input, room, &mut self.tally)?;
@@ -59,12 +54,7 @@ impl Run<'_> {
 
     /// A sound and the silence behind it, with every gain at this end and the
     /// volume at rest.
-    fn loud(
-        &mut self,
-        set: &[i32; 30],
-        [gain, volume]: [i32; 2],
-        sound: Sound,
-    ) -> Result<(), Difference> {
+    fn loud(&mut self, set: &[i32; 30], [gain, volume]: [i32; 2], sound: Sound) -> Result<(), Difference> {
         let mut numbers = cleared(set);
         numbers[0] = volume;
         set_targets(&mut numbers, volume, || gain);
@@ -95,12 +85,7 @@ impl Run<'_> {
 }
 
 pub fn long(subject: &dyn Subject) -> Outcome {
-    let mut run = Run {
-        subject,
-        sets: Sets::all(),
-        random: Random::new(BLOCKS_SEED),
-        tally: Tally::default(),
-    };
+    let mut run = Run { subject, sets: Sets::all(), random: Random::new(BLOCKS_SEED), tally: Tally::default() };
     run.long_sound(&mut cleared(&house_set()))?;
     for turn in 0..10 {
         let set = run.sets.draw(turn, &mut run.random);
@@ -121,12 +106,7 @@ pub fn long(subject: &dyn Subject) -> Outcome {
 
 /// Single frames from random fit units.
 pub fn frames(subject: &dyn Subject) -> Outcome {
-    let mut run = Run {
-        subject,
-        sets: Sets::all(),
-        random: Random::new(FRAMES_SEED),
-        tally: Tally::default(),
-    };
+    let mut run = Run { subject, sets: Sets::all(), random: Random::new(FRAMES_SEED), tally: Tally::default() };
     for turn in 0..200_000 {
         let set = run.sets.draw(turn, &mut run.random);
         let mut numbers = random_fit(&set, &mut run.random);

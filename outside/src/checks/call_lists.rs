@@ -17,15 +17,11 @@ fn list(subject: &dyn Subject, list: &List, tally: &mut Tally) -> Result<(), Dif
     let mut numbers = [-1; 118];
     let answer = subject.load(&mut numbers, &list.set);
     let expected = (ACCEPTED, cleared(&list.set));
-    same(tally, expected, (answer, numbers), || {
-        format!("loading {:?}", list.set)
-    })?;
+    same(tally, expected, (answer, numbers), || format!("loading {:?}", list.set))?;
     for (place, call) in list.calls.iter().enumerate() {
         let called = match call {
             Call::Order(order) => same_order(subject, &mut numbers, order, tally).map(|_| ()),
-            Call::Block { input, room } => {
-                same_block(subject, &mut numbers, input, *room, tally).map(|_| ())
-            }
+            Call::Block { input, room } => same_block(subject, &mut numbers, input, *room, tally).map(|_| ()),
         };
         called.map_err(|difference| format!("call {place} of a list, {difference}"))?;
     }

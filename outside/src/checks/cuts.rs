@@ -39,20 +39,12 @@ impl Run<'_> {
         mut next: impl FnMut(&mut Random) -> usize,
     ) -> Result<(), Difference> {
         let (mut whole, mut parts) = (*start, *start);
-        let expected = same_block(
-            self.subject,
-            &mut whole,
-            sound,
-            sound.len(),
-            &mut self.tally,
-        )?;
+        let expected = same_block(self.subject, &mut whole, sound, sound.len(), &mut self.tally)?;
         let mut got = vec![0; sound.len()];
         let mut begun = 0;
         while begun < sound.len() {
             let end = sound.len().min(begun + 4 * next(&mut self.random));
-            let answer = self
-                .subject
-                .block(&mut parts, &sound[begun..end], &mut got[begun..end]);
+            let answer = self.subject.block(&mut parts, &sound[begun..end], &mut got[begun..end]);
             same(&mut self.tally, 0, answer, || "a part".to_string())?;
             begun = end;
         }
@@ -63,11 +55,7 @@ impl Run<'_> {
 }
 
 pub fn sizes_and_cuts(subject: &dyn Subject) -> Outcome {
-    let mut run = Run {
-        subject,
-        random: Random::new(CUTS_SEED),
-        tally: Tally::default(),
-    };
+    let mut run = Run { subject, random: Random::new(CUTS_SEED), tally: Tally::default() };
     let sets = Sets::all();
     for turn in 0..20 {
         let set = sets.draw(turn, &mut run.random);

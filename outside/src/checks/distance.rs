@@ -40,8 +40,7 @@ type Played = (List, Vec<Vec<u8>>);
 fn judge_in_turn(every: &[Played], next: &AtomicUsize) -> Result<Distances, Difference> {
     let mut distances = Distances::default();
     while let Some((list, outputs)) = every.get(next.fetch_add(1, Ordering::Relaxed)) {
-        let judged =
-            judge(list, outputs).inspect_err(|_| next.store(every.len(), Ordering::Relaxed));
+        let judged = judge(list, outputs).inspect_err(|_| next.store(every.len(), Ordering::Relaxed));
         distances.add(&judged.map_err(|what| format!("{what}; band set {:?}", list.set))?);
     }
     Ok(distances)
@@ -68,9 +67,5 @@ pub fn from_the_exact(subject: &dyn Subject) -> Outcome {
     };
     let every: Vec<Played> = lists().into_iter().map(play).collect();
     let distances = judge_all(&every)?;
-    Ok(Tally {
-        answers: distances.judged,
-        distances,
-        ..Tally::default()
-    })
+    Ok(Tally { answers: distances.judged, distances, ..Tally::default() })
 }

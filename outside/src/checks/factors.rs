@@ -68,12 +68,7 @@ pub fn any_factor(random: &mut Random) -> f32 {
 }
 
 /// Every edge at each of the places on one unit.
-fn every_edge(
-    subject: &dyn Subject,
-    numbers: &Numbers,
-    edges: &[f32],
-    tally: &mut Tally,
-) -> Result<(), Difference> {
+fn every_edge(subject: &dyn Subject, numbers: &Numbers, edges: &[f32], tally: &mut Tally) -> Result<(), Difference> {
     for &edge in edges {
         for (side, band) in PLACES {
             let order = Order::factor(side, band, edge);
@@ -84,11 +79,7 @@ fn every_edge(
 }
 
 /// Every side and band with factors that are accepted, outside and not finite.
-fn every_place(
-    subject: &dyn Subject,
-    numbers: &Numbers,
-    tally: &mut Tally,
-) -> Result<(), Difference> {
+fn every_place(subject: &dyn Subject, numbers: &Numbers, tally: &mut Tally) -> Result<(), Difference> {
     for side in SIDES {
         for band in BANDS {
             for factor in [0.0, -0.0, 0.25, -0.25, -1.0, 1.0, f32::INFINITY, f32::NAN] {
@@ -110,11 +101,7 @@ fn in_turn(
 ) -> Result<(), Difference> {
     for _ in 0..count {
         let band = random.below(11) as u32;
-        let side = if band == 10 {
-            2
-        } else {
-            random.below(3) as u32
-        };
+        let side = if band == 10 { 2 } else { random.below(3) as u32 };
         let order = Order::factor(side, band, any_factor(random));
         same_order(subject, &mut numbers, &order, tally)?;
     }

@@ -6,13 +6,8 @@ use crate::subject::Subject;
 
 /// "S = 2,097,152 gives 0; 2,097,153 gives 1; 6,291,456 gives 2; -2,097,152
 /// gives 0; -6,291,456 gives -2."
-pub const ROUNDED: [(i64, i64); 5] = [
-    (2_097_152, 0),
-    (2_097_153, 1),
-    (6_291_456, 2),
-    (-2_097_152, 0),
-    (-6_291_456, -2),
-];
+pub const ROUNDED: [(i64, i64); 5] =
+    [(2_097_152, 0), (2_097_153, 1), (6_291_456, 2), (-2_097_152, 0), (-6_291_456, -2)];
 
 /// "Rounded 8,388,607 and -8,388,608 don't limit; 8,388,608 and -8,388,609 do."
 /// A section, x, whether it limits, and y. With A = 2^22 and B = G = 0 the
@@ -23,30 +18,10 @@ const AT_THE_ENDS: [(Section, i32, bool, i32); 8] = [
     ([4_194_304, 0, 0, 0, 0, 0, 0], -8_388_608, false, -8_388_608),
     ([4_194_304, 0, 0, 0, -1, 0, 0], 8_388_607, true, 8_388_607),
     ([4_194_304, 0, 0, 0, 1, 0, 0], -8_388_608, true, -8_388_608),
-    (
-        [2_097_152, 0, 2_097_152, 0, -8_388_607, 0, 0],
-        8_388_607,
-        false,
-        8_388_607,
-    ),
-    (
-        [2_097_152, 0, 2_097_152, 0, -8_388_608, 0, 0],
-        8_388_607,
-        true,
-        8_388_607,
-    ),
-    (
-        [2_097_152, 0, 2_097_152, 0, 8_388_607, -2, 0],
-        -8_388_608,
-        false,
-        -8_388_608,
-    ),
-    (
-        [2_097_152, 0, 2_097_152, 0, 8_388_607, -3, 0],
-        -8_388_608,
-        true,
-        -8_388_608,
-    ),
+    ([2_097_152, 0, 2_097_152, 0, -8_388_607, 0, 0], 8_388_607, false, 8_388_607),
+    ([2_097_152, 0, 2_097_152, 0, -8_388_608, 0, 0], 8_388_607, true, 8_388_607),
+    ([2_097_152, 0, 2_097_152, 0, 8_388_607, -2, 0], -8_388_608, false, -8_388_608),
+    ([2_097_152, 0, 2_097_152, 0, 8_388_607, -3, 0], -8_388_608, true, -8_388_608),
 ];
 
 /// "The first two bands are 6,606, 4,181,093, 8,375,315 (31 Hz) and 13,191,
@@ -68,35 +43,23 @@ fn figure(
     let answer = subject.section_step(&mut before.clone(), x);
     same_step(subject, section, x, tally)?;
     let expected = pack(ACCEPTED, limited, y);
-    same(tally, expected, answer, || {
-        format!("step of {before:?} with x = {x}")
-    })
+    same(tally, expected, answer, || format!("step of {before:?} with x = {x}"))
 }
 
 pub fn starred(subject: &dyn Subject) -> Outcome {
     let mut tally = Tally::default();
     for (s, expected) in ROUNDED {
-        same(&mut tally, expected, subject.nearest(s, 22), || {
-            format!("S = {s}")
-        })?;
+        same(&mut tally, expected, subject.nearest(s, 22), || format!("S = {s}"))?;
         // With B = G = 0 and x = 1 or -1, S is A or -A.
         let mut section = [s.abs() as i32, 0, 0, 0, 0, 0, 0];
         let x = s.signum() as i32;
-        figure(
-            subject,
-            &mut section,
-            x,
-            (false, expected as i32),
-            &mut tally,
-        )?;
+        figure(subject, &mut section, x, (false, expected as i32), &mut tally)?;
     }
     for (section, x, limited, y) in AT_THE_ENDS {
         figure(subject, &mut section.clone(), x, (limited, y), &mut tally)?;
     }
     let house = subject.house_set();
-    same(&mut tally, FIRST_TWO.as_slice(), &house[..6], || {
-        "house set".to_string()
-    })?;
+    same(&mut tally, FIRST_TWO.as_slice(), &house[..6], || "house set".to_string())?;
     let mut section = [house[0], house[1], house[2], 0, 0, 0, 0];
     for (x, y) in RUN {
         figure(subject, &mut section, x, (false, y), &mut tally)?;

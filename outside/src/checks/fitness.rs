@@ -27,8 +27,7 @@ pub fn unfit_numbers(numbers: &Numbers, place: usize) -> Vec<i32> {
         Kind::Coefficient(which) => wrong_numbers(b_beside(numbers, place), which),
         Kind::Volume => vec![-1, -2, -8_388_608, 8_388_608, 8_388_609, 16_777_216],
         Kind::Input => vec![
-            -8_388_864, 8_388_608, 1, -1, 128, 255, 257, -255, 8_388_351, 8_388_353, 8_388_607,
-            -8_388_607, -8_388_609,
+            -8_388_864, 8_388_608, 1, -1, 128, 255, 257, -255, 8_388_351, 8_388_353, 8_388_607, -8_388_607, -8_388_609,
         ],
         Kind::Flag => vec![-1, 2, 3, 256, 257, -256, 65_537, 8_388_607, -8_388_608],
         Kind::Strip(_) => vec![-8_388_609, 8_388_608, 8_388_609, -16_777_216, 16_777_216],
@@ -76,9 +75,7 @@ struct Run<'a> {
 impl Run<'_> {
     fn fit(&mut self, numbers: &Numbers, expected: bool) -> Result<(), Difference> {
         let got = self.subject.unit_fit(numbers);
-        same(&mut self.tally, u32::from(expected), got, || {
-            format!("fitness of the unit {numbers:?}")
-        })
+        same(&mut self.tally, u32::from(expected), got, || format!("fitness of the unit {numbers:?}"))
     }
 
     /// An unfit unit: 0, and each block on it 14 with nothing changed.
@@ -90,12 +87,9 @@ impl Run<'_> {
             same_block(self.subject, &mut after, &input, room, &mut self.tally)?;
             let mut output = marks(room);
             let answer = self.subject.block(&mut after, &input, &mut output);
-            same(
-                &mut self.tally,
-                (UNFIT, *numbers, marks(room)),
-                (answer, after, output),
-                || "block on an unfit unit".to_string(),
-            )?;
+            same(&mut self.tally, (UNFIT, *numbers, marks(room)), (answer, after, output), || {
+                "block on an unfit unit".to_string()
+            })?;
         }
         Ok(())
     }
@@ -106,8 +100,7 @@ impl Run<'_> {
             for number in unfit_numbers(numbers, place) {
                 let mut spoilt = *numbers;
                 spoilt[place] = number;
-                self.unfit(&spoilt)
-                    .map_err(|difference| format!("number {place}, {number}: {difference}"))?;
+                self.unfit(&spoilt).map_err(|difference| format!("number {place}, {number}: {difference}"))?;
             }
             for number in edge_numbers(numbers, place) {
                 let mut edge = *numbers;
@@ -127,11 +120,7 @@ impl Run<'_> {
 }
 
 pub fn units(subject: &dyn Subject) -> Outcome {
-    let mut run = Run {
-        subject,
-        random: Random::new(FITNESS_SEED),
-        tally: Tally::default(),
-    };
+    let mut run = Run { subject, random: Random::new(FITNESS_SEED), tally: Tally::default() };
     let sets = Sets::all();
     run.fit(&cleared(&house_set()), true)?;
     run.each_number(&cleared(&house_set()))?;

@@ -21,21 +21,15 @@ pub const NEAREST: Group = Group {
     what: "every shift to 70 and larger ones; corners, halves, random numbers",
     run: arithmetic::nearest,
 };
-pub const LIMIT: Group = Group {
-    name: "limit",
-    what: "corners and random numbers, also with low above high",
-    run: arithmetic::limit,
-};
+pub const LIMIT: Group =
+    Group { name: "limit", what: "corners and random numbers, also with low above high", run: arithmetic::limit };
 pub const BANDS: Group = Group {
     name: "bands",
     what: "refusals at the corners of the accepted ranges and of random bands",
     run: bands::refusals,
 };
-pub const HOUSE: Group = Group {
-    name: "house set",
-    what: "thirty words from the printed figures, ten bands accepted",
-    run: bands::house,
-};
+pub const HOUSE: Group =
+    Group { name: "house set", what: "thirty words from the printed figures, ten bands accepted", run: bands::house };
 pub const LISTS: Group = Group {
     name: "lists",
     what: "steps of house, random and extreme bands, up to a million words a list",
@@ -46,16 +40,10 @@ pub const CORNERS: Group = Group {
     what: "steps with the corners of a word in all five places, extreme bands",
     run: steps::corners,
 };
-pub const REFUSED: Group = Group {
-    name: "refused calls",
-    what: "steps with one number wrong or several",
-    run: refusals::steps,
-};
-pub const FIGURES: Group = Group {
-    name: "figures",
-    what: "those that document 01 gives for a section",
-    run: figures::starred,
-};
+pub const REFUSED: Group =
+    Group { name: "refused calls", what: "steps with one number wrong or several", run: refusals::steps };
+pub const FIGURES: Group =
+    Group { name: "figures", what: "those that document 01 gives for a section", run: figures::starred };
 pub const LEVELS: Group = Group {
     name: "levels",
     what: "one move from corners and random numbers, slopes of every size",
@@ -71,16 +59,9 @@ pub const FITNESS: Group = Group {
     what: "units with each number at its edges, unfit in every way, or several unfit",
     run: fitness::units,
 };
-pub const BLOCKS: Group = Group {
-    name: "blocks",
-    what: "long sounds on cleared, loud, random and half-making units",
-    run: blocks::long,
-};
-pub const FRAMES: Group = Group {
-    name: "frames",
-    what: "single frames on random units",
-    run: blocks::frames,
-};
+pub const BLOCKS: Group =
+    Group { name: "blocks", what: "long sounds on cleared, loud, random and half-making units", run: blocks::long };
+pub const FRAMES: Group = Group { name: "frames", what: "single frames on random units", run: blocks::frames };
 pub const CUTS: Group = Group {
     name: "cuts",
     what: "blocks of 0 to 64 frames, and one sound cut in several ways",
@@ -91,11 +72,8 @@ pub const REFUSED_BLOCKS: Group = Group {
     what: "input and output of every small length and of larger ones",
     run: block_refusals::lengths,
 };
-pub const UNIT_FIGURES: Group = Group {
-    name: "unit figures",
-    what: "those that document 01 gives for a unit",
-    run: unit_figures::of_the_unit,
-};
+pub const UNIT_FIGURES: Group =
+    Group { name: "unit figures", what: "those that document 01 gives for a unit", run: unit_figures::of_the_unit };
 
 pub const ORDERS: Group = Group {
     name: "orders",
@@ -123,16 +101,10 @@ pub const DISTANCE: Group = Group {
     run: distance::from_the_exact,
 };
 
-pub const SHEETS: Group = Group {
-    name: "sheets",
-    what: "fit units written and read back; short buffers, unfit units",
-    run: sheets::units,
-};
-pub const MANY_SHEETS: Group = Group {
-    name: "many sheets",
-    what: "the same with more units, held against the fast form",
-    run: sheets::many,
-};
+pub const SHEETS: Group =
+    Group { name: "sheets", what: "fit units written and read back; short buffers, unfit units", run: sheets::units };
+pub const MANY_SHEETS: Group =
+    Group { name: "many sheets", what: "the same with more units, held against the fast form", run: sheets::many };
 pub const SHEET_FIGURES: Group = Group {
     name: "sheet figures",
     what: "the sheets that document 01 gives, and the ends of every range",
@@ -153,11 +125,8 @@ pub const DAMAGED_SHEETS: Group = Group {
     what: "each byte changed; two bytes, several fields; bytes put in or left out",
     run: sheet_damage::anywhere,
 };
-pub const SHEET_LENGTHS: Group = Group {
-    name: "sheet lengths",
-    what: "sheets cut short at every byte, and too long",
-    run: sheet_lengths::wrong,
-};
+pub const SHEET_LENGTHS: Group =
+    Group { name: "sheet lengths", what: "sheets cut short at every byte, and too long", run: sheet_lengths::wrong };
 pub const SHEET_LISTS: Group = Group {
     name: "lists through sheets",
     what: "units that orders and blocks lead to, written and read back",
@@ -190,34 +159,11 @@ pub const PREVIEW_AND_SECTION: Group = Group {
     run: previews::beside_section,
 };
 
-pub const SECTION_GROUPS: [Group; 8] = [
-    NEAREST, LIMIT, BANDS, HOUSE, LISTS, CORNERS, REFUSED, FIGURES,
-];
-pub const UNIT_GROUPS: [Group; 8] = [
-    LEVELS,
-    LOADS,
-    FITNESS,
-    BLOCKS,
-    FRAMES,
-    CUTS,
-    REFUSED_BLOCKS,
-    UNIT_FIGURES,
-];
+pub const SECTION_GROUPS: [Group; 8] = [NEAREST, LIMIT, BANDS, HOUSE, LISTS, CORNERS, REFUSED, FIGURES];
+pub const UNIT_GROUPS: [Group; 8] = [LEVELS, LOADS, FITNESS, BLOCKS, FRAMES, CUTS, REFUSED_BLOCKS, UNIT_FIGURES];
 pub const ORDER_GROUPS: [Group; 4] = [ORDERS, FACTORS, ORDER_FIGURES, LISTS_OF_CALLS];
 pub const SOUND_GROUPS: [Group; 1] = [DISTANCE];
-pub const SHEET_GROUPS: [Group; 7] = [
-    SHEETS,
-    SHEET_FIGURES,
-    SHEET_FIELDS,
-    SHEET_LINES,
-    DAMAGED_SHEETS,
-    SHEET_LENGTHS,
-    SHEET_LISTS,
-];
-pub const PREVIEW_GROUPS: [Group; 5] = [
-    PREVIEWS,
-    PREVIEW_LENGTHS,
-    REFUSED_PREVIEWS,
-    PREVIEW_FIGURES,
-    PREVIEW_AND_SECTION,
-];
+pub const SHEET_GROUPS: [Group; 7] =
+    [SHEETS, SHEET_FIGURES, SHEET_FIELDS, SHEET_LINES, DAMAGED_SHEETS, SHEET_LENGTHS, SHEET_LISTS];
+pub const PREVIEW_GROUPS: [Group; 5] =
+    [PREVIEWS, PREVIEW_LENGTHS, REFUSED_PREVIEWS, PREVIEW_FIGURES, PREVIEW_AND_SECTION];

@@ -60,12 +60,7 @@ fn same_move(
 }
 
 /// Targets at the slope's distance and beside it.
-fn same_moves_beside(
-    subject: &dyn Subject,
-    present: i32,
-    slope: u32,
-    tally: &mut Tally,
-) -> Result<(), Difference> {
+fn same_moves_beside(subject: &dyn Subject, present: i32, slope: u32, tally: &mut Tally) -> Result<(), Difference> {
     for beside in -2..=2 {
         let distance = i64::from(slope) + beside;
         for target in [i64::from(present) + distance, i64::from(present) - distance] {

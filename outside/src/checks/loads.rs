@@ -52,9 +52,7 @@ impl Run<'_> {
             Ok(thirty) if number == ACCEPTED => cleared(thirty),
             _ => cleared(&house_set()),
         };
-        same(&mut self.tally, (number, held), loaded, || {
-            format!("loading {set:?}")
-        })
+        same(&mut self.tally, (number, held), loaded, || format!("loading {set:?}"))
     }
 
     /// Sets of wrong lengths, with right numbers and with wrong ones.
@@ -119,11 +117,7 @@ impl Run<'_> {
 }
 
 pub fn sets(subject: &dyn Subject) -> Outcome {
-    let mut run = Run {
-        subject,
-        random: Random::new(LOADS_SEED),
-        tally: Tally::default(),
-    };
+    let mut run = Run { subject, random: Random::new(LOADS_SEED), tally: Tally::default() };
     let sets = Sets::all();
     run.figure(&house_set(), ACCEPTED)?;
     run.lengths()?;

@@ -16,10 +16,7 @@ pub struct Maker {
 
 impl Maker {
     pub fn new(seed: u64) -> Maker {
-        Maker {
-            sets: Sets::all(),
-            random: Random::new(seed),
-        }
+        Maker { sets: Sets::all(), random: Random::new(seed) }
     }
 
     /// The sets that units are drawn with, and by turns bands of slow decay.
@@ -58,11 +55,7 @@ impl Maker {
             _ => random.below(10) as u32,
         };
         let setting = self.setting();
-        Order {
-            side,
-            band,
-            setting,
-        }
+        Order { side, band, setting }
     }
 
     /// An accepted order to both sides of a band, or to the volume.

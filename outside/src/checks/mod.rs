@@ -72,12 +72,7 @@ pub fn same<T: PartialEq + std::fmt::Debug>(
 
 /// Steps the section with the exact reference and a copy of it with the
 /// subject; compares the packed answer and all seven numbers afterwards.
-pub fn same_step(
-    subject: &dyn Subject,
-    section: &mut Section,
-    x: i32,
-    tally: &mut Tally,
-) -> Result<(), Difference> {
+pub fn same_step(subject: &dyn Subject, section: &mut Section, x: i32, tally: &mut Tally) -> Result<(), Difference> {
     let before = *section;
     let mut other = before;
     let expected = exact::step(section, x);

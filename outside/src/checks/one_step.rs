@@ -44,10 +44,7 @@ pub fn found_everywhere() -> Outcome {
     for (block, output) in outputs.iter().enumerate() {
         for at in (0..output.len()).step_by(2) {
             let place = [block, at];
-            if ![1, -1]
-                .iter()
-                .any(|&step| is_found(&list, &outputs, place, step))
-            {
+            if ![1, -1].iter().any(|&step| is_found(&list, &outputs, place, step)) {
                 return Err(not_found(place));
             }
             tally.answers += 1;

@@ -76,9 +76,7 @@ fn figure(
     }
     let answer = same_order(subject, &mut got, order, tally)?;
     let number = wanted.err().unwrap_or(ACCEPTED);
-    same(tally, (number, expected), (answer, got), || {
-        format!("{order:?}")
-    })
+    same(tally, (number, expected), (answer, got), || format!("{order:?}"))
 }
 
 /// The order for each side and band with these targets.
@@ -99,12 +97,7 @@ fn every_place(
 }
 
 /// Plays so many silent frames.
-fn silence(
-    subject: &dyn Subject,
-    numbers: &mut Numbers,
-    frames: usize,
-    tally: &mut Tally,
-) -> Result<(), Difference> {
+fn silence(subject: &dyn Subject, numbers: &mut Numbers, frames: usize, tally: &mut Tally) -> Result<(), Difference> {
     let input = vec![0; 4 * frames];
     same_block(subject, numbers, &input, input.len(), tally)?;
     Ok(())
@@ -127,9 +120,7 @@ fn slopes(subject: &dyn Subject, tally: &mut Tally) -> Result<(), Difference> {
             silence(subject, &mut numbers, length, tally)?;
             arrived.push(numbers[target - 1] == numbers[target]);
         }
-        same(tally, vec![false, true, true], arrived, || {
-            format!("{order:?} in {frames} frames")
-        })?;
+        same(tally, vec![false, true, true], arrived, || format!("{order:?} in {frames} frames"))?;
     }
     Ok(())
 }

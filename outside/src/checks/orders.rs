@@ -14,23 +14,8 @@ pub const ORDERS_SEED: u64 = 0xF0DD_0018;
 
 /// Sides and bands that there are, the next ones, and larger ones that equal
 /// one of them modulo 2^8, 2^16 or 2^31.
-pub const SIDES: [u32; 15] = [
-    0,
-    1,
-    2,
-    3,
-    4,
-    255,
-    256,
-    257,
-    258,
-    65_536,
-    65_538,
-    1 << 31,
-    (1 << 31) + 2,
-    u32::MAX - 1,
-    u32::MAX,
-];
+pub const SIDES: [u32; 15] =
+    [0, 1, 2, 3, 4, 255, 256, 257, 258, 65_536, 65_538, 1 << 31, (1 << 31) + 2, u32::MAX - 1, u32::MAX];
 pub const BANDS: [u32; 25] = [
     0,
     1,
@@ -83,12 +68,7 @@ fn order(
 }
 
 /// Every side and band with all 256 positions, and muted.
-fn every_place(
-    subject: &dyn Subject,
-    numbers: &Numbers,
-    fit: bool,
-    tally: &mut Tally,
-) -> Result<(), Difference> {
+fn every_place(subject: &dyn Subject, numbers: &Numbers, fit: bool, tally: &mut Tally) -> Result<(), Difference> {
     let number = |wanted| if fit { wanted } else { UNFIT };
     for side in SIDES {
         for band in BANDS {

@@ -33,11 +33,7 @@ impl Run<'_> {
         let lent = buffer(room, &mut self.random);
         let tally = &mut self.tally;
         same_preview(self.subject, band, words, &lent, tally)?;
-        let stated = if room < words.len() {
-            (RESULTS_TOO_SHORT, 0)
-        } else {
-            (ACCEPTED, words.len())
-        };
+        let stated = if room < words.len() { (RESULTS_TOO_SHORT, 0) } else { (ACCEPTED, words.len()) };
         same_number(self.subject, band, words, &lent, stated, tally)
     }
 
@@ -69,20 +65,14 @@ impl Run<'_> {
 }
 
 pub fn lengths(subject: &dyn Subject) -> Outcome {
-    let mut run = Run {
-        subject,
-        random: Random::new(PREVIEW_LENGTHS_SEED),
-        tally: Tally::default(),
-    };
+    let mut run = Run { subject, random: Random::new(PREVIEW_LENGTHS_SEED), tally: Tally::default() };
     let mut bands = house_bands();
     bands.extend(extreme_accepted().into_iter().step_by(8));
     bands.extend(half_accepted().into_iter().step_by(8));
     for band in bands {
         run.small(band)?;
     }
-    for length in [
-        255, 256, 257, 1_024, 4_095, 4_096, 4_097, 65_535, 65_536, 65_537,
-    ] {
+    for length in [255, 256, 257, 1_024, 4_095, 4_096, 4_097, 65_535, 65_536, 65_537] {
         let least = length as usize;
         let rooms = [0, 1, least / 2, least - 1, least, least + 1, 2 * least];
         let band = random_accepted(&mut run.random);

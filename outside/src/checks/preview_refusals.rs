@@ -14,12 +14,8 @@ use crate::subject::Subject;
 pub const PREVIEW_REFUSALS_SEED: u64 = 0xF0DD_0027;
 
 /// Accepted bands, into which wrong numbers are put.
-const FIT_BANDS: [Band; 4] = [
-    [6_606, 4_181_093, 8_375_315],
-    [8_388_607, 4_194_303, -8_388_606],
-    [8_388_607, -4_194_303, 0],
-    [0, 0, 0],
-];
+const FIT_BANDS: [Band; 4] =
+    [[6_606, 4_181_093, 8_375_315], [8_388_607, 4_194_303, -8_388_606], [8_388_607, -4_194_303, 0], [0, 0, 0]];
 
 /// What can be wrong in a call; the first three are A, B and G.
 const SHORT: u32 = 8;
@@ -58,13 +54,7 @@ impl Run<'_> {
 
     /// One refused call: compared with the reference, and its number and the
     /// unchanged buffer as document 01 states them.
-    fn refused(
-        &mut self,
-        band: Band,
-        words: &[i32],
-        room: usize,
-        number: u32,
-    ) -> Result<(), Difference> {
+    fn refused(&mut self, band: Band, words: &[i32], room: usize, number: u32) -> Result<(), Difference> {
         let lent = buffer(room, &mut self.random);
         let tally = &mut self.tally;
         same_preview(self.subject, band, words, &lent, tally)?;
@@ -72,13 +62,7 @@ impl Run<'_> {
     }
 
     /// A call with all of this wrong, by the wrong numbers of this turn.
-    fn spoilt(
-        &mut self,
-        fit: Band,
-        length: u32,
-        wrong: u32,
-        turn: usize,
-    ) -> Result<(), Difference> {
+    fn spoilt(&mut self, fit: Band, length: u32, wrong: u32, turn: usize) -> Result<(), Difference> {
         let mut band = fit;
         for (place, number) in band.iter_mut().enumerate() {
             if wrong & (1 << place) != 0 {
@@ -159,11 +143,7 @@ impl Run<'_> {
 }
 
 pub fn calls(subject: &dyn Subject) -> Outcome {
-    let mut run = Run {
-        subject,
-        random: Random::new(PREVIEW_REFUSALS_SEED),
-        tally: Tally::default(),
-    };
+    let mut run = Run { subject, random: Random::new(PREVIEW_REFUSALS_SEED), tally: Tally::default() };
     for fit in FIT_BANDS {
         run.together(fit)?;
         run.each_place(fit)?;

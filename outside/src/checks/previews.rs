@@ -39,21 +39,14 @@ fn with_the_section(run: &mut Run, band: Band, words: &[i32]) -> Result<(), Diff
     let mut results = buffer(words.len(), &mut run.random);
     let answer = run.subject.preview(band, words, &mut results);
     let tally = &mut run.tally;
-    same(tally, ACCEPTED, answer, || {
-        format!("preview with {band:?} of {} words", words.len())
-    })?;
+    same(tally, ACCEPTED, answer, || format!("preview with {band:?} of {} words", words.len()))?;
     tally.previews.words += words.len() as u64;
     same_as_section(run.subject, band, words, &results, tally)
 }
 
 impl<'a> Run<'a> {
     fn new(subject: &'a dyn Subject, seed: u64, compare: Compare) -> Run<'a> {
-        Run {
-            subject,
-            random: Random::new(seed),
-            tally: Tally::default(),
-            compare,
-        }
+        Run { subject, random: Random::new(seed), tally: Tally::default(), compare }
     }
 
     fn list(&mut self, band: Band, sound: Sound, length: u32) -> Result<(), Difference> {

@@ -13,16 +13,10 @@ type Call = [i32; 8];
 /// Accepted calls, into which wrong numbers are put.
 const FIT_CALLS: [Call; 5] = [
     [6_606, 4_181_093, 8_375_315, 0, 0, 0, 0, 0],
-    [
-        8_388_607, 4_194_303, -8_388_606, 8_388_607, -8_388_608, 8_388_607, -8_388_608, 8_388_607,
-    ],
-    [
-        8_388_607, -4_194_303, 0, -8_388_608, 8_388_607, -8_388_608, 8_388_607, -8_388_608,
-    ],
+    [8_388_607, 4_194_303, -8_388_606, 8_388_607, -8_388_608, 8_388_607, -8_388_608, 8_388_607],
+    [8_388_607, -4_194_303, 0, -8_388_608, 8_388_607, -8_388_608, 8_388_607, -8_388_608],
     [0, 0, 0, 1, 2, 3, 4, 5],
-    [
-        4_194_304, 2_000_000, 3_000_000, -700_000, 800_000, -900_000, 1_000_000, 256_000,
-    ],
+    [4_194_304, 2_000_000, 3_000_000, -700_000, 800_000, -900_000, 1_000_000, 256_000],
 ];
 
 /// Numbers outside the range of one place of a call, by one and by far. Those
@@ -31,18 +25,9 @@ pub fn wrong_numbers(b: i32, place: usize) -> Vec<i32> {
     let edge = 4_194_304 + b;
     let mut wrong = match place {
         0 => vec![-1, 8_388_608, -8_388_608, 16_777_216],
-        1 => vec![
-            -4_194_304, 4_194_304, -4_194_305, 4_194_305, 8_388_607, -8_388_608,
-        ],
+        1 => vec![-4_194_304, 4_194_304, -4_194_305, 4_194_305, 8_388_607, -8_388_608],
         2 => vec![-edge, edge, -edge - 1, edge + 1, 8_388_608, -8_388_609],
-        _ => vec![
-            -8_388_609,
-            8_388_608,
-            -8_388_610,
-            8_388_609,
-            -16_777_216,
-            16_777_216,
-        ],
+        _ => vec![-8_388_609, 8_388_608, -8_388_610, 8_388_609, -16_777_216, 16_777_216],
     };
     wrong.extend([i32::MIN, i32::MIN + 1, i32::MAX - 1, i32::MAX]);
     wrong
@@ -61,24 +46,16 @@ fn number_for(places: u32) -> u32 {
 
 /// One refused call: compared with the reference, and its answer and the
 /// unchanged section as document 01 states them.
-fn refused(
-    subject: &dyn Subject,
-    call: Call,
-    number: u32,
-    tally: &mut Tally,
-) -> Result<(), Difference> {
+fn refused(subject: &dyn Subject, call: Call, number: u32, tally: &mut Tally) -> Result<(), Difference> {
     let [a, b, g, x1, x2, y1, y2, x] = call;
     let before: Section = [a, b, g, x1, x2, y1, y2];
     let mut section = before;
     same_step(subject, &mut section, x, tally)?;
     let mut section = before;
     let answer = subject.section_step(&mut section, x);
-    same(
-        tally,
-        (pack(number, false, 0), before),
-        (answer, section),
-        || format!("refused step of {before:?} with x = {x}"),
-    )
+    same(tally, (pack(number, false, 0), before), (answer, section), || {
+        format!("refused step of {before:?} with x = {x}")
+    })
 }
 
 /// A call with the wrong number of this turn in each of these places.

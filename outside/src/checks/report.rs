@@ -7,11 +7,7 @@ use super::Difference;
 
 /// Prints the seeds, runs the tests, and prints how long they took and how they
 /// went, in these words where nothing differs.
-pub fn report(
-    seeds: &[(&str, u64)],
-    right: &str,
-    run: impl FnOnce() -> Result<(), Difference>,
-) -> ExitCode {
+pub fn report(seeds: &[(&str, u64)], right: &str, run: impl FnOnce() -> Result<(), Difference>) -> ExitCode {
     let begun = Instant::now();
     let named = |&(name, seed): &(&str, u64)| format!("{name} {seed:#x}");
     let seeds: Vec<String> = seeds.iter().map(named).collect();

@@ -21,15 +21,10 @@ pub fn same_block(
     tally: &mut Tally,
 ) -> Result<Vec<u8>, Difference> {
     let before = *numbers;
-    let expected = played(numbers, room, |unit, output| {
-        exact::block(unit, input, output, &mut tally.met)
-    });
-    let got = played(&mut before.clone(), room, |unit, output| {
-        subject.block(unit, input, output)
-    });
+    let expected = played(numbers, room, |unit, output| exact::block(unit, input, output, &mut tally.met));
+    let got = played(&mut before.clone(), room, |unit, output| subject.block(unit, input, output));
     if expected != got {
-        return Err(first_frame(subject, before, input)
-            .unwrap_or_else(|| spell(&before, input, &expected, &got)));
+        return Err(first_frame(subject, before, input).unwrap_or_else(|| spell(&before, input, &expected, &got)));
     }
     tally.answers += 1;
     match expected.refusal {
@@ -49,30 +44,18 @@ struct Played {
     output: Vec<u8>,
 }
 
-fn played(
-    numbers: &mut Numbers,
-    room: usize,
-    block: impl FnOnce(&mut Numbers, &mut [u8]) -> u32,
-) -> Played {
+fn played(numbers: &mut Numbers, room: usize, block: impl FnOnce(&mut Numbers, &mut [u8]) -> u32) -> Played {
     let mut output = marks(room);
     let refusal = block(numbers, &mut output);
-    Played {
-        refusal,
-        numbers: *numbers,
-        output,
-    }
+    Played { refusal, numbers: *numbers, output }
 }
 
 /// The first frame of a block that differs when it is played alone.
 fn first_frame(subject: &dyn Subject, mut numbers: Numbers, input: &[u8]) -> Option<Difference> {
     for (place, frame) in input.chunks_exact(4).enumerate() {
         let before = numbers;
-        let expected = played(&mut numbers, 4, |unit, output| {
-            exact::block(unit, frame, output, &mut Met::default())
-        });
-        let got = played(&mut before.clone(), 4, |unit, output| {
-            subject.block(unit, frame, output)
-        });
+        let expected = played(&mut numbers, 4, |unit, output| exact::block(unit, frame, output, &mut Met::default()));
+        let got = played(&mut before.clone(), 4, |unit, output| subject.block(unit, frame, output));
         if expected != got {
             let what = spell(&before, frame, &expected, &got);
             return Some(format!("frame {place} of a block, played alone: {what}"));

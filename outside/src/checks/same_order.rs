@@ -97,24 +97,14 @@ pub fn same_order(
 }
 
 /// The inputs of a difference and the first number that differs.
-fn spell(
-    before: &Numbers,
-    order: &Order,
-    [expected, answer]: [u32; 2],
-    [right, wrong]: [&Numbers; 2],
-) -> Difference {
+fn spell(before: &Numbers, order: &Order, [expected, answer]: [u32; 2], [right, wrong]: [&Numbers; 2]) -> Difference {
     let bits = match order.setting {
         Setting::Factor(f) => format!(" (bits {:#010x})", f.to_bits()),
         _ => String::new(),
     };
-    let mut text = format!(
-        "{order:?}{bits} on the unit {before:?}: expected refusal {expected}, got {answer}"
-    );
+    let mut text = format!("{order:?}{bits} on the unit {before:?}: expected refusal {expected}, got {answer}");
     if let Some(n) = (0..118).find(|&n| right[n] != wrong[n]) {
-        text += &format!(
-            "; number {n} of the unit expected {}, got {}",
-            right[n], wrong[n]
-        );
+        text += &format!("; number {n} of the unit expected {}, got {}", right[n], wrong[n]);
     }
     text
 }

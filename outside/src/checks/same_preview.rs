@@ -171,12 +171,7 @@ fn what(band: Band, words: &[i32], room: usize) -> String {
 }
 
 /// The inputs of a difference and the first entry that differs.
-fn spell(
-    band: Band,
-    words: &[i32],
-    [refusal, answer]: [u32; 2],
-    [right, wrong]: [&[i32]; 2],
-) -> Difference {
+fn spell(band: Band, words: &[i32], [refusal, answer]: [u32; 2], [right, wrong]: [&[i32]; 2]) -> Difference {
     let what = what(band, words, right.len());
     let mut text = format!("{what}: expected refusal {refusal}, got {answer}");
     if let Some(n) = (0..right.len()).find(|&n| right[n] != wrong[n]) {

@@ -104,60 +104,39 @@ pub fn same_back(
 ) -> Result<(), Difference> {
     let buffer = same_write(subject, reference, numbers, lent, tally)?;
     let (sheet, behind) = buffer.split_at(SHEET);
-    same(tally, &lent[SHEET..], behind, || {
-        format!("bytes behind the sheet of {numbers:?}")
-    })?;
+    same(tally, &lent[SHEET..], behind, || format!("bytes behind the sheet of {numbers:?}"))?;
     let mut read = *given;
     let answer = subject.sheet_read(&mut read, sheet);
     tally.sheets.count_read(ACCEPTED);
-    same(tally, (ACCEPTED, *numbers), (answer, read), || {
-        format!("sheet \"{}\" read back", sheet.escape_ascii())
-    })
+    same(tally, (ACCEPTED, *numbers), (answer, read), || format!("sheet \"{}\" read back", sheet.escape_ascii()))
 }
 
 /// Reads a sheet with the exact reference and with the subject into copies of
 /// the given unit. Compares the answer and all 118 numbers, which a refusal
 /// leaves as they were; an accepted sheet is written again to the byte. Gives
 /// the answer.
-pub fn same_read(
-    subject: &dyn Subject,
-    given: &Numbers,
-    bytes: &[u8],
-    tally: &mut Tally,
-) -> Result<u32, Difference> {
+pub fn same_read(subject: &dyn Subject, given: &Numbers, bytes: &[u8], tally: &mut Tally) -> Result<u32, Difference> {
     let (mut expected, mut got) = (*given, *given);
     let refusal = exact::read(&mut expected, bytes);
     let answer = subject.sheet_read(&mut got, bytes);
     let kept = refusal == ACCEPTED || got == *given;
     if refusal != answer || expected != got || !kept {
-        return Err(spell_read(
-            bytes,
-            given,
-            [refusal, answer],
-            [&expected, &got],
-        ));
+        return Err(spell_read(bytes, given, [refusal, answer], [&expected, &got]));
     }
     tally.answers += 1;
     tally.sheets.count_read(refusal);
     if refusal == ACCEPTED {
         let mut again = vec![0; SHEET];
         let written = subject.sheet_write(&got, &mut again);
-        same(tally, (SHEET, bytes), (written, &again), || {
-            format!("sheet \"{}\" written again", bytes.escape_ascii())
-        })?;
+        same(tally, (SHEET, bytes), (written, &again), || format!("sheet \"{}\" written again", bytes.escape_ascii()))?;
     }
     Ok(refusal)
 }
 
 /// The inputs of a difference and the first byte that differs.
-fn spell_written(
-    numbers: &Numbers,
-    [written, answer]: [usize; 2],
-    [right, wrong]: [&[u8]; 2],
-) -> Difference {
+fn spell_written(numbers: &Numbers, [written, answer]: [usize; 2], [right, wrong]: [&[u8]; 2]) -> Difference {
     let room = right.len();
-    let mut text =
-        format!("writing the unit {numbers:?} into {room} bytes: expected {written}, got {answer}");
+    let mut text = format!("writing the unit {numbers:?} into {room} bytes: expected {written}, got {answer}");
     if let Some(n) = (0..room).find(|&n| right[n] != wrong[n]) {
         text += &format!("; byte {n} expected {}, got {}", right[n], wrong[n]);
     }
@@ -165,22 +144,14 @@ fn spell_written(
 }
 
 /// The inputs of a difference and the first number that differs.
-fn spell_read(
-    bytes: &[u8],
-    given: &Numbers,
-    [refusal, answer]: [u32; 2],
-    [right, wrong]: [&Numbers; 2],
-) -> Difference {
+fn spell_read(bytes: &[u8], given: &Numbers, [refusal, answer]: [u32; 2], [right, wrong]: [&Numbers; 2]) -> Difference {
     let mut text = format!(
         "reading {} bytes \"{}\" into the unit {given:?}: expected refusal {refusal}, got {answer}",
         bytes.len(),
         bytes.escape_ascii(),
     );
     if let Some(n) = (0..118).find(|&n| right[n] != wrong[n]) {
-        text += &format!(
-            "; number {n} of the unit expected {}, got {}",
-            right[n], wrong[n]
-        );
+        text += &format!("; number {n} of the unit expected {}, got {}", right[n], wrong[n]);
     }
     text
 }

@@ -16,10 +16,8 @@ use crate::unit::{cleared, Numbers};
 pub const FIELDS_SEED: u64 = 0xF0DD_0020;
 
 /// B at its ends and past them.
-const EVERY_B: [i32; 13] = [
-    -4_194_304, -4_194_303, -4_194_302, -1_000_000, -10, -1, 0, 1, 99_999, 3_000_000, 4_194_302,
-    4_194_303, 4_194_304,
-];
+const EVERY_B: [i32; 13] =
+    [-4_194_304, -4_194_303, -4_194_302, -1_000_000, -10, -1, 0, 1, 99_999, 3_000_000, 4_194_302, 4_194_303, 4_194_304];
 
 /// The comparison under way.
 struct Run<'a> {
@@ -42,9 +40,7 @@ impl Run<'_> {
     fn read(&mut self, sheet: &[u8], number: u32) -> Result<(), Difference> {
         let given = self.maker.given();
         let answer = same_read(self.subject, &given, sheet, &mut self.tally)?;
-        same(&mut self.tally, number, answer, || {
-            format!("sheet \"{}\"", sheet.escape_ascii())
-        })
+        same(&mut self.tally, number, answer, || format!("sheet \"{}\"", sheet.escape_ascii()))
     }
 
     /// An accepted sheet: the numbers are those of this unit.
@@ -52,12 +48,7 @@ impl Run<'_> {
         self.read(sheet, ACCEPTED)?;
         let mut read = self.maker.given();
         let answer = self.subject.sheet_read(&mut read, sheet);
-        same(
-            &mut self.tally,
-            (ACCEPTED, *numbers),
-            (answer, read),
-            || format!("sheet \"{}\"", sheet.escape_ascii()),
-        )
+        same(&mut self.tally, (ACCEPTED, *numbers), (answer, read), || format!("sheet \"{}\"", sheet.escape_ascii()))
     }
 
     /// Each field badly written in every way.
@@ -116,11 +107,7 @@ impl Run<'_> {
 }
 
 pub fn each(subject: &dyn Subject) -> Outcome {
-    let mut run = Run {
-        subject,
-        maker: SheetMaker::new(FIELDS_SEED),
-        tally: Tally::default(),
-    };
+    let mut run = Run { subject, maker: SheetMaker::new(FIELDS_SEED), tally: Tally::default() };
     for turn in 0..12 {
         let numbers = run.maker.unit(turn);
         run.ranges(&numbers)?;

@@ -42,11 +42,8 @@ const CLEARED: Lines = Lines {
 };
 
 /// After "the frame (1000, 0)".
-const PLAYED: Lines = Lines {
-    left: "L   256000        0        0",
-    left_strip: "S      403        0        0        0",
-    ..CLEARED
-};
+const PLAYED: Lines =
+    Lines { left: "L   256000        0        0", left_strip: "S      403        0        0        0", ..CLEARED };
 
 /// The ends of every range.
 const ENDS: Lines = Lines {
@@ -82,24 +79,15 @@ fn ends() -> Numbers {
 }
 
 /// A unit whose sheet must be these lines: written, and read back.
-fn figure(
-    subject: &dyn Subject,
-    numbers: &Numbers,
-    lines: &Lines,
-    tally: &mut Tally,
-) -> Result<(), Difference> {
+fn figure(subject: &dyn Subject, numbers: &Numbers, lines: &Lines, tally: &mut Tally) -> Result<(), Difference> {
     let mut expected = lines.sheet();
     expected.extend([0xAA; 7]);
     let buffer = same_write(subject, exact::write, numbers, &[0xAA; SHEET + 7], tally)?;
-    same(tally, &expected, &buffer, || {
-        format!("sheet of {numbers:?}")
-    })?;
+    same(tally, &expected, &buffer, || format!("sheet of {numbers:?}"))?;
     same_read(subject, &[-1; 118], &expected[..SHEET], tally)?;
     let mut read = [-1; 118];
     let answer = subject.sheet_read(&mut read, &expected[..SHEET]);
-    same(tally, (ACCEPTED, *numbers), (answer, read), || {
-        format!("sheet of {numbers:?} read back")
-    })
+    same(tally, (ACCEPTED, *numbers), (answer, read), || format!("sheet of {numbers:?} read back"))
 }
 
 /// The play program's frame: "bytes 232, 3, 0, 0, the sound is (0, 0), four
@@ -112,9 +100,7 @@ fn ten_alike(subject: &dyn Subject, tally: &mut Tally) -> Result<(), Difference>
     subject.sheet_read(&mut numbers, &CLEARED.sheet());
     let mut sound = [7; 4];
     let answer = subject.block(&mut numbers, &[232, 3, 0, 0], &mut sound);
-    same(tally, (ACCEPTED, [0; 4]), (answer, sound), || {
-        "the frame (1000, 0)".to_string()
-    })?;
+    same(tally, (ACCEPTED, [0; 4]), (answer, sound), || "the frame (1000, 0)".to_string())?;
     figure(subject, &numbers, &PLAYED, tally)
 }
 

@@ -12,9 +12,7 @@ use crate::unit::sheet::{NOT_A_SHEET, SHEET};
 pub const LENGTHS_SEED: u64 = 0xF0DD_0023;
 
 /// Counts beyond a sheet's, among them those that equal it modulo 2^12 and 2^16.
-const LONG: [usize; 9] = [
-    1_160, 1_161, 2_255, 2_256, 2_257, 4_096, 5_224, 65_536, 66_664,
-];
+const LONG: [usize; 9] = [1_160, 1_161, 2_255, 2_256, 2_257, 4_096, 5_224, 65_536, 66_664];
 
 /// The comparison under way.
 struct Run<'a> {
@@ -31,9 +29,7 @@ impl Run<'_> {
         let mut after = [-1; 118];
         let answer = self.subject.sheet_read(&mut after, bytes);
         let expected = (NOT_A_SHEET, [-1; 118]);
-        same(&mut self.tally, expected, (answer, after), || {
-            format!("reading {} bytes", bytes.len())
-        })
+        same(&mut self.tally, expected, (answer, after), || format!("reading {} bytes", bytes.len()))
     }
 
     /// A sheet cut short at every count, and with something behind it; right
@@ -67,11 +63,7 @@ impl Run<'_> {
 }
 
 pub fn wrong(subject: &dyn Subject) -> Outcome {
-    let mut run = Run {
-        subject,
-        maker: SheetMaker::new(LENGTHS_SEED),
-        tally: Tally::default(),
-    };
+    let mut run = Run { subject, maker: SheetMaker::new(LENGTHS_SEED), tally: Tally::default() };
     run.sheet(&sheet_of(&cleared(&house_set())))?;
     for turn in 0..6 {
         let sheet = run.maker.sheet(turn);

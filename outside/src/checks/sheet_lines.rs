@@ -131,9 +131,7 @@ impl Run<'_> {
                 wrong.spoil(numbers, &mut sheet, &self.badly, &mut self.maker.random);
                 let given = self.maker.given();
                 let answer = same_read(self.subject, &given, &sheet, &mut self.tally)?;
-                same(&mut self.tally, wrong.number(), answer, || {
-                    format!("sheet \"{}\"", sheet.escape_ascii())
-                })?;
+                same(&mut self.tally, wrong.number(), answer, || format!("sheet \"{}\"", sheet.escape_ascii()))?;
             }
         }
         Ok(())
@@ -141,12 +139,7 @@ impl Run<'_> {
 }
 
 pub fn every(subject: &dyn Subject) -> Outcome {
-    let mut run = Run {
-        subject,
-        maker: SheetMaker::new(LINES_SEED),
-        badly: badly_written(),
-        tally: Tally::default(),
-    };
+    let mut run = Run { subject, maker: SheetMaker::new(LINES_SEED), badly: badly_written(), tally: Tally::default() };
     for turn in 0..12 {
         let numbers = run.maker.unit(turn);
         run.every_line(&numbers)?;

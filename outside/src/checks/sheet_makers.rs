@@ -25,14 +25,7 @@ enum Style {
     Mixed,
 }
 
-const STYLES: [Style; 6] = [
-    Style::Cleared,
-    Style::Small,
-    Style::Lengths,
-    Style::Ends,
-    Style::Anywhere,
-    Style::Mixed,
-];
+const STYLES: [Style; 6] = [Style::Cleared, Style::Small, Style::Lengths, Style::Ends, Style::Anywhere, Style::Mixed];
 
 /// A number of any count of digits, brought into this range.
 fn any_length([low, high]: [i32; 2], random: &mut Random) -> i32 {
@@ -50,9 +43,7 @@ impl Style {
             Style::Cleared => 0,
             Style::Small => random.between(-9, 9).clamp(low, high),
             Style::Lengths => any_length([low, high], random),
-            Style::Ends => random
-                .pick(&[low, low + 1, high - 1, high])
-                .clamp(low, high),
+            Style::Ends => random.pick(&[low, low + 1, high - 1, high]).clamp(low, high),
             Style::Anywhere => random.between(low, high),
             Style::Mixed => {
                 let style = random.pick(&STYLES[..5]);

@@ -38,12 +38,7 @@ pub fn lines() -> [Line; 33] {
             b'S' => 4,
             _ => 3,
         };
-        let line = Line {
-            letter,
-            begin,
-            first,
-            count,
-        };
+        let line = Line { letter, begin, first, count };
         begin = line.end() + 1;
         first += count;
         line

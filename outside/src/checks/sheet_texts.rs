@@ -73,9 +73,7 @@ const BADLY_WRITTEN: [&Field; 56] = [
 /// Bytes beside the digits, digits with the eighth bit set, and others that are
 /// digits or blanks somewhere.
 fn no_digits() -> Vec<u8> {
-    let mut bytes = vec![
-        0x2F, 0x3A, 0xAF, 0xBA, 0xA0, 0x1F, 0x21, 0x85, 0x0B, 0x7F, 0xFF,
-    ];
+    let mut bytes = vec![0x2F, 0x3A, 0xAF, 0xBA, 0xA0, 0x1F, 0x21, 0x85, 0x0B, 0x7F, 0xFF];
     bytes.extend(0xB0..=0xB9);
     bytes.extend([b',', b'.', b'_', b'e', b'E', b'x', b'l', b'O', b'#', b'*']);
     bytes

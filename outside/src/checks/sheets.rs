@@ -37,13 +37,7 @@ impl Run<'_> {
     /// A unit that isn't written into so many bytes.
     fn unwritten(&mut self, numbers: &Numbers, room: usize) -> Result<(), Difference> {
         let lent = self.maker.bytes(room);
-        same_write(
-            self.subject,
-            self.reference,
-            numbers,
-            &lent,
-            &mut self.tally,
-        )?;
+        same_write(self.subject, self.reference, numbers, &lent, &mut self.tally)?;
         let mut buffer = lent.clone();
         let written = self.subject.sheet_write(numbers, &mut buffer);
         same(&mut self.tally, (0, lent), (written, buffer), || {
@@ -101,12 +95,7 @@ impl Run<'_> {
 }
 
 fn run(subject: &dyn Subject, reference: Writer, seed: u64) -> Run<'_> {
-    Run {
-        subject,
-        reference,
-        maker: SheetMaker::new(seed),
-        tally: Tally::default(),
-    }
+    Run { subject, reference, maker: SheetMaker::new(seed), tally: Tally::default() }
 }
 
 pub fn units(subject: &dyn Subject) -> Outcome {

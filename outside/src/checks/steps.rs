@@ -54,20 +54,11 @@ impl Run<'_> {
 }
 
 pub fn lists(subject: &dyn Subject) -> Outcome {
-    let mut run = Run {
-        subject,
-        random: Random::new(LISTS_SEED),
-        tally: Tally::default(),
-    };
+    let mut run = Run { subject, random: Random::new(LISTS_SEED), tally: Tally::default() };
     let house = house_bands();
     run.list(house[0], [0; 4], Sound::Words, 1_000_000)?;
     run.list(house[5], [0; 4], Sound::Samples, 1_000_000)?;
-    run.list(
-        [8_388_607, 4_194_303, 8_388_606],
-        [0; 4],
-        Sound::Words,
-        1_000_000,
-    )?;
+    run.list([8_388_607, 4_194_303, 8_388_606], [0; 4], Sound::Words, 1_000_000)?;
     run.every_sound(&house, 5_000)?;
     run.every_sound(&extreme_accepted(), 250)?;
     run.every_sound(&half_accepted(), 500)?;

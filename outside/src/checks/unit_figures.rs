@@ -30,23 +30,14 @@ fn played(
 /// "V = 419, gains 0, s = 32,767: output 2. V = 0: output 0." The volume of a
 /// cleared unit is 419 after its first move towards any target from there up.
 fn quiet(subject: &dyn Subject, tally: &mut Tally) -> Result<(), Difference> {
-    let figures = [
-        (0, 0, 0),
-        (419, 419, 2),
-        (420, 419, 2),
-        (8_388_607, 419, 2),
-        (418, 418, 2),
-        (256, 256, 1),
-        (128, 128, 0),
-    ];
+    let figures =
+        [(0, 0, 0), (419, 419, 2), (420, 419, 2), (8_388_607, 419, 2), (418, 418, 2), (256, 256, 1), (128, 128, 0)];
     for (target, volume, sample) in figures {
         let mut numbers = cleared(&house_set());
         numbers[1] = target;
         let (output, after) = played(subject, &numbers, &[255, 127, 255, 127], tally)?;
         let expected = (vec![sample, 0, sample, 0], volume);
-        same(tally, expected, (output, after[0]), || {
-            format!("a full sample at V = {volume}")
-        })?;
+        same(tally, expected, (output, after[0]), || format!("a full sample at V = {volume}"))?;
     }
     Ok(())
 }
@@ -84,18 +75,14 @@ fn ten_alike(subject: &dyn Subject, tally: &mut Tally) -> Result<(), Difference>
     let mut loaded = [-1; 118];
     let answer = subject.load(&mut loaded, &set);
     let numbers = cleared(&set.try_into().expect("thirty numbers"));
-    same(tally, (0, numbers), (answer, loaded), || {
-        "ten bands all 31 Hz".to_string()
-    })?;
+    same(tally, (0, numbers), (answer, loaded), || "ten bands all 31 Hz".to_string())?;
     let mut expected = numbers;
     expected[LEFT] = 256_000;
     for strip in expected[LEFT + STRIPS..RIGHT].chunks_exact_mut(4) {
         strip[0] = 403;
     }
     let got = played(subject, &loaded, &[232, 3, 0, 0], tally)?;
-    same(tally, (vec![0; 4], expected), got, || {
-        "ten bands all 31 Hz after the frame (1000, 0)".to_string()
-    })
+    same(tally, (vec![0; 4], expected), got, || "ten bands all 31 Hz after the frame (1000, 0)".to_string())
 }
 
 /// "31 Hz, cleared, x = 256,000, 256,000, 0: y = 403, 1,208, 1,607", on either
@@ -108,9 +95,7 @@ fn three_frames(subject: &dyn Subject, tally: &mut Tally) -> Result<(), Differen
             numbers = played(subject, &numbers, &input, tally)?.1;
             results.push(numbers[side + STRIPS]);
         }
-        same(tally, vec![403, 1_208, 1_607], results, || {
-            "three frames through the 31 Hz band".to_string()
-        })?;
+        same(tally, vec![403, 1_208, 1_607], results, || "three frames through the 31 Hz band".to_string())?;
     }
     Ok(())
 }

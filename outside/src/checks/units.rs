@@ -37,10 +37,7 @@ pub struct Sets {
 
 impl Sets {
     pub fn all() -> Sets {
-        Sets {
-            extreme: extreme_accepted(),
-            half: half_accepted(),
-        }
+        Sets { extreme: extreme_accepted(), half: half_accepted() }
     }
 
     /// By turns the house set, any accepted bands, bands at the corners of the
@@ -52,11 +49,7 @@ impl Sets {
         }
         let mut set = house;
         for band in set.chunks_exact_mut(3) {
-            let which = if turn % 5 == 4 {
-                random.below(4)
-            } else {
-                turn % 5
-            };
+            let which = if turn % 5 == 4 { random.below(4) } else { turn % 5 };
             let drawn = match which {
                 0 => [band[0], band[1], band[2]],
                 1 => random_accepted(random),

@@ -58,8 +58,6 @@ impl Sound {
 
     /// A list of this length.
     pub fn list(self, length: u32, random: &mut Random) -> Vec<i32> {
-        (0..length)
-            .map(|place| self.word(place, length, random))
-            .collect()
+        (0..length).map(|place| self.word(place, length, random)).collect()
     }
 }

@@ -12,10 +12,7 @@ pub struct Fraction {
 
 impl Fraction {
     pub fn whole(number: i64) -> Fraction {
-        Fraction {
-            numerator: Big::from_i64(number),
-            power: 0,
-        }
+        Fraction { numerator: Big::from_i64(number), power: 0 }
     }
 
     pub fn is_zero(&self) -> bool {
@@ -50,10 +47,7 @@ impl Fraction {
 
     /// Without the sign.
     pub fn size(&self) -> Fraction {
-        Fraction {
-            numerator: self.numerator.size(),
-            power: self.power,
-        }
+        Fraction { numerator: self.numerator.size(), power: self.power }
     }
 
     pub fn compared_with(&self, other: &Fraction) -> Ordering {

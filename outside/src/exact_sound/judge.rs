@@ -47,10 +47,7 @@ impl Distances {
             ("lists held against the exact sound", self.lists),
             ("lists in which a section limited", self.limited),
             ("samples held to the bound", self.judged),
-            (
-                "samples that need the sections' part of it",
-                self.need_sections,
-            ),
+            ("samples that need the sections' part of it", self.need_sections),
             ("samples left out, a section having limited", self.skipped),
             ("samples left out and beyond the bound", self.skipped_beyond),
         ]
@@ -111,12 +108,7 @@ impl Judge {
         let outer = Fraction::whole(ONE + (volume << 23));
         let sections = self.responses.weighted(&weights);
         let bound = Fraction::sum(&[(1, &outer), (1, &sections)]);
-        Some(Measured {
-            distance,
-            outer,
-            sections,
-            bound,
-        })
+        Some(Measured { distance, outer, sections, bound })
     }
 
     /// Counts a sample of a side that has not limited, or says that it lies

@@ -16,10 +16,7 @@ impl Limiting {
             let [a, b, g] = [0, 1, 2].map(|n| set[3 * band + n]);
             [a, b, g, 0, 0, 0, 0]
         });
-        Limiting {
-            sides: [side; 2],
-            limited: [false; 2],
-        }
+        Limiting { sides: [side; 2], limited: [false; 2] }
     }
 
     /// A frame of an accepted block.

@@ -37,28 +37,17 @@ pub struct ExactSound {
     sides: [Side; 2],
 }
 
-const ZERO: Level = Level {
-    present: 0,
-    target: 0,
-};
+const ZERO: Level = Level { present: 0, target: 0 };
 
 impl Strip {
     fn new() -> Strip {
-        Strip {
-            y1: Fraction::whole(0),
-            y2: Fraction::whole(0),
-            gain: ZERO,
-        }
+        Strip { y1: Fraction::whole(0), y2: Fraction::whole(0), gain: ZERO }
     }
 }
 
 impl Side {
     fn new() -> Side {
-        Side {
-            x1: 0,
-            x2: 0,
-            strips: std::array::from_fn(|_| Strip::new()),
-        }
+        Side { x1: 0, x2: 0, strips: std::array::from_fn(|_| Strip::new()) }
     }
 
     /// "each band's y = (A × (x - x2) + G × y1 - B × y2) / 2^22"; then "x1
@@ -89,11 +78,7 @@ impl Side {
 impl ExactSound {
     /// "All begin at zero."
     pub fn new(set: &[i32; 30]) -> ExactSound {
-        ExactSound {
-            set: *set,
-            volume: ZERO,
-            sides: [Side::new(), Side::new()],
-        }
+        ExactSound { set: *set, volume: ZERO, sides: [Side::new(), Side::new()] }
     }
 
     /// "An accepted order sets targets by the rules under Levels."

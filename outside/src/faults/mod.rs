@@ -18,14 +18,6 @@ pub struct Impostor {
     pub found_by: &'static [Group],
 }
 
-const fn impostor(
-    fault: &'static (dyn Subject + Sync),
-    name: &'static str,
-    found_by: &'static [Group],
-) -> Impostor {
-    Impostor {
-        fault,
-        name,
-        found_by,
-    }
+const fn impostor(fault: &'static (dyn Subject + Sync), name: &'static str, found_by: &'static [Group]) -> Impostor {
+    Impostor { fault, name, found_by }
 }

@@ -3,8 +3,8 @@
 use super::{impostor, Impostor};
 use crate::checks::groups::{BANDS, CORNERS, FIGURES, HOUSE, LIMIT, LISTS, NEAREST, REFUSED};
 use crate::reference::{
-    band_refusal, exact, fast, house_set, is_word, pack, Section, ACCEPTED, NO_WORD, REFUSED_A,
-    REFUSED_B, REFUSED_G, TABLE_1, WORD_MAX, WORD_MIN,
+    band_refusal, exact, fast, house_set, is_word, pack, Section, ACCEPTED, NO_WORD, REFUSED_A, REFUSED_B, REFUSED_G,
+    TABLE_1, WORD_MAX, WORD_MIN,
 };
 use crate::subject::Altered;
 
@@ -29,76 +29,20 @@ pub enum Fault {
 }
 
 pub const IMPOSTORS: [Impostor; 14] = [
-    impostor(
-        &Fault::HalvesUpwards,
-        "halves rounded upwards",
-        &[NEAREST, LISTS, CORNERS, FIGURES],
-    ),
-    impostor(
-        &Fault::HalvesAwayFromZero,
-        "halves rounded away from zero",
-        &[NEAREST, LISTS, CORNERS, FIGURES],
-    ),
-    impostor(
-        &Fault::ProductsRounded,
-        "each product rounded by itself",
-        &[LISTS, CORNERS, FIGURES],
-    ),
-    impostor(
-        &Fault::WordWraps,
-        "the word left to wrap",
-        &[LISTS, CORNERS, FIGURES],
-    ),
-    impostor(
-        &Fault::X1ForX2,
-        "x1 in place of x2",
-        &[LISTS, CORNERS, FIGURES],
-    ),
-    impostor(
-        &Fault::UnlimitedRemembered,
-        "the unlimited y remembered",
-        &[LISTS, CORNERS, FIGURES],
-    ),
-    impostor(
-        &Fault::LimitedAtTheEnd,
-        "counted as limited where y is at the end of a word",
-        &[CORNERS, FIGURES],
-    ),
-    impostor(
-        &Fault::Test9Before8,
-        "9 tested ahead of 8",
-        &[BANDS, REFUSED],
-    ),
-    impostor(
-        &Fault::Test15First,
-        "15 tested ahead of 8 to 10",
-        &[REFUSED],
-    ),
-    impostor(
-        &Fault::EdgeOfGAccepted,
-        "|G| = 4,194,304 + B accepted",
-        &[BANDS, REFUSED],
-    ),
-    impostor(
-        &Fault::RefusedStepShifts,
-        "a refused step moves x1 on",
-        &[REFUSED],
-    ),
-    impostor(
-        &Fault::HighTestedFirst,
-        "high tested ahead of low",
-        &[LIMIT],
-    ),
-    impostor(
-        &Fault::ShiftTakenModulo64,
-        "the shift taken modulo 64",
-        &[NEAREST],
-    ),
-    impostor(
-        &Fault::HouseCutOff,
-        "the house set cut off, not to the nearest",
-        &[HOUSE, FIGURES],
-    ),
+    impostor(&Fault::HalvesUpwards, "halves rounded upwards", &[NEAREST, LISTS, CORNERS, FIGURES]),
+    impostor(&Fault::HalvesAwayFromZero, "halves rounded away from zero", &[NEAREST, LISTS, CORNERS, FIGURES]),
+    impostor(&Fault::ProductsRounded, "each product rounded by itself", &[LISTS, CORNERS, FIGURES]),
+    impostor(&Fault::WordWraps, "the word left to wrap", &[LISTS, CORNERS, FIGURES]),
+    impostor(&Fault::X1ForX2, "x1 in place of x2", &[LISTS, CORNERS, FIGURES]),
+    impostor(&Fault::UnlimitedRemembered, "the unlimited y remembered", &[LISTS, CORNERS, FIGURES]),
+    impostor(&Fault::LimitedAtTheEnd, "counted as limited where y is at the end of a word", &[CORNERS, FIGURES]),
+    impostor(&Fault::Test9Before8, "9 tested ahead of 8", &[BANDS, REFUSED]),
+    impostor(&Fault::Test15First, "15 tested ahead of 8 to 10", &[REFUSED]),
+    impostor(&Fault::EdgeOfGAccepted, "|G| = 4,194,304 + B accepted", &[BANDS, REFUSED]),
+    impostor(&Fault::RefusedStepShifts, "a refused step moves x1 on", &[REFUSED]),
+    impostor(&Fault::HighTestedFirst, "high tested ahead of low", &[LIMIT]),
+    impostor(&Fault::ShiftTakenModulo64, "the shift taken modulo 64", &[NEAREST]),
+    impostor(&Fault::HouseCutOff, "the house set cut off, not to the nearest", &[HOUSE, FIGURES]),
 ];
 
 impl Fault {
@@ -108,10 +52,7 @@ impl Fault {
         let earlier = if self == Fault::X1ForX2 { x1 } else { x2 };
         let products = [a * (i64::from(x) - earlier), g * y1, -(b * y2)];
         if self == Fault::ProductsRounded {
-            products
-                .into_iter()
-                .map(|product| self.nearest(product, 22))
-                .sum()
+            products.into_iter().map(|product| self.nearest(product, 22)).sum()
         } else {
             self.nearest(products.into_iter().sum(), 22)
         }

@@ -36,9 +36,7 @@ pub fn level_moved(present: i32, target: i32, slope: u32) -> i32 {
 pub fn fit(numbers: &Numbers) -> bool {
     let unit = Unit::from_numbers(numbers);
     let accepted = |band: &Band| band_refusal(band.a, band.b, band.g) == ACCEPTED;
-    volume_is_fit(unit.volume)
-        && unit.bands.iter().all(accepted)
-        && unit.sides.iter().all(side_is_fit)
+    volume_is_fit(unit.volume) && unit.bands.iter().all(accepted) && unit.sides.iter().all(side_is_fit)
 }
 
 /// "the volume V is 0 to 8,388,607", and its target too.
@@ -55,9 +53,7 @@ fn side_is_fit(side: &Side) -> bool {
         && (side.flag == 0 || side.flag == 1)
         && side.strips.iter().all(|strip| {
             let Level { present, target } = strip.gain;
-            [strip.y1, strip.y2, present, target]
-                .into_iter()
-                .all(is_word)
+            [strip.y1, strip.y2, present, target].into_iter().all(is_word)
         })
 }
 

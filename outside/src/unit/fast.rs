@@ -62,9 +62,7 @@ fn rounded(v: i64, k: u32) -> i64 {
 pub fn fit(numbers: &Numbers) -> bool {
     let volume = |number: &i32| (0..=WORD_MAX).contains(number);
     numbers[VOLUME..BANDS].iter().all(volume)
-        && numbers[BANDS..LEFT]
-            .chunks_exact(3)
-            .all(|band| band_refusal(band[0], band[1], band[2]) == ACCEPTED)
+        && numbers[BANDS..LEFT].chunks_exact(3).all(|band| band_refusal(band[0], band[1], band[2]) == ACCEPTED)
         && numbers[LEFT..].chunks_exact(SIDE_COUNT).all(side_is_fit)
 }
 
@@ -94,9 +92,7 @@ impl Side {
             x1: side[0].into(),
             x2: side[1].into(),
             limited: side[2] != 0,
-            sections: std::array::from_fn(|n| {
-                Section::read(&bands[3 * n..], &side[STRIPS + 4 * n..])
-            }),
+            sections: std::array::from_fn(|n| Section::read(&bands[3 * n..], &side[STRIPS + 4 * n..])),
         }
     }
 

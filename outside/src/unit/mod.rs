@@ -105,12 +105,7 @@ impl Side {
     fn read(next: &mut impl FnMut() -> i32) -> Side {
         let [x1, x2, flag] = [next(), next(), next()];
         let strips = [(); 10].map(|()| Strip::read(next));
-        Side {
-            x1,
-            x2,
-            flag,
-            strips,
-        }
+        Side { x1, x2, flag, strips }
     }
 }
 
@@ -121,11 +116,7 @@ impl Unit {
         let volume = Level::read(next);
         let bands = [(); 10].map(|()| Band::read(next));
         let sides = [(); 2].map(|()| Side::read(next));
-        Unit {
-            volume,
-            bands,
-            sides,
-        }
+        Unit { volume, bands, sides }
     }
 
     pub fn to_numbers(&self) -> Numbers {

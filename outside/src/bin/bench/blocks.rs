@@ -69,9 +69,7 @@ fn turn_round(unit: &mut Numbers, turn: usize) {
 
 /// True where no level has arrived.
 fn all_moving(unit: &Numbers) -> bool {
-    gains()
-        .chain([0])
-        .all(|level| unit[level] != unit[level + 1])
+    gains().chain([0]).all(|level| unit[level] != unit[level + 1])
 }
 
 /// A turn's frames in blocks of so many bytes.
@@ -90,11 +88,7 @@ fn checksum(sum: u64, unit: &Numbers, sound: &[u8]) -> u64 {
         u64::from(u32::from_le_bytes(frame))
     });
     let numbers = unit.iter().map(|&number| number as u64);
-    words.chain(numbers).fold(sum, |sum, word| {
-        (sum ^ word)
-            .wrapping_mul(0x9E37_79B9_7F4A_7C15)
-            .rotate_left(29)
-    })
+    words.chain(numbers).fold(sum, |sum, word| (sum ^ word).wrapping_mul(0x9E37_79B9_7F4A_7C15).rotate_left(29))
 }
 
 /// One of the two, with the unit it plays and the checksum of its sound.

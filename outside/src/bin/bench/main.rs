@@ -105,10 +105,7 @@ fn race_named<F: Copy>(name: &str, runners: [(&str, F); 2], run: impl Fn(F) -> (
     }
     let [(first, _), (second, _)] = runners;
     let ratio = best[0] / best[1];
-    println!(
-        "{name}: {first} {:.2} ns, {second} {:.2} ns, ratio {ratio:.2}",
-        best[0], best[1]
-    );
+    println!("{name}: {first} {:.2} ns, {second} {:.2} ns, ratio {ratio:.2}", best[0], best[1]);
     ratio
 }
 
@@ -137,41 +134,23 @@ fn main() -> ExitCode {
 /// The bands that steps and previews are timed with.
 fn bands() -> [(&'static str, [i32; 3]); 2] {
     let house = house_set();
-    [
-        ("house band 1000 Hz", [house[15], house[16], house[17]]),
-        ("extreme band", [8_388_607, 4_194_303, 8_388_606]),
-    ]
+    [("house band 1000 Hz", [house[15], house[16], house[17]]), ("extreme band", [8_388_607, 4_194_303, 8_388_606])]
 }
 
 fn time_steps(random: &mut Random) {
     let words: Vec<i32> = (0..COUNT).map(|_| random.word()).collect();
     for (name, band) in bands() {
-        race(
-            &format!("step, {name}"),
-            raw::fonddrys_section_step as StepFn,
-            rust_step,
-            |step| run_steps(step, band, &words),
-        );
+        race(&format!("step, {name}"), raw::fonddrys_section_step as StepFn, rust_step, |step| {
+            run_steps(step, band, &words)
+        });
     }
 }
 
 fn time_nearest(random: &mut Random) {
-    let section_sums: Vec<(i64, u32)> = (0..COUNT)
-        .map(|_| ((random.draw() as i64) >> 16, 22))
-        .collect();
-    let any_shift: Vec<(i64, u32)> = (0..COUNT)
-        .map(|_| (random.any_size(), random.below(64) as u32))
-        .collect();
-    for (name, numbers) in [
-        ("nearest, shift 22", section_sums),
-        ("nearest, shifts 0 to 63", any_shift),
-    ] {
-        race(
-            name,
-            raw::fonddrys_nearest as NearestFn,
-            rust_nearest,
-            |nearest| run_nearest(nearest, &numbers),
-        );
+    let section_sums: Vec<(i64, u32)> = (0..COUNT).map(|_| ((random.draw() as i64) >> 16, 22)).collect();
+    let any_shift: Vec<(i64, u32)> = (0..COUNT).map(|_| (random.any_size(), random.below(64) as u32)).collect();
+    for (name, numbers) in [("nearest, shift 22", section_sums), ("nearest, shifts 0 to 63", any_shift)] {
+        race(name, raw::fonddrys_nearest as NearestFn, rust_nearest, |nearest| run_nearest(nearest, &numbers));
     }
 }
 
@@ -182,12 +161,8 @@ fn time_orders(random: &mut Random) {
     let mut place = || (random.below(3) as u32, random.below(10) as u32);
     let places: Vec<(u32, u32)> = (0..ORDERS).map(|_| place()).collect();
     let mut given = |make: &dyn Fn(u32, u32, u64) -> Order| -> Vec<Order> {
-        let drawn = places
-            .iter()
-            .map(|&(side, band)| (side, band, random.draw()));
-        drawn
-            .map(|(side, band, draw)| make(side, band, draw))
-            .collect()
+        let drawn = places.iter().map(|&(side, band)| (side, band, random.draw()));
+        drawn.map(|(side, band, draw)| make(side, band, draw)).collect()
     };
     let positions = given(&|side, band, draw| Order::position(side, band, (draw % 33) as u8));
     let factors = given(&|side, band, draw| {
@@ -195,8 +170,6 @@ fn time_orders(random: &mut Random) {
         Order::factor(side, band, factor)
     });
     for (name, orders) in [("order, position", positions), ("order, factor", factors)] {
-        race(name, ffi::order as OrderFn, orders::fast::order, |order| {
-            run_orders(order, &orders)
-        });
+        race(name, ffi::order as OrderFn, orders::fast::order, |order| run_orders(order, &orders));
     }
 }

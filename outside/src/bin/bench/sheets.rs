@@ -109,11 +109,9 @@ pub fn within(most: f64) -> bool {
     let units: Vec<Numbers> = (0..UNITS as u64).map(&mut unit).collect();
     let house = [cleared(&house_set())];
     let mut met = true;
-    for (name, units) in [
-        ("of 1,024 units", &units[..]),
-        ("of 64 units", &units[..FEW]),
-        ("of the cleared house unit", &house[..]),
-    ] {
+    for (name, units) in
+        [("of 1,024 units", &units[..]), ("of 64 units", &units[..FEW]), ("of the cleared house unit", &house[..])]
+    {
         let written = format!("sheet {name} written");
         met &= (0..3).any(|_| race_writes(&written, units) <= most);
         let read = format!("sheet {name} read");

@@ -36,10 +36,7 @@ struct Arguments {
 }
 
 fn arguments() -> Option<Arguments> {
-    let mut arguments = Arguments {
-        play: PathBuf::from(PLAY),
-        need_sox: false,
-    };
+    let mut arguments = Arguments { play: PathBuf::from(PLAY), need_sox: false };
     let mut given = env::args().skip(1);
     while let Some(argument) = given.next() {
         match argument.as_str() {
@@ -64,11 +61,7 @@ fn in_turns(
 }
 
 fn told(name: &str, times: &Times) -> String {
-    let Times {
-        user,
-        total,
-        elapsed,
-    } = times;
+    let Times { user, total, elapsed } = times;
     let seconds = Duration::as_secs_f64;
     let real_time = (FRAMES / RATE) as f64 / seconds(elapsed);
     format!(
@@ -82,10 +75,7 @@ fn told(name: &str, times: &Times) -> String {
 
 /// The time of play in times of the engine's.
 fn of_engine(play: &Path, material: &Material) -> Result<f64, String> {
-    let [play, engine] = in_turns(
-        || timed::play(play, material),
-        || Ok(timed::engine(material)),
-    )?;
+    let [play, engine] = in_turns(|| timed::play(play, material), || Ok(timed::engine(material)))?;
     let ratio = play.total.as_secs_f64() / engine.total.as_secs_f64();
     println!("{}", told("play", &play));
     println!("{}", told("engine", &engine));
@@ -105,9 +95,7 @@ fn of_sox(play: &Path, material: &Material) -> Result<f64, String> {
 
 fn memory_of(play: &Path, material: &Material) -> Result<u64, String> {
     let memory = memory::most(play, material)?;
-    println!(
-        "memory of play: at most {memory} bytes, below {MEMORY}; sound and sheet the engine's"
-    );
+    println!("memory of play: at most {memory} bytes, below {MEMORY}; sound and sheet the engine's");
     Ok(memory)
 }
 
@@ -128,13 +116,9 @@ fn everything(arguments: &Arguments) -> Result<bool, String> {
     let material = Material::new().map_err(|error| format!("the noise: {error}"))?;
     println!("seed {SEED:#x}, {FRAMES} frames of noise, best of {RUNS} runs each, in turns");
     let mut met = kept("the memory", || Ok(memory_of(&path, &material)? < MEMORY))?;
-    met &= kept("the time against the engine", || {
-        Ok(of_engine(&path, &material)? <= MOST_OF_ENGINE)
-    })?;
+    met &= kept("the time against the engine", || Ok(of_engine(&path, &material)? <= MOST_OF_ENGINE))?;
     if timed::has_sox() {
-        met &= kept("the time against sox", || {
-            Ok(of_sox(&path, &material)? <= MOST_OF_SOX)
-        })?;
+        met &= kept("the time against sox", || Ok(of_sox(&path, &material)? <= MOST_OF_SOX))?;
     } else if arguments.need_sox {
         return Err("sox is not installed".to_string());
     } else {

@@ -48,11 +48,7 @@ pub fn sheet_of(unit: &Numbers) -> Vec<u8> {
 
 impl Material {
     pub fn new() -> std::io::Result<Material> {
-        let material = Material {
-            folder: Temporary::new("bench_play")?,
-            unit: unit(),
-            noise: noise(),
-        };
+        let material = Material { folder: Temporary::new("bench_play")?, unit: unit(), noise: noise() };
         fs::write(material.noise_path(), &material.noise)?;
         let sheet = sheet_of(&material.unit);
         fs::write(material.folder.path().join("strip.sht"), sheet)?;

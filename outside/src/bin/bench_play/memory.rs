@@ -22,9 +22,7 @@ fn most_memory(process: u32) -> Result<u64, String> {
     let line = status.lines().find_map(|line| line.strip_prefix("VmHWM:"));
     let kilobytes = line.and_then(|line| line.trim().strip_suffix(" kB"));
     let kilobytes = kilobytes.and_then(|number| number.parse::<u64>().ok());
-    kilobytes.map_or(Err(format!("{path} has no VmHWM")), |count| {
-        Ok(1_024 * count)
-    })
+    kilobytes.map_or(Err(format!("{path} has no VmHWM")), |count| Ok(1_024 * count))
 }
 
 /// Takes so many bytes of sound, or fewer where it ends.
@@ -60,11 +58,8 @@ fn all_but_the_end(
 /// Plays all noise through pipes; the sound and the sheet must be those of the
 /// engine. Gives the most memory, in bytes.
 pub fn most(program: &Path, material: &Material) -> Result<u64, String> {
-    let started = Command::new(program)
-        .current_dir(material.folder.path())
-        .stdin(Stdio::piped())
-        .stdout(Stdio::piped())
-        .spawn();
+    let started =
+        Command::new(program).current_dir(material.folder.path()).stdin(Stdio::piped()).stdout(Stdio::piped()).spawn();
     let mut child = started.map_err(|error| format!("play can't be started: {error}"))?;
     let (Some(mut input), Some(sound)) = (child.stdin.take(), child.stdout.take()) else {
         return Err("play has no pipes".to_string());

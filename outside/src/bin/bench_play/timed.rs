@@ -26,18 +26,10 @@ pub struct Times {
 }
 
 impl Times {
-    pub const LONGEST: Times = Times {
-        user: Duration::MAX,
-        total: Duration::MAX,
-        elapsed: Duration::MAX,
-    };
+    pub const LONGEST: Times = Times { user: Duration::MAX, total: Duration::MAX, elapsed: Duration::MAX };
 
     fn new(used: Used, elapsed: Duration) -> Times {
-        Times {
-            user: used.user,
-            total: used.total(),
-            elapsed,
-        }
+        Times { user: used.user, total: used.total(), elapsed }
     }
 
     /// Each the better one of two.
@@ -99,10 +91,7 @@ pub fn engine(material: &Material) -> Times {
         black_box(sound);
     }));
     let (elapsed, after) = (begun.elapsed(), system::used());
-    let used = Used {
-        user: after.user - before.user,
-        system: after.system - before.system,
-    };
+    let used = Used { user: after.user - before.user, system: after.system - before.system };
     Times::new(used, elapsed)
 }
 
@@ -124,9 +113,7 @@ pub fn has_sox() -> bool {
 }
 
 /// The ten house frequencies.
-const FREQUENCIES: [&str; 10] = [
-    "31", "62", "125", "250", "500", "1000", "2000", "4000", "8000", "16000",
-];
+const FREQUENCIES: [&str; 10] = ["31", "62", "125", "250", "500", "1000", "2000", "4000", "8000", "16000"];
 
 /// The program sox with ten equalisers on the same sound.
 pub fn sox(material: &Material) -> Result<Times, String> {

@@ -22,10 +22,7 @@ pub const PART_NAME: &str = "strip.new.part";
 
 /// A folder that holds these files and nothing else.
 pub fn files(named: &[(&str, &[u8])]) -> Contents {
-    named
-        .iter()
-        .map(|&(name, bytes)| (name.to_string(), Entry::File(bytes.to_vec())))
-        .collect()
+    named.iter().map(|&(name, bytes)| (name.to_string(), Entry::File(bytes.to_vec()))).collect()
 }
 
 /// A folder that holds this sheet as `strip.sht` and nothing else.
@@ -73,11 +70,7 @@ impl Folder {
         let mut contents = Contents::new();
         for entry in fs::read_dir(self.path())? {
             let entry = entry?;
-            let found = if entry.file_type()?.is_dir() {
-                Entry::Folder
-            } else {
-                Entry::File(fs::read(entry.path())?)
-            };
+            let found = if entry.file_type()?.is_dir() { Entry::Folder } else { Entry::File(fs::read(entry.path())?) };
             let name = entry.file_name().to_string_lossy().into_owned();
             contents.insert(name, found);
         }

@@ -53,11 +53,7 @@ pub struct Given<'a> {
 impl<'a> Given<'a> {
     /// This input, the sound to a pipe, started by itself.
     pub fn input(input: Input<'a>) -> Given<'a> {
-        Given {
-            input,
-            output: Output::Pipe,
-            way: Way::Bare,
-        }
+        Given { input, output: Output::Pipe, way: Way::Bare }
     }
 }
 
@@ -133,12 +129,7 @@ fn send_pieces(session: &mut Session, bytes: &[u8], lengths: &[usize], patience:
 }
 
 /// Starts the program in this folder as the run says, its input not yet sent.
-pub fn start(
-    program: &Program,
-    folder: &Folder,
-    given: &Given,
-    aside: &Folder,
-) -> Result<Session, Difference> {
+pub fn start(program: &Program, folder: &Folder, given: &Given, aside: &Folder) -> Result<Session, Difference> {
     let mut command = program.command(given.way, folder.path());
     connect_input(&mut command, given.input, aside).map_err(system_fault)?;
     let most = connect_output(&mut command, given.output, aside).map_err(system_fault)?;
@@ -146,12 +137,7 @@ pub fn start(
 }
 
 /// Runs the program in this folder to its end.
-pub fn run_only(
-    program: &Program,
-    folder: &Folder,
-    given: &Given,
-    patience: Duration,
-) -> Result<Ended, Difference> {
+pub fn run_only(program: &Program, folder: &Folder, given: &Given, patience: Duration) -> Result<Ended, Difference> {
     let aside = Folder::new(&Contents::new()).map_err(system_fault)?;
     let mut session = start(program, folder, given, &aside)?;
     match given.input {
@@ -177,11 +163,6 @@ pub fn seen(ended: Ended, folder: &Folder) -> Result<Seen, Difference> {
 }
 
 /// Runs the program in this folder and looks.
-pub fn run(
-    program: &Program,
-    folder: &Folder,
-    given: &Given,
-    patience: Duration,
-) -> Result<Seen, Difference> {
+pub fn run(program: &Program, folder: &Folder, given: &Given, patience: Duration) -> Result<Seen, Difference> {
     seen(run_only(program, folder, given, patience)?, folder)
 }

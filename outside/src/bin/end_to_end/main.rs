@@ -29,9 +29,7 @@ use std::time::Duration;
 use outside::checks::report::report;
 use outside::checks::Difference;
 
-use self::groups::{
-    chains, chunks, continued, desk, files, live, refusals, sounds, streams, tails,
-};
+use self::groups::{chains, chunks, continued, desk, files, live, refusals, sounds, streams, tails};
 use self::groups::{Group, Tally, Tester, GROUPS};
 use self::program::{Program, DESK, HOUSE, PLAY};
 
@@ -43,10 +41,7 @@ const PATIENCE: Duration = Duration::from_secs(20);
 
 fn main() -> ExitCode {
     let arguments: Vec<OsString> = env::args_os().skip(1).collect();
-    let words: Vec<&str> = arguments
-        .iter()
-        .map(|argument| argument.to_str().unwrap_or("--"))
-        .collect();
+    let words: Vec<&str> = arguments.iter().map(|argument| argument.to_str().unwrap_or("--")).collect();
     match words[..] {
         ["--act", name, role, ..] => act(name, role, &arguments[3..]),
         ["--self-test"] => told(self_test::run),
@@ -91,8 +86,7 @@ const SEEDS: [(&str, u64); 12] = [
 /// Runs every group and prints a line for each; one that differs doesn't keep the
 /// others from being run.
 fn test(path: &Path) -> Result<(), Difference> {
-    let found =
-        |path: &Path| Program::at(path).map_err(|error| format!("{}: {error}", path.display()));
+    let found = |path: &Path| Program::at(path).map_err(|error| format!("{}: {error}", path.display()));
     let tester = Tester {
         program: found(path)?,
         house: found(&path.with_file_name(HOUSE))?,
@@ -125,10 +119,7 @@ fn test(path: &Path) -> Result<(), Difference> {
 }
 
 fn print_group(group: &Group, tally: &Tally) {
-    println!(
-        "  {} ({}): {} runs agree, {} frames",
-        group.name, group.what, tally.runs, tally.frames
-    );
+    println!("  {} ({}): {} runs agree, {} frames", group.name, group.what, tally.runs, tally.frames);
     for case in &tally.left_out {
         println!("    left out, can't be tried here: {case}");
     }

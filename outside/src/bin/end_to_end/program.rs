@@ -37,26 +37,17 @@ const NOBODY: [&str; 4] = ["--reuid=65534", "--regid=65534", "--clear-groups", "
 impl Program {
     /// The program at a path, seen from any folder.
     pub fn at(path: &Path) -> io::Result<Program> {
-        Ok(Program {
-            path: fs::canonicalize(path)?,
-            arguments: Vec::new(),
-        })
+        Ok(Program { path: fs::canonicalize(path)?, arguments: Vec::new() })
     }
 
     /// This program itself, acting as one of the programs.
     pub fn actor(name: &str, role: &str) -> io::Result<Program> {
-        Ok(Program {
-            path: env::current_exe()?,
-            arguments: ["--act", name, role].map(OsString::from).to_vec(),
-        })
+        Ok(Program { path: env::current_exe()?, arguments: ["--act", name, role].map(OsString::from).to_vec() })
     }
 
     /// A shell that does this.
     pub fn shell(text: &OsStr) -> Program {
-        Program {
-            path: PathBuf::from("sh"),
-            arguments: vec![OsString::from("-c"), text.to_os_string()],
-        }
+        Program { path: PathBuf::from("sh"), arguments: vec![OsString::from("-c"), text.to_os_string()] }
     }
 
     /// The same program with arguments more.
@@ -81,10 +72,7 @@ impl Program {
     pub fn copied_to(&self, folder: &Path) -> io::Result<Program> {
         let path = folder.join(PLAY);
         fs::copy(&self.path, &path)?;
-        Ok(Program {
-            path,
-            arguments: self.arguments.clone(),
-        })
+        Ok(Program { path, arguments: self.arguments.clone() })
     }
 
     /// The command that starts it in a folder.

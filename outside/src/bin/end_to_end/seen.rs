@@ -17,12 +17,7 @@ pub struct Seen {
 impl Seen {
     /// A run that plays nothing, changes nothing and says this.
     pub fn nothing_but(errors: &str, before: &Contents) -> Seen {
-        Seen {
-            sound: Vec::new(),
-            errors: errors.as_bytes().to_vec(),
-            after: before.clone(),
-            ending: Ending::Status(0),
-        }
+        Seen { sound: Vec::new(), errors: errors.as_bytes().to_vec(), after: before.clone(), ending: Ending::Status(0) }
     }
 }
 
@@ -69,11 +64,7 @@ fn first_line(expected: &[u8], got: &[u8]) -> String {
 
 fn folder_difference(expected: &Contents, got: &Contents) -> Result<(), Difference> {
     if names(expected) != names(got) {
-        return Err(format!(
-            "the folder should hold {} and holds {}",
-            names(expected),
-            names(got)
-        ));
+        return Err(format!("the folder should hold {} and holds {}", names(expected), names(got)));
     }
     for (name, entry) in expected {
         match (entry, &got[name]) {
@@ -93,11 +84,7 @@ fn folder_difference(expected: &Contents, got: &Contents) -> Result<(), Differen
 /// Says how a run differs from the expected one, if it does.
 pub fn same(expected: &Seen, got: &Seen) -> Result<(), Difference> {
     if expected.errors != got.errors {
-        return Err(format!(
-            "standard error should be {} and is {}",
-            quoted(&expected.errors),
-            quoted(&got.errors)
-        ));
+        return Err(format!("standard error should be {} and is {}", quoted(&expected.errors), quoted(&got.errors)));
     }
     if expected.sound != got.sound {
         let place = first_difference(&expected.sound, &got.sound);
@@ -105,10 +92,7 @@ pub fn same(expected: &Seen, got: &Seen) -> Result<(), Difference> {
     }
     folder_difference(&expected.after, &got.after)?;
     if expected.ending != got.ending {
-        return Err(format!(
-            "it should end with {:?} and ended with {:?}",
-            expected.ending, got.ending
-        ));
+        return Err(format!("it should end with {:?} and ended with {:?}", expected.ending, got.ending));
     }
     Ok(())
 }

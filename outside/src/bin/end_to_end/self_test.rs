@@ -17,9 +17,7 @@ const LONG: Duration = Duration::from_secs(20);
 const SHORT: Duration = Duration::from_millis(300);
 
 fn tester(name: &str, patience: Duration) -> Result<Tester, Difference> {
-    let actor = |role: &str| {
-        Program::actor(name, role).map_err(|error| format!("this program itself: {error}"))
-    };
+    let actor = |role: &str| Program::actor(name, role).map_err(|error| format!("this program itself: {error}"));
     Ok(Tester {
         program: actor(PLAY)?,
         house: actor(HOUSE)?,
@@ -36,14 +34,9 @@ fn right() -> Result<(), Difference> {
     let mut runs = 0;
     for group in GROUPS {
         let passed = (group.run)(&tester);
-        runs += passed
-            .map_err(|difference| format!("right, {}: {difference}", group.name))?
-            .runs;
+        runs += passed.map_err(|difference| format!("right, {}: {difference}", group.name))?.runs;
     }
-    println!(
-        "  right: passed by all {} groups, {runs} runs",
-        GROUPS.len()
-    );
+    println!("  right: passed by all {} groups, {runs} runs", GROUPS.len());
     Ok(())
 }
 

@@ -70,13 +70,7 @@ impl Session {
         let errors = errors.map(|pipe| Collector::new(pipe, usize::MAX));
         let child = Arc::new(Mutex::new(child));
         let watch = Some(Watch::new(Arc::clone(&child), LIMIT));
-        Ok(Session {
-            child,
-            input,
-            sound,
-            errors,
-            watch,
-        })
+        Ok(Session { child, input, sound, errors, watch })
     }
 
     /// Writes to the program's input. A program that no longer reads loses it.
@@ -144,11 +138,7 @@ impl Session {
             return Err(format!("it ran longer than {LIMIT:?}"));
         }
         let ending = Ending::of(status);
-        Ok(Ended {
-            sound,
-            errors,
-            ending,
-        })
+        Ok(Ended { sound, errors, ending })
     }
 }
 

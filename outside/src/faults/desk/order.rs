@@ -64,9 +64,7 @@ impl Fault {
                 let number = (f64::from(f) * 8_388_608.0 + 0.5).floor() as i32;
                 number.min(8_388_607)
             }
-            (Fault::FactorUnlimited, Setting::Factor(f)) => {
-                (f64::from(f) * 8_388_608.0).round_ties_even() as i32
-            }
+            (Fault::FactorUnlimited, Setting::Factor(f)) => (f64::from(f) * 8_388_608.0).round_ties_even() as i32,
             _ => right,
         }
     }

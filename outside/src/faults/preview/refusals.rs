@@ -37,9 +37,7 @@ impl Fault {
             Fault::NoWordsLimited => &[],
             _ => words,
         };
-        let accepted = |&number: &i32| {
-            is_word(number) || (self == Fault::OneBeyondAccepted && number == WORD_MAX + 1)
-        };
+        let accepted = |&number: &i32| is_word(number) || (self == Fault::OneBeyondAccepted && number == WORD_MAX + 1);
         let buffer_tested = self == Fault::BufferTested;
         if tested.iter().all(accepted) && (!buffer_tested || results.iter().all(accepted)) {
             ACCEPTED

@@ -128,11 +128,7 @@ impl Fault {
 
     /// Fills the results of a list, as far as there is room.
     pub fn fill(self, band: [i32; 3], words: &[i32], results: &mut [i32]) {
-        let mut preview = Preview {
-            fault: self,
-            band: self.coefficients(band),
-            delayed: self.start(words, results),
-        };
+        let mut preview = Preview { fault: self, band: self.coefficients(band), delayed: self.start(words, results) };
         let count = self.count(words.len()).min(results.len());
         let (words, results) = (&words[..count], &mut results[..count]);
         for (result, &x) in results.iter_mut().zip(words) {

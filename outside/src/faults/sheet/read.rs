@@ -34,11 +34,7 @@ impl Reading {
     fn line(&mut self, number: usize, line: &Line, sheet: &[u8]) {
         let mut wrong = |test, refusal| {
             let line = number;
-            self.wrong.push(Wrong {
-                line,
-                test,
-                refusal,
-            });
+            self.wrong.push(Wrong { line, test, refusal });
         };
         let fault = self.fault;
         if !fault.is_letter(sheet[line.begin], line.letter) {
@@ -75,11 +71,7 @@ impl Fault {
     /// Where something wrong stands in the order of this fault: first the part
     /// of the sheet's reading, then the line, then the test.
     fn order(self, wrong: &Wrong) -> (u32, usize, usize) {
-        let Wrong {
-            line,
-            test,
-            refusal,
-        } = *wrong;
+        let Wrong { line, test, refusal } = *wrong;
         let range = matches!(refusal, REFUSED_A | REFUSED_B | REFUSED_G | OUTSIDE);
         let part = match self {
             Fault::LettersFirst if refusal == LETTER_OR_END => 0,
@@ -107,11 +99,7 @@ impl Fault {
 
     /// The refusal of so many bytes as a sheet has, and the numbers read.
     fn sheet_refusal(self, given: &Numbers, sheet: &[u8]) -> (u32, Numbers) {
-        let mut reading = Reading {
-            fault: self,
-            numbers: *given,
-            wrong: Vec::new(),
-        };
+        let mut reading = Reading { fault: self, numbers: *given, wrong: Vec::new() };
         let count = match self {
             Fault::LastLineUnread => 32,
             _ => 33,
@@ -132,9 +120,7 @@ impl Fault {
             Fault::AllBadlyWritten => (BADLY_WRITTEN, *numbers),
             Fault::AllAccepted => (ACCEPTED, *numbers),
             Fault::GivenExamined if Fast.unit_fit(numbers) == 0 => (OUTSIDE, *numbers),
-            Fault::LongAccepted if bytes.len() > SHEET => {
-                self.sheet_refusal(numbers, &bytes[..SHEET])
-            }
+            Fault::LongAccepted if bytes.len() > SHEET => self.sheet_refusal(numbers, &bytes[..SHEET]),
             _ if bytes.len() != SHEET => (self.length_refusal(bytes), *numbers),
             _ => self.sheet_refusal(numbers, bytes),
         };

@@ -47,8 +47,7 @@ impl Fault {
         for line in lines() {
             text.push(line.letter.into());
             for number in &numbers[line.first..line.first + line.count] {
-                self.write_field(&mut text, *number)
-                    .expect("a string takes all");
+                self.write_field(&mut text, *number).expect("a string takes all");
             }
             text.push('\n');
         }
@@ -79,10 +78,7 @@ impl Fault {
         buffer[..count].copy_from_slice(&self.sheet(numbers).as_bytes()[..count]);
         match self {
             Fault::ByteBehindWritten => {
-                buffer[SHEET..]
-                    .iter_mut()
-                    .take(1)
-                    .for_each(|byte| *byte = 0);
+                buffer[SHEET..].iter_mut().take(1).for_each(|byte| *byte = 0);
                 SHEET
             }
             Fault::LengthOfBuffer => buffer.len(),

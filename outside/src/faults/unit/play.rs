@@ -14,9 +14,9 @@ impl Fault {
     fn divided(self, v: i64, k: u32) -> i64 {
         match (self, k) {
             (Fault::MixCutOff, 23) | (Fault::OutputCutOff, 31) => v >> k,
-            (Fault::SectionHalvesUp, 22)
-            | (Fault::MixHalvesUp, 23)
-            | (Fault::OutputHalvesUp, 31) => (v + (1 << (k - 1))) >> k,
+            (Fault::SectionHalvesUp, 22) | (Fault::MixHalvesUp, 23) | (Fault::OutputHalvesUp, 31) => {
+                (v + (1 << (k - 1))) >> k
+            }
             _ => fast::nearest(v, k),
         }
     }
@@ -53,10 +53,7 @@ impl Fault {
         let [a, b, g, _, x2, y1, y2] = section.map(i64::from);
         let products = [a * (i64::from(x) - x2), g * y1, -(b * y2)];
         let number = if self == Fault::SectionProductsRounded {
-            products
-                .map(|product| self.divided(product, 22))
-                .iter()
-                .sum()
+            products.map(|product| self.divided(product, 22)).iter().sum()
         } else {
             self.divided(products.iter().sum(), 22)
         };
@@ -99,11 +96,7 @@ impl Fault {
         let product = i64::from(volume).wrapping_mul(m);
         let number = self.divided(product, 31);
         let limited = number.clamp(-32_768, 32_767);
-        let sample = if self == Fault::OutputWraps {
-            number
-        } else {
-            limited
-        };
+        let sample = if self == Fault::OutputWraps { number } else { limited };
         (sample as i16, limited != number)
     }
 
@@ -120,14 +113,8 @@ impl Fault {
             if self == Fault::VolumeMovedTwice && place == 1 {
                 self.move_volume(unit);
             }
-            let from = if self == Fault::LeftGainsOnRight {
-                0
-            } else {
-                place
-            };
-            let gains = unit.sides[from]
-                .strips
-                .map(|strip| i64::from(strip.gain.present));
+            let from = if self == Fault::LeftGainsOnRight { 0 } else { place };
+            let gains = unit.sides[from].strips.map(|strip| i64::from(strip.gain.present));
             let x = 256 * i32::from(samples[place]);
             let m = self.mix(unit, place, &gains, x);
             let (sample, limited) = self.output(unit.volume.present, m);

@@ -18,11 +18,7 @@ fn factor_refusal(f: f32, volume: bool) -> u32 {
     let zero = exponent == 0 && fraction == 0;
     let under_one = exponent < 127;
     let minus_one = negative && exponent == 127 && fraction == 0;
-    let inside = if volume {
-        under_one && (zero || !negative)
-    } else {
-        under_one || minus_one
-    };
+    let inside = if volume { under_one && (zero || !negative) } else { under_one || minus_one };
     match exponent {
         255 => FACTOR_NOT_FINITE,
         _ if inside => ACCEPTED,

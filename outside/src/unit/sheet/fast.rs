@@ -99,12 +99,7 @@ pub fn read_field(field: &[u8; FIELD]) -> Result<i32, u32> {
 
 /// Reads the letter and the fields of a line; `inside` says whether the number
 /// of a column is in its range.
-fn read_fields(
-    line: &[u8],
-    letter: u8,
-    numbers: &mut [i32],
-    inside: impl Fn(usize, i32) -> bool,
-) -> Result<(), u32> {
+fn read_fields(line: &[u8], letter: u8, numbers: &mut [i32], inside: impl Fn(usize, i32) -> bool) -> Result<(), u32> {
     if line[0] != letter {
         return Err(LETTER_OR_END);
     }
@@ -156,9 +151,7 @@ fn read_sheet(bytes: &[u8]) -> Result<Numbers, u32> {
     let mut numbers = [0; 118];
     let (volume, rest) = bytes.split_at(TWO);
     let (bands, sides) = rest.split_at(BAND_LINES);
-    read_fields(volume, b'V', &mut numbers[VOLUME..BANDS], |_, number| {
-        (0..=WORD_MAX).contains(&number)
-    })?;
+    read_fields(volume, b'V', &mut numbers[VOLUME..BANDS], |_, number| (0..=WORD_MAX).contains(&number))?;
     read_end(volume)?;
     let band_numbers = numbers[BANDS..LEFT].chunks_exact_mut(3);
     for (line, band) in bands.chunks_exact(THREE).zip(band_numbers) {

@@ -8,8 +8,7 @@ use outside::unit::sheet::FIELD;
 use super::fault::Fault;
 use super::{stream, Actor, Stop};
 
-const USAGE: &str =
-    "desk SIDE BAND POSITION: side 0 to 2, band 0 to 10, position 0 to 31 or mute\n";
+const USAGE: &str = "desk SIDE BAND POSITION: side 0 to 2, band 0 to 10, position 0 to 31 or mute\n";
 
 impl Actor {
     fn usage(&self) -> Stop {
@@ -62,15 +61,10 @@ impl Actor {
         let Order { side, band, .. } = order;
         match (self.fault, side, band, order.setting) {
             (Fault::DeskBothSides, 0, 0..=9, _) => Order { side: 2, ..order },
-            (Fault::DeskSidesSwapped, 0 | 1, 0..=9, _) => Order {
-                side: 1 - side,
-                ..order
-            },
+            (Fault::DeskSidesSwapped, 0 | 1, 0..=9, _) => Order { side: 1 - side, ..order },
             (Fault::DeskVolumeAlone, 0 | 1, 10, _) => Order { side: 2, ..order },
             (Fault::DeskMuteAsZero, _, _, Setting::Mute) => Order::position(side, band, 0),
-            (Fault::DeskLimited, _, _, Setting::Position(position)) => {
-                Order::position(side, band, position.min(31))
-            }
+            (Fault::DeskLimited, _, _, Setting::Position(position)) => Order::position(side, band, position.min(31)),
             _ => order,
         }
     }

@@ -1,8 +1,8 @@
 //! The ways in which an actor is wrong, each with the groups that must find it.
 
 use crate::groups::{
-    Group, ARGUMENTS, CHAINS, CHUNKS, CONTINUED, DESK_REFUSALS, FIGURES, FILES, HOUSE, LIVE,
-    ORDERS, REFUSALS, SOUNDS, STREAMS, TAILS,
+    Group, ARGUMENTS, CHAINS, CHUNKS, CONTINUED, DESK_REFUSALS, FIGURES, FILES, HOUSE, LIVE, ORDERS, REFUSALS, SOUNDS,
+    STREAMS, TAILS,
 };
 
 #[derive(Clone, Copy, PartialEq)]
@@ -93,18 +93,8 @@ pub struct Wrong {
     pub found_by: &'static [Group],
 }
 
-const fn wrong(
-    fault: Fault,
-    name: &'static str,
-    what: &'static str,
-    found_by: &'static [Group],
-) -> Wrong {
-    Wrong {
-        fault,
-        name,
-        what,
-        found_by,
-    }
+const fn wrong(fault: Fault, name: &'static str, what: &'static str, found_by: &'static [Group]) -> Wrong {
+    Wrong { fault, name, what, found_by }
 }
 
 pub const RIGHT: &str = "right";

@@ -25,10 +25,7 @@ impl Actor {
             Fault::AllClosedTold => names.len(),
             _ => 1,
         };
-        let lines: String = closed
-            .map(|(_, name)| format!("{name}: closed\n"))
-            .take(most)
-            .collect();
+        let lines: String = closed.map(|(_, name)| format!("{name}: closed\n")).take(most).collect();
         match lines.is_empty() {
             true => Ok(()),
             false => Err(lines),
@@ -45,9 +42,7 @@ impl Actor {
         let mut sound = vec![0; bytes.len()];
         fast::block(unit, bytes, &mut sound);
         if self.is(Fault::SidesSwapped) {
-            sound
-                .chunks_exact_mut(4)
-                .for_each(|frame| frame.rotate_left(2));
+            sound.chunks_exact_mut(4).for_each(|frame| frame.rotate_left(2));
         }
         if self.is(Fault::SheetAllAlong) {
             self.save(unit)?;
@@ -98,10 +93,7 @@ impl Actor {
             frame.resize(4, 0);
             self.frames(unit, &frame)?;
         }
-        Ok(InputEnd {
-            tail: !tail.is_empty(),
-            fault: String::new(),
-        })
+        Ok(InputEnd { tail: !tail.is_empty(), fault: String::new() })
     }
 
     /// Plays, writes the sheet, and gives what is to be told afterwards.

@@ -42,9 +42,9 @@ impl Actor {
             match self.fault {
                 Fault::FlagLost => unit[side + FLAG] = 0,
                 Fault::X2Lost => unit[side + 1] = 0,
-                Fault::GainAtTarget => unit[side + STRIPS..side + STRIPS + 40]
-                    .chunks_exact_mut(4)
-                    .for_each(|strip| strip[2] = strip[3]),
+                Fault::GainAtTarget => {
+                    unit[side + STRIPS..side + STRIPS + 40].chunks_exact_mut(4).for_each(|strip| strip[2] = strip[3])
+                }
                 _ => {}
             }
         }
@@ -62,10 +62,7 @@ impl Actor {
             return fs::write(NEW_NAME, new);
         }
         let mut part = match self.fault {
-            Fault::PartAppended => OpenOptions::new()
-                .append(true)
-                .create(true)
-                .open(PART_NAME)?,
+            Fault::PartAppended => OpenOptions::new().append(true).create(true).open(PART_NAME)?,
             _ => made(PART_NAME)?,
         };
         part.write_all(new)?;

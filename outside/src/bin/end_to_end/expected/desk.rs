@@ -10,8 +10,7 @@ use super::line;
 use crate::folder::Contents;
 use crate::seen::Seen;
 
-pub const USAGE: &str =
-    "desk SIDE BAND POSITION: side 0 to 2, band 0 to 10, position 0 to 31 or mute\n";
+pub const USAGE: &str = "desk SIDE BAND POSITION: side 0 to 2, band 0 to 10, position 0 to 31 or mute\n";
 
 /// What house writes.
 pub fn house_unit() -> Numbers {
@@ -20,10 +19,7 @@ pub fn house_unit() -> Numbers {
 
 /// A run that writes this, says nothing and changes nothing.
 pub fn written(bytes: &[u8], before: &Contents) -> Seen {
-    Seen {
-        sound: bytes.to_vec(),
-        ..Seen::nothing_but("", before)
-    }
+    Seen { sound: bytes.to_vec(), ..Seen::nothing_but("", before) }
 }
 
 /// A number not below zero, written as in a field of the strip sheet: nine

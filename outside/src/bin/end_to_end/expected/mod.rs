@@ -48,10 +48,5 @@ pub fn run(before: &Contents, input: &[u8], met: &mut Met) -> Seen {
         0 => String::new(),
         _ => line(PART_OF_A_FRAME),
     };
-    Seen {
-        sound,
-        errors: errors.into_bytes(),
-        after: and_file(before, NEW_NAME, &new),
-        ending: Ending::Status(0),
-    }
+    Seen { sound, errors: errors.into_bytes(), after: and_file(before, NEW_NAME, &new), ending: Ending::Status(0) }
 }

@@ -72,11 +72,7 @@ fn wrong_bytes(sheet: &[u8]) -> Vec<(String, Vec<u8>, u32)> {
             wrong.push((format!("line {place} ends with {byte}"), end, 12));
         }
     }
-    let swapped = with_byte(
-        &with_byte(sheet, lines[L].begin, b'R'),
-        lines[R].begin,
-        b'L',
-    );
+    let swapped = with_byte(&with_byte(sheet, lines[L].begin, b'R'), lines[R].begin, b'L');
     wrong.push(("R before L".to_string(), swapped, 12));
     wrong
 }
@@ -85,15 +81,8 @@ fn wrong_bytes(sheet: &[u8]) -> Vec<(String, Vec<u8>, u32)> {
 fn wrong_lengths(sheet: &[u8]) -> Vec<(String, Vec<u8>, u32)> {
     let longer = |more: usize| [sheet, &vec![b'\n'; more]].concat();
     let megabyte = sheet.repeat((1 << 20) / SHEET + 1);
-    let sheets = [
-        Vec::new(),
-        sheet[..1].to_vec(),
-        sheet[..SHEET - 1].to_vec(),
-        longer(1),
-        longer(2),
-        sheet.repeat(2),
-        megabyte,
-    ];
+    let sheets =
+        [Vec::new(), sheet[..1].to_vec(), sheet[..SHEET - 1].to_vec(), longer(1), longer(2), sheet.repeat(2), megabyte];
     let named = |sheet: Vec<u8>| (format!("{} bytes", sheet.len()), sheet, 11);
     sheets.map(named).to_vec()
 }
@@ -119,9 +108,7 @@ pub struct Damage {
 
 impl Damage {
     pub fn new() -> Damage {
-        Damage {
-            fields: badly_written(),
-        }
+        Damage { fields: badly_written() }
     }
 
     /// A damaged sheet, by turns in one byte or in a field.

@@ -38,10 +38,7 @@ impl Typed {
     }
 
     fn mute(side: u32, band: u32) -> Typed {
-        Typed {
-            words: [side.to_string(), band.to_string(), "mute".to_string()],
-            order: Order::mute(side, band),
-        }
+        Typed { words: [side.to_string(), band.to_string(), "mute".to_string()], order: Order::mute(side, band) }
     }
 
     /// Few bands, so that orders meet.
@@ -86,18 +83,11 @@ impl Test<'_> {
         text
     }
 
-    fn expect(
-        &mut self,
-        text: OsString,
-        before: &Contents,
-        input: &[u8],
-        expected: &Seen,
-    ) -> Result<(), Difference> {
+    fn expect(&mut self, text: OsString, before: &Contents, input: &[u8], expected: &Seen) -> Result<(), Difference> {
         let shell = Program::shell(&text);
         let given = Given::input(Input::File(input));
         let case = text.to_string_lossy();
-        self.tester
-            .expect_other(&shell, &case, before, &given, expected, &mut self.tally)
+        self.tester.expect_other(&shell, &case, before, &given, expected, &mut self.tally)
     }
 
     /// The sheet that comes out of a chain.
@@ -126,12 +116,7 @@ impl Test<'_> {
     }
 
     /// The same with an order more between two sounds.
-    fn played_on(
-        &mut self,
-        orders: &[Typed],
-        more: &Typed,
-        bytes: &[u8],
-    ) -> Result<(), Difference> {
+    fn played_on(&mut self, orders: &[Typed], more: &Typed, bytes: &[u8]) -> Result<(), Difference> {
         let (first, second) = bytes.split_at(bytes.len() / 8 * 4);
         let play = self.tester.program.in_shell();
         let mut text = self.chain(orders);
@@ -160,10 +145,7 @@ impl Test<'_> {
 }
 
 pub fn all(tester: &Tester) -> Outcome {
-    let mut test = Test {
-        tester,
-        tally: Tally::default(),
-    };
+    let mut test = Test { tester, tally: Tally::default() };
     let mut random = Random::new(SEED);
     let two = [Typed::position(2, 10, 25), Typed::position(0, 3, 20)];
     for orders in [&[], &two[..1], &two] {

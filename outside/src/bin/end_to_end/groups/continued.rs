@@ -25,12 +25,7 @@ fn new_sheet(seen: &Seen) -> Result<&[u8], Difference> {
 }
 
 /// Two runs as one: both sounds and errors, and the sheet of the second.
-fn two_runs(
-    tester: &Tester,
-    sheet: &[u8],
-    halves: (&[u8], &[u8]),
-    tally: &mut Tally,
-) -> Result<Seen, Difference> {
+fn two_runs(tester: &Tester, sheet: &[u8], halves: (&[u8], &[u8]), tally: &mut Tally) -> Result<Seen, Difference> {
     let first = Given::input(Input::File(halves.0));
     let first = tester.run(&with_sheet(sheet), &first, tally)?;
     let middle = with_sheet(new_sheet(&first)?);
@@ -58,8 +53,7 @@ pub fn all(tester: &Tester) -> Outcome {
         new_sheet(&whole)?;
         for cut in CUTS {
             let both = two_runs(tester, &sheet, bytes.split_at(4 * cut), &mut tally)?;
-            same(&whole, &both)
-                .map_err(|difference| format!("sheet {turn}, cut at {cut}: {difference}"))?;
+            same(&whole, &both).map_err(|difference| format!("sheet {turn}, cut at {cut}: {difference}"))?;
             tally.frames += FRAMES as u64;
         }
     }

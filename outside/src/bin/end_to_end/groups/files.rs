@@ -34,11 +34,7 @@ impl Material {
         let sheet = with_sheet(&maker.sheet(4));
         let bytes = Sound::Noise.block(20_000, &mut maker.random);
         let expected = expected::run(&sheet, &bytes, &mut tally.met);
-        Material {
-            sheet,
-            bytes,
-            expected,
-        }
+        Material { sheet, bytes, expected }
     }
 
     /// The sheet that ought to be written.
@@ -56,11 +52,7 @@ impl Material {
     /// The right sound, with this line and the sheet on standard error, and
     /// nothing changed.
     fn sheet_told(&self, line: &str, before: &Contents) -> Seen {
-        Seen {
-            errors: [line.as_bytes(), self.new_sheet()].concat(),
-            after: before.clone(),
-            ..self.expected.clone()
-        }
+        Seen { errors: [line.as_bytes(), self.new_sheet()].concat(), after: before.clone(), ..self.expected.clone() }
     }
 }
 
@@ -108,10 +100,7 @@ fn unreplaced(tester: &Tester, material: &Material, tally: &mut Tally) -> Result
 
 /// Files may have no bytes: the sheet is told.
 fn unwritten(tester: &Tester, material: &Material, tally: &mut Tally) -> Result<(), Difference> {
-    let limited = Given {
-        way: Way::Shell("ulimit -f 0; trap '' XFSZ", ""),
-        ..material.given()
-    };
+    let limited = Given { way: Way::Shell("ulimit -f 0; trap '' XFSZ", ""), ..material.given() };
     for before in [&material.sheet, &and_file(&material.sheet, NEW_NAME, OLD)] {
         let expected = material.sheet_told("strip.new: File too large\n", before);
         tester.expect("files of no bytes", before, &limited, &expected, tally)?;

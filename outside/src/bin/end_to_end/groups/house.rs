@@ -12,15 +12,8 @@ use crate::program::Way;
 use crate::seen::{same, Seen};
 
 /// Arguments, none of which is looked at.
-const ARGUMENTS: [&[&[u8]]; 7] = [
-    &[],
-    &[b""],
-    &[b"--help"],
-    &[b"2", b"10", b"25"],
-    &[b"strip.sht"],
-    &[b"\xff\n"],
-    &[b"-", b"mute", b"-1", b"0"],
-];
+const ARGUMENTS: [&[&[u8]]; 7] =
+    [&[], &[b""], &[b"--help"], &[b"2", b"10", b"25"], &[b"strip.sht"], &[b"\xff\n"], &[b"-", b"mute", b"-1", b"0"]];
 
 /// A folder with other files, which stay as they are.
 fn folder() -> Contents {
@@ -35,21 +28,9 @@ struct Test<'a> {
 }
 
 impl Test<'_> {
-    fn expect(
-        &mut self,
-        arguments: &[&[u8]],
-        given: &Given,
-        expected: &Seen,
-    ) -> Result<(), Difference> {
+    fn expect(&mut self, arguments: &[&[u8]], given: &Given, expected: &Seen) -> Result<(), Difference> {
         let program = self.tester.house.given(arguments);
-        self.tester.expect_other(
-            &program,
-            "house",
-            &folder(),
-            given,
-            expected,
-            &mut self.tally,
-        )
+        self.tester.expect_other(&program, "house", &folder(), given, expected, &mut self.tally)
     }
 
     /// Every input with every list of arguments.
@@ -67,11 +48,7 @@ impl Test<'_> {
                 self.expect(arguments, &Given::input(input), &expected)?;
             }
         }
-        let given = Given {
-            input: Input::Pipe(&sheet),
-            output: Output::File,
-            way: Way::Shell("", "<&-"),
-        };
+        let given = Given { input: Input::Pipe(&sheet), output: Output::File, way: Way::Shell("", "<&-") };
         self.expect(&[], &given, &expected)
     }
 
@@ -86,28 +63,18 @@ impl Test<'_> {
             return Err("no whole sheet came while the input stayed open".to_string());
         }
         self.tally.runs += 1;
-        same(
-            &written(&self.sheet, &folder()),
-            &seen(session.end()?, &place)?,
-        )
+        same(&written(&self.sheet, &folder()), &seen(session.end()?, &place)?)
     }
 
     fn full(&mut self) -> Result<(), Difference> {
         let line = "standard output: No space left on device\n";
-        let given = Given {
-            output: Output::Full,
-            ..Given::input(Input::File(&[]))
-        };
+        let given = Given { output: Output::Full, ..Given::input(Input::File(&[])) };
         self.expect(&[], &given, &Seen::nothing_but(line, &folder()))
     }
 }
 
 pub fn all(tester: &Tester) -> Outcome {
-    let mut test = Test {
-        tester,
-        tally: Tally::default(),
-        sheet: sheet_of(&house_unit()),
-    };
+    let mut test = Test { tester, tally: Tally::default(), sheet: sheet_of(&house_unit()) };
     test.always()?;
     test.at_once()?;
     test.full()?;

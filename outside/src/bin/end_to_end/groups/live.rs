@@ -27,23 +27,12 @@ struct Live<'a> {
 }
 
 impl<'a> Live<'a> {
-    fn new(
-        tester: &'a Tester,
-        before: &'a Contents,
-        bytes: &'a [u8],
-    ) -> Result<Live<'a>, Difference> {
+    fn new(tester: &'a Tester, before: &'a Contents, bytes: &'a [u8]) -> Result<Live<'a>, Difference> {
         let fault = |error| format!("no folder: {error}");
         let folder = Folder::new(before).map_err(fault)?;
         let aside = Folder::new(&Contents::new()).map_err(fault)?;
         let given = Given::input(Input::Pipe(bytes));
-        Ok(Live {
-            tester,
-            session: start(&tester.program, &folder, &given, &aside)?,
-            folder,
-            before,
-            bytes,
-            sent: 0,
-        })
+        Ok(Live { tester, session: start(&tester.program, &folder, &given, &aside)?, folder, before, bytes, sent: 0 })
     }
 
     /// Sends so many bytes more, at least a frame in all; all whole frames up to
@@ -79,16 +68,9 @@ impl<'a> Live<'a> {
 }
 
 /// Frames one by one, in parts, in crowds; then the end of the input.
-fn waits(
-    tester: &Tester,
-    before: &Contents,
-    bytes: &[u8],
-    tally: &mut Tally,
-) -> Result<(), Difference> {
+fn waits(tester: &Tester, before: &Contents, bytes: &[u8], tally: &mut Tally) -> Result<(), Difference> {
     let mut live = Live::new(tester, before, bytes)?;
-    for count in [
-        4, 4, 8, 1, 1, 1, 1, 3, 1, 2, 2, 5, 7, 4_000, 65_536, 131_072,
-    ] {
+    for count in [4, 4, 8, 1, 1, 1, 1, 3, 1, 2, 2, 5, 7, 4_000, 65_536, 131_072] {
         live.send(count)?;
     }
     for _ in 0..200 {
@@ -103,12 +85,7 @@ fn waits(
 }
 
 /// A program that is ended from outside has changed nothing.
-fn ended(
-    tester: &Tester,
-    before: &Contents,
-    bytes: &[u8],
-    tally: &mut Tally,
-) -> Result<(), Difference> {
+fn ended(tester: &Tester, before: &Contents, bytes: &[u8], tally: &mut Tally) -> Result<(), Difference> {
     let mut live = Live::new(tester, before, bytes)?;
     live.send(40_000)?;
     live.session.kill();

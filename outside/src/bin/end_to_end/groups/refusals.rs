@@ -38,13 +38,7 @@ fn nothing_happens(
         let expected = Seen::nothing_but(&line(number), &before);
         let by_reader = expected::run(&before, input, &mut Met::default());
         assert!(expected == by_reader, "{case}: another refusal");
-        tester.expect(
-            &case,
-            &before,
-            &Given::input(Input::Pipe(input)),
-            &expected,
-            tally,
-        )?;
+        tester.expect(&case, &before, &Given::input(Input::Pipe(input)), &expected, tally)?;
     }
     Ok(())
 }
@@ -68,24 +62,10 @@ pub fn all(tester: &Tester) -> Outcome {
     let [cleared, ..] = typed_sheets();
     for (case, sheet, number) in refused(&cleared) {
         let input = input(&mut maker);
-        nothing_happens(
-            tester,
-            &case,
-            &with_sheet(&sheet),
-            number,
-            &input,
-            &mut tally,
-        )?;
+        nothing_happens(tester, &case, &with_sheet(&sheet), number, &input, &mut tally)?;
     }
     let no_sheet = files(&[("strip.sheet", &cleared)]);
-    nothing_happens(
-        tester,
-        "no strip.sht",
-        &no_sheet,
-        11,
-        &input(&mut maker),
-        &mut tally,
-    )?;
+    nothing_happens(tester, "no strip.sht", &no_sheet, 11, &input(&mut maker), &mut tally)?;
     damaged(tester, &mut maker, &mut tally)?;
     Ok(tally)
 }

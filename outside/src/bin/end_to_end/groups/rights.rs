@@ -25,12 +25,7 @@ fn set_modes(folder: &Path, [of_folder, of_sheet]: Modes) -> io::Result<()> {
 }
 
 /// A run by a copy of the program that anybody may start.
-fn run(
-    tester: &Tester,
-    before: &Contents,
-    modes: Modes,
-    given: &Given,
-) -> Result<Seen, Difference> {
+fn run(tester: &Tester, before: &Contents, modes: Modes, given: &Given) -> Result<Seen, Difference> {
     let place = Folder::new(&Contents::new()).map_err(folder_fault)?;
     let program = tester.program.copied_to(place.path());
     let program = program.map_err(folder_fault)?;
@@ -46,17 +41,8 @@ fn run(
 
 /// A folder that can't be written, a sheet that can't be opened, and both as
 /// they should be.
-fn each(
-    tester: &Tester,
-    material: &Material,
-    way: Way,
-    tally: &mut Tally,
-) -> Result<(), Difference> {
-    let given = Given {
-        input: Input::Pipe(&material.bytes),
-        output: Output::Pipe,
-        way,
-    };
+fn each(tester: &Tester, material: &Material, way: Way, tally: &mut Tally) -> Result<(), Difference> {
+    let given = Given { input: Input::Pipe(&material.bytes), output: Output::Pipe, way };
     let sheet = &material.sheet;
     let denied = Seen::nothing_but("strip.new.part: Permission denied\n", sheet);
     let unopened = Seen::nothing_but("11\n", sheet);

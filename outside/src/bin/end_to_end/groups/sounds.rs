@@ -10,12 +10,7 @@ use crate::given::{Given, Input};
 
 pub const SEED: u64 = 0xF0DD_00D2;
 
-const KINDS: [Sound; 4] = [
-    Sound::Noise,
-    Sound::Soft(9),
-    Sound::Ends,
-    Sound::ThenSilence,
-];
+const KINDS: [Sound; 4] = [Sound::Noise, Sound::Soft(9), Sound::Ends, Sound::ThenSilence];
 
 /// A comparison that met none of these would show too little.
 fn reached(tally: &Tally) -> Result<(), String> {

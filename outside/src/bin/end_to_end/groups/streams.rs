@@ -28,14 +28,8 @@ struct Stop {
     ending: Ending,
 }
 
-const STOP: Stop = Stop {
-    frames: FRAMES,
-    output: Output::Pipe,
-    way: Way::Bare,
-    line: "",
-    heard: 0,
-    ending: Ending::Status(0),
-};
+const STOP: Stop =
+    Stop { frames: FRAMES, output: Output::Pipe, way: Way::Bare, line: "", heard: 0, ending: Ending::Status(0) };
 
 /// The test under way: two folders with one sheet, without an old `strip.new`
 /// and with one, and a long sound.
@@ -56,13 +50,7 @@ impl Test<'_> {
         let with_old = and_file(&sheet, NEW_NAME, b"an old sheet");
         let bytes = Sound::Noise.block(FRAMES, &mut maker.random);
         let expected = expected::run(&sheet, &bytes, &mut tally.met);
-        Test {
-            tester,
-            tally,
-            folders: [sheet, with_old],
-            bytes,
-            sound: expected.sound,
-        }
+        Test { tester, tally, folders: [sheet, with_old], bytes, sound: expected.sound }
     }
 
     /// A read fault after so many bytes: the whole frames are played and the sheet
@@ -94,8 +82,7 @@ impl Test<'_> {
         let mut expected = expected::run(before, bytes, &mut self.tally.met);
         expected.errors.splice(..0, fault.iter().copied());
         let given = Given::input(input);
-        self.tester
-            .expect(case, before, &given, &expected, &mut self.tally)
+        self.tester.expect(case, before, &given, &expected, &mut self.tally)
     }
 
     /// Runs that stop with nothing written, in both folders, by a file and by a
@@ -111,8 +98,7 @@ impl Test<'_> {
                     ending: stop.ending,
                     ..Seen::nothing_but(stop.line, before)
                 };
-                self.tester
-                    .expect(case, before, &given, &expected, &mut self.tally)?;
+                self.tester.expect(case, before, &given, &expected, &mut self.tally)?;
             }
         }
         Ok(())
@@ -121,12 +107,8 @@ impl Test<'_> {
     /// No room at all, and room for a part of the sound, of one write too.
     fn no_room(&mut self) -> Result<(), Difference> {
         for frames in [1, 2_000, FRAMES] {
-            let stop = Stop {
-                frames,
-                output: Output::Full,
-                line: "standard output: No space left on device\n",
-                ..STOP
-            };
+            let stop =
+                Stop { frames, output: Output::Full, line: "standard output: No space left on device\n", ..STOP };
             self.stops(&format!("a full device, {frames} frames"), stop)?;
         }
         for frames in [2_000, FRAMES] {
@@ -156,12 +138,7 @@ impl Test<'_> {
                 ..STOP
             };
             self.stops(&case, stop)?;
-            let stop = Stop {
-                output,
-                heard,
-                ending: Ending::Signal(SIGPIPE),
-                ..STOP
-            };
+            let stop = Stop { output, heard, ending: Ending::Signal(SIGPIPE), ..STOP };
             self.stops(&case, stop)?;
         }
         Ok(())

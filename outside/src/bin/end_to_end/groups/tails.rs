@@ -11,9 +11,7 @@ use crate::given::{Given, Input};
 pub const SEED: u64 = 0xF0DD_00D1;
 
 /// Frames before the tail: few, and about the likely lengths of buffers.
-const FRAMES: [usize; 14] = [
-    0, 1, 2, 3, 250, 1_023, 1_024, 2_048, 4_096, 8_192, 16_383, 16_384, 16_385, 32_768,
-];
+const FRAMES: [usize; 14] = [0, 1, 2, 3, 250, 1_023, 1_024, 2_048, 4_096, 8_192, 16_383, 16_384, 16_385, 32_768];
 
 pub fn all(tester: &Tester) -> Outcome {
     let mut tally = Tally::default();

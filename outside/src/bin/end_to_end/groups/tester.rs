@@ -39,12 +39,7 @@ pub struct Tester {
 
 impl Tester {
     /// Runs the play program in a new folder that holds this.
-    pub fn run(
-        &self,
-        before: &Contents,
-        given: &Given,
-        tally: &mut Tally,
-    ) -> Result<Seen, Difference> {
+    pub fn run(&self, before: &Contents, given: &Given, tally: &mut Tally) -> Result<Seen, Difference> {
         self.run_other(&self.program, before, given, tally)
     }
 

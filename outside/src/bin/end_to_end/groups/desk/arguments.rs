@@ -62,30 +62,11 @@ const BAD: [&[u8]; 46] = [
 ];
 
 /// No levels.
-const NO_LEVELS: [&[u8]; 12] = [
-    b"mut",
-    b"mutes",
-    b"mute ",
-    b" mute",
-    b"mute\n",
-    b"mute0",
-    b"mutemute",
-    b"Mute",
-    b"MUTE",
-    b"muTe",
-    b"mu",
-    b"m",
-];
+const NO_LEVELS: [&[u8]; 12] =
+    [b"mut", b"mutes", b"mute ", b" mute", b"mute\n", b"mute0", b"mutemute", b"Mute", b"MUTE", b"muTe", b"mu", b"m"];
 
 /// Too few.
-const TOO_FEW: [&[&[u8]]; 6] = [
-    &[],
-    &[b"0"],
-    &[b"mute"],
-    &[b"0", b"0"],
-    &[b"2", b"10"],
-    &[b"0", b"mute"],
-];
+const TOO_FEW: [&[&[u8]]; 6] = [&[], &[b"0"], &[b"mute"], &[b"0", b"0"], &[b"2", b"10"], &[b"0", b"mute"]];
 
 /// Three that would give an order, and more behind them.
 const TOO_MANY: [&[&[u8]]; 7] = [
@@ -99,11 +80,8 @@ const TOO_MANY: [&[&[u8]]; 7] = [
 ];
 
 /// Numbers with blanks before them, as a field has them.
-const BLANKS: [&[&[u8]]; 3] = [
-    &[b" 1", b"3", b"20"],
-    &[b"1", b"        3", b" 20"],
-    &[b"2", b"       10", b"       25"],
-];
+const BLANKS: [&[&[u8]]; 3] =
+    [&[b" 1", b"3", b"20"], &[b"1", b"        3", b" 20"], &[b"2", b"       10", b"       25"]];
 
 impl Desk<'_> {
     /// The line, whatever the input is: a folder, a fit sheet, a longer one, none.

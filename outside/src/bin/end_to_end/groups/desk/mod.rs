@@ -36,25 +36,15 @@ pub struct Desk<'a> {
 
 impl Desk<'_> {
     fn new(tester: &Tester, seed: u64) -> Desk<'_> {
-        Desk {
-            tester,
-            tally: Tally::default(),
-            maker: SheetMaker::new(seed),
-        }
+        Desk { tester, tally: Tally::default(), maker: SheetMaker::new(seed) }
     }
 
     /// Runs desk with these arguments and holds what is seen against what must
     /// be.
-    fn expect(
-        &mut self,
-        arguments: &[&[u8]],
-        given: &Given,
-        expected: &Seen,
-    ) -> Result<(), Difference> {
+    fn expect(&mut self, arguments: &[&[u8]], given: &Given, expected: &Seen) -> Result<(), Difference> {
         let program = self.tester.desk.given(arguments);
         let case = format!("desk {}", shown(arguments));
-        self.tester
-            .expect_other(&program, &case, &folder(), given, expected, &mut self.tally)
+        self.tester.expect_other(&program, &case, &folder(), given, expected, &mut self.tally)
     }
 
     /// Runs desk with nothing wrong but the arguments, the sheet or the order;

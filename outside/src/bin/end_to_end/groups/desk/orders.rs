@@ -64,10 +64,7 @@ impl Desk<'_> {
         let sheet = self.maker.sheet(3);
         let arguments: [&[u8]; 3] = [b"0", b"9", b"30"];
         let expected = expected::run(&arguments, &sheet, &folder());
-        let given = Given {
-            output: Output::File,
-            ..Given::input(Input::File(&sheet))
-        };
+        let given = Given { output: Output::File, ..Given::input(Input::File(&sheet)) };
         self.expect(&arguments, &given, &expected)
     }
 }

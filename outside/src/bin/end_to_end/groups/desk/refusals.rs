@@ -15,18 +15,7 @@ pub const SEED: u64 = 0xF0DD_00D9;
 const DAMAGED: u64 = 60;
 
 /// Positions over 31.
-const POSITIONS: [&str; 10] = [
-    "32",
-    "33",
-    "127",
-    "128",
-    "255",
-    "256",
-    "287",
-    "65536",
-    "16777216",
-    "999999999",
-];
+const POSITIONS: [&str; 10] = ["32", "33", "127", "128", "255", "256", "287", "65536", "16777216", "999999999"];
 /// Sides that there are not.
 const SIDES: [&str; 8] = ["3", "4", "10", "255", "256", "258", "65536", "999999999"];
 /// Bands that there are not.
@@ -106,10 +95,7 @@ impl Desk<'_> {
             let input = Input::BrokenOff(&sheet[..count]);
             self.expect(&orders[0], &Given::input(input), &expected)?;
         }
-        let given = Given {
-            output: Output::Full,
-            ..Given::input(Input::File(&sheet))
-        };
+        let given = Given { output: Output::Full, ..Given::input(Input::File(&sheet)) };
         let expected = told("standard output: No space left on device\n");
         self.expect(&orders[0], &given, &expected)
     }
