@@ -1,5 +1,5 @@
 -- The laws of arguments.
 --     Right   bytes at the right end of others
---     Mute    the word "mute", letter by letter
+--     Same    texts compared, byte by byte
 pub mod Right
-pub mod Mute
+pub mod Same

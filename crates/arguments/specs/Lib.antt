@@ -1,2 +1,2 @@
--- The arguments of desk.
+-- The arguments of programs.
 pub mod Meaning

@@ -1,31 +1,60 @@
--- The arguments of desk, and the order that they mean. Definitions only.
-use mathlib.Core.Bool.{Bool, cond, not, _&&_, _||_}
+-- What the arguments of a program stand for. Definitions only.
+use mathlib.Core.Bool.{Bool, true, false, cond}
 use mathlib.Core.List.{List, [], _∷_, _++_}
-use Prim.Native.Nat.{ℕ, _-_}
-use lib.Dec.{eqb, leb}
+use Prim.Native.Nat.{ℕ, suc, _-_}
+use lib.Dec.{leb, ltb}
 use lib.IntN.{ℤ, pos, negsuc, natAbs}
 use lib.ListN.{length, replicate}
-use Rattle.settings.specs.declared.Setting.{Setting}
-use Rattle.settings.specs.declared.Setting.the-variants.{Position, Mute}
 use Rattle.fields.specs.Fields.{fieldSize, blank, sameBytes, noNumber, fieldRead}
-use Rattle.arguments.specs.declared.DeskOrder.{DeskOrder}
+use Rattle.arguments.specs.declared.Request.{Request}
+use Rattle.arguments.specs.declared.Request.the-variants.{Plain, Help, Version, Other}
+
+-- ---- what a program is asked for
+
+-- "--help"
+abbrev pub helpText : List ℕ
+helpText = 45 ∷ 45 ∷ 104 ∷ 101 ∷ 108 ∷ 112 ∷ []
+
+-- "--version"
+abbrev pub versionText : List ℕ
+versionText = 45 ∷ 45 ∷ 118 ∷ 101 ∷ 114 ∷ 115 ∷ 105 ∷ 111 ∷ 110 ∷ []
+
+-- by so many arguments, the name of the program among them, and the first behind the name: with the name alone, what the program does; a word
+-- counts where it is the only one
+unfoldable pub requestOf : ℕ → List ℕ → Request
+requestOf count first =
+    cond (ltb count 2) Plain (cond (ltb 2 count) Other (cond (sameBytes first helpText) Help (cond (sameBytes first versionText) Version Other)))
+
+-- what the program does is asked for
+abbrev pub isPlain : Request → Bool
+isPlain Plain = true
+isPlain Help = false
+isPlain Version = false
+isPlain Other = false
+
+-- a text of the program's own is asked for
+abbrev pub asksText : Request → Bool
+asksText Plain = false
+asksText Help = true
+asksText Version = true
+asksText Other = false
+
+-- ---- one argument
 
 -- stands for no number
 abbrev pub none : ℕ
 none = natAbs noNumber
+
+-- stands for the word "mute"
+abbrev pub mute : ℕ
+mute = suc none
 
 -- a field's number, where it is not below zero
 unfoldable pub unsignedOf : ℤ → ℕ
 unsignedOf (pos n) = n
 unsignedOf (negsuc n) = none
 
--- a number as a byte; one that is too large is the largest
-unfoldable pub byteOf : ℕ → ℕ
-byteOf n = cond (leb n 255) n 255
-
--- ---- one argument
-
--- a text in the nine columns of a field, "right-justified in blanks"
+-- a text in the nine columns of a field, right-justified in blanks
 abbrev pub rightJustified : List ℕ → List ℕ
 rightJustified text = replicate (fieldSize - length text) blank ++ text
 
@@ -33,31 +62,9 @@ rightJustified text = replicate (fieldSize - length text) blank ++ text
 unfoldable pub argumentNumber : List ℕ → ℕ
 argumentNumber text = cond (leb (length text) fieldSize) (unsignedOf (fieldRead (rightJustified text))) none
 
-abbrev pub isNumber : List ℕ → Bool
-isNumber text = not (eqb (argumentNumber text) none)
-
 -- the word "mute"
 abbrev pub muteText : List ℕ
 muteText = 109 ∷ 117 ∷ 116 ∷ 101 ∷ []
 
-unfoldable pub isMute : List ℕ → Bool
-isMute text = sameBytes text muteText
-
--- the level that an argument means: mute, or a position
-abbrev pub settingIn : List ℕ → Setting
-settingIn text = cond (isMute text) Mute (Position (byteOf (argumentNumber text)))
-
--- ---- all arguments
-
--- the name of the program, side, band and level
-abbrev pub argumentCount : ℕ
-argumentCount = 4
-
--- so many arguments, and the three behind the name: there are no others, side and band are numbers, and the level is a number or the word
--- "mute"
-abbrev pub isOrder : ℕ → List ℕ → List ℕ → List ℕ → Bool
-isOrder count side band level = ((eqb count argumentCount && isNumber side) && isNumber band) && (isMute level || isNumber level)
-
--- the order that they mean
-abbrev pub orderIn : List ℕ → List ℕ → List ℕ → DeskOrder
-orderIn side band level = record { side = argumentNumber side; band = argumentNumber band; setting = settingIn level }
+unfoldable pub meaningOf : List ℕ → ℕ
+meaningOf text = cond (sameBytes text muteText) mute (argumentNumber text)

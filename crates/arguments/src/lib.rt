@@ -1,64 +1,105 @@
-// The arguments of desk: the numbers that they stand for, and which order they mean.
+// What the arguments of a program stand for: what the program is asked for, and one argument as a number or the word "mute".
 ghost use mathlib.Core.Path.{_≡_};
 ghost use mathlib.Core.List.{_++_};
 ghost use Prim.Native.Nat.{_-_, _≤_};
 ghost use lib.ListN.{length, take};
-ghost use Rattle.arguments.specs.Meaning.{unsignedOf, byteOf, argumentNumber, isMute, settingIn, isOrder, orderIn};
-use settings::Setting;
+ghost use Rattle.fields.specs.Fields.{sameBytes};
+ghost use Rattle.arguments.specs.Meaning.{requestOf, isPlain, asksText, unsignedOf, argumentNumber, meaningOf};
 
-// Stands for no number.
-const NONE: u32 = fields::NO_NUMBER as u32;
+// The room that an argument needs: a number has as many columns as a field, and so has the longest word.
+pub const TEXT_SIZE: usize = fields::FIELD_SIZE;
 
-// How many arguments there are with an order: the name of the program, side, band and level.
-const ARGUMENT_COUNT: usize = 4;
+// Stands for no number, and for the word "mute".
+pub const NONE: u32 = fields::NO_NUMBER as u32;
 
-// A level order.
-pub struct DeskOrder {
-    pub side: u32,
-    pub band: u32,
-    pub setting: Setting,
+pub const MUTE: u32 = NONE + 1;
+
+// What a program is asked for: what it does, its help, its version, or something else.
+pub enum Request {
+    Plain,
+    Help,
+    Version,
+    Other,
 }
 
-// Whether so many arguments, and the three behind the name, are an order: there are no others, side and band are numbers, and the level is a
-// number or the word "mute".
-pub fn is_order(count: usize, side: &[u8], band: &[u8], level: &[u8]) -> bool
-    ensures { λ r. ⌜ r ≡ isOrder count (now (side .entry)) (now (band .entry)) (now (level .entry)) ⌝ }
+// What so many arguments ask for, the name of the program among them, of which the first behind the name is given.
+pub fn requested(count: usize, first: &[u8]) -> Request
+    ensures { λ r. ⌜ r ≡ requestOf count (now (first .entry)) ⌝ }
 {
-    (count == ARGUMENT_COUNT)
-        & (number(side) != NONE)
-        & (number(band) != NONE)
-        & (is_mute(level) | (number(level) != NONE))
+    if count < 2 {
+        return Request::Plain;
+    }
+    if count > 2 {
+        return Request::Other;
+    }
+    if is_text(first, b"--help") {
+        return Request::Help;
+    }
+    if is_text(first, b"--version") {
+        return Request::Version;
+    }
+    Request::Other
 }
 
-// The order that the arguments mean.
-pub fn order_in(side: &[u8], band: &[u8], level: &[u8]) -> DeskOrder
-    ensures { λ r. ⌜ r ≡ orderIn (now (side .entry)) (now (band .entry)) (now (level .entry)) ⌝ }
+// Whether a program is asked for what it does.
+pub fn is_plain(request: Request) -> bool
+    ensures { λ r. ⌜ r ≡ isPlain request ⌝ }
 {
-    DeskOrder {
-        side: number(side),
-        band: number(band),
-        setting: setting_in(level),
+    match request {
+        Request::Plain => true,
+        Request::Help => false,
+        Request::Version => false,
+        Request::Other => false,
     }
 }
 
-// The level that an argument means: mute, or a position.
-fn setting_in(text: &[u8]) -> Setting
-    ensures { λ r. ⌜ r ≡ settingIn (now (text .entry)) ⌝ }
+// Whether a program is asked for a text of its own, its help or its version.
+pub fn asks_text(request: Request) -> bool
+    ensures { λ r. ⌜ r ≡ asksText request ⌝ }
 {
-    if is_mute(text) {
-        return Setting::Mute;
+    match request {
+        Request::Plain => false,
+        Request::Help => true,
+        Request::Version => true,
+        Request::Other => false,
     }
-    Setting::Position(byte(number(text)))
 }
 
-// Whether an argument is the word "mute".
-fn is_mute(text: &[u8]) -> bool
-    ensures { λ r. ⌜ r ≡ isMute (now (text .entry)) ⌝ }
+// How many of so many arguments stand behind the name of the program.
+pub fn behind_name(count: usize) -> usize
+    ensures { λ r. ⌜ r ≡ count - 1 ⌝ }
 {
-    if text.len() != 4 {
+    if count == 0 {
+        return 0;
+    }
+    count - 1
+}
+
+// What an argument stands for: the word "mute", a number, or none.
+pub fn meaning(text: &[u8]) -> u32
+    ensures { λ r. ⌜ r ≡ meaningOf (now (text .entry)) ⌝ }
+{
+    if is_text(text, b"mute") {
+        return MUTE;
+    }
+    number(text)
+}
+
+// Whether two texts are equal.
+fn is_text(text: &[u8], wanted: &[u8]) -> bool
+    ensures { λ r. ⌜ r ≡ sameBytes (now (text .entry)) (now (wanted .entry)) ⌝ }
+{
+    if text.len() != wanted.len() {
         return false;
     }
-    (text[0] == b'm') & (text[1] == b'u') & (text[2] == b't') & (text[3] == b'e')
+    let mut i = 0;
+    while i < text.len() {
+        if text[i] != wanted[i] {
+            return false;
+        }
+        i += 1;
+    }
+    true
 }
 
 // The number in an argument, written as in a field of the strip sheet. None where it is not a whole number of nine columns at most, or where it
@@ -91,14 +132,4 @@ fn unsigned(number: i32) -> u32
         return NONE;
     }
     number as u32
-}
-
-// A number as a byte; one that is too large is the largest.
-fn byte(number: u32) -> u8
-    ensures { λ r. ⌜ r ≡ byteOf number ⌝ }
-{
-    if number > 255 {
-        return 255;
-    }
-    number as u8
 }

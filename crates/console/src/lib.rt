@@ -1,9 +1,10 @@
-// What the programs share: a refusal's line, and reading and writing that says what failed.
+// What the programs share: what they tell of themselves, a refusal's line, and reading and writing that says what failed.
 ghost use Prim.Native.Nat.{_≤_};
 ghost use lib.ListN.{length};
 ghost use Rattle.io.specs.Counts.{Counts};
 ghost use Rattle.console.specs.Answers.{SayAsks};
 ghost use Rattle.console.specs.Reads.{ReceiveGives};
+use arguments::Request;
 use refusals::Verdict;
 
 // What reading leaves: the count of bytes at the front of the buffer, whether more may come, and whether a read failed.
@@ -11,6 +12,29 @@ pub struct Received {
     pub count: usize,
     pub is_open: bool,
     pub is_failed: bool,
+}
+
+// What a program tells of itself: its help or its version on standard output where that is asked for, and how it is used on standard error where
+// something else is. The help begins with the line of usage.
+pub fn tell(request: Request, name: &[u8], usage: &[u8], help: &[u8]) {
+    match request {
+        Request::Plain => {}
+        Request::Help => tell_both(usage, help),
+        Request::Version => tell_both(name, b" (Fonddrys) 1.0\n"),
+        Request::Other => say_usage(usage),
+    }
+}
+
+// Writes both texts to standard output.
+fn tell_both(first: &[u8], second: &[u8]) {
+    if write_out(first) {
+        write_out(second);
+    }
+}
+
+// Writes the line of usage to standard error.
+pub fn say_usage(usage: &[u8]) {
+    io::write_all(libc::STDERR_FILENO, usage);
 }
 
 // A refusal's number, in one line on standard error; of an accepted call nothing is said.

@@ -1,20 +1,21 @@
 -- What the programs decide. Definitions only.
 use mathlib.Core.Path.{_≡_}
-use mathlib.Core.Bool.{Bool, true, cond, not}
+use mathlib.Core.Bool.{Bool, true, cond, not, _&&_}
 use mathlib.Core.List.{List}
 use Prim.Native.Nat.{ℕ}
-use lib.Dec.{eqb}
+use lib.Dec.{eqb, ltb}
+use lib.ListN.{length}
 use Rattle.refusals.specs.Numbers.{isAccepted, unless, firstOf}
 use Rattle.refusals.specs.declared.Verdict.{Verdict}
 use Rattle.refusals.specs.declared.Verdict.the-variants.{Accepted, InputLength}
 use Rattle.bands.specs.House.{houseSet}
 use Rattle.loading.specs.Loading.{loaded}
 use Rattle.orders.specs.declared.Ordered.{Ordered}
-use Rattle.orders.specs.Orders.{ordered}
 use Rattle.writing.specs.Written.{sheetOf, filled}
 use Rattle.reading.specs.declared.SheetRead.{SheetRead}
 use Rattle.reading.specs.Reading.{sheetVerdict, unitIn, sheetRead}
-use Rattle.arguments.specs.declared.DeskOrder.{DeskOrder}
+use Rattle.order_lists.specs.declared.DeskOrder.{DeskOrder}
+use Rattle.order_lists.specs.Lists.{areOrders, orderedAll}
 use Rattle.decisions.specs.declared.PassEnd.{PassEnd}
 
 -- ---- play
@@ -30,20 +31,24 @@ endingOf lost held = record { «is_saved» = not lost; verdict = cond lost Accep
 
 -- ---- desk
 
-module _ (bytes : List ℕ) (order : DeskOrder) where
-  -- the order to the unit that the bytes carry
-  abbrev pub deskOrdered : Ordered
-  deskOrdered = ordered (unitIn bytes) (order .side) (order .band) (order .setting)
+-- so many arguments, and the numbers that they stand for: there is room for all, there is one at least, and they are orders
+abbrev pub isCall : ℕ → List ℕ → Bool
+isCall count numbers = (eqb count (length numbers) && ltb 0 count) && areOrders numbers
 
-  -- the sheet's refusal, or then the order's
+module _ (bytes : List ℕ) (orders : List DeskOrder) where
+  -- the orders to the unit that the bytes carry
+  abbrev pub deskOrdered : Ordered
+  deskOrdered = orderedAll (unitIn bytes) orders
+
+  -- the sheet's refusal, or then that of the first refused order
   unfoldable pub deskVerdict : Verdict
   deskVerdict = firstOf (sheetVerdict bytes) (deskOrdered .verdict)
 
-  -- accepted, the sheet of the unit after the order, at the front of the buffer; refused, the buffer unchanged
+  -- all orders accepted, the sheet of the unit after them, at the front of the buffer; one refused, the buffer unchanged
   unfoldable pub deskSheet : List ℕ → List ℕ
   deskSheet buffer = cond (isAccepted deskVerdict) (filled (deskOrdered .unit) buffer) buffer
 
-  -- what may go out: of an accepted order, the sheet of the unit after it
+  -- what may go out: of accepted orders, the sheet of the unit after them
   pub record HandsOut (sheet : List ℕ) : Type 0 where
     pub accepted : isAccepted deskVerdict ≡ true
     pub sheet-is : sheet ≡ sheetOf (deskOrdered .unit)

@@ -1,8 +1,8 @@
-// What the programs decide, on values: play for the bytes of a sheet and at the end of a sound, desk for its arguments and a sheet. The
-// programs read, ask here, and write what is answered.
+// What the programs decide, on values: play for the bytes of a sheet and at the end of a sound, desk for the numbers of its arguments and a
+// sheet. The programs read, ask here, and write what is answered.
 ghost use mathlib.Core.Path.{_≡_};
-ghost use Rattle.arguments.specs.Meaning.{orderIn};
-ghost use Rattle.decisions.specs.Decisions.{opened, endingOf, deskVerdict, deskSheet};
+ghost use Rattle.order_lists.specs.Lists.{ordersIn};
+ghost use Rattle.decisions.specs.Decisions.{opened, endingOf, isCall, deskVerdict, deskSheet};
 use reading::SheetRead;
 use refusals::Verdict;
 
@@ -43,10 +43,17 @@ pub fn ending(is_lost: bool, held: usize) -> PassEnd
     }
 }
 
-// The order that the arguments mean, to the unit that these bytes carry. The answer is the sheet's refusal, or then the order's. Accepted, the
-// sheet after the order is at the front of the buffer; refused, the buffer is unchanged.
-pub fn order(side: &[u8], band: &[u8], level: &[u8], bytes: &[u8], sheet: &mut [u8]) -> Verdict
-    ensures { λ r. ⌜ (r ≡ deskVerdict (now (bytes .entry)) (orderIn (now (side .entry)) (now (band .entry)) (now (level .entry)))) × (now (sheet .exit) ≡ deskSheet (now (bytes .entry)) (orderIn (now (side .entry)) (now (band .entry)) (now (level .entry))) (now (sheet .entry))) ⌝ }
+// Whether so many arguments, which stand for these numbers, are orders: there was room for all, there is one at least, and nothing is left over.
+pub fn is_call(count: usize, numbers: &[u32]) -> bool
+    ensures { λ r. ⌜ r ≡ isCall count (now (numbers .entry)) ⌝ }
+{
+    (count == numbers.len()) & (count > 0) & order_lists::are_orders(numbers)
+}
+
+// The orders of these numbers, to the unit that these bytes carry. The answer is the sheet's refusal, or then that of the first refused order.
+// All accepted, the sheet after them is at the front of the buffer; one refused, the buffer is unchanged.
+pub fn order(numbers: &[u32], bytes: &[u8], sheet: &mut [u8]) -> Verdict
+    ensures { λ r. ⌜ (r ≡ deskVerdict (now (bytes .entry)) (ordersIn (now (numbers .entry)))) × (now (sheet .exit) ≡ deskSheet (now (bytes .entry)) (ordersIn (now (numbers .entry))) (now (sheet .entry))) ⌝ }
 {
     let read = opening(bytes);
     let found = read.verdict;
@@ -54,9 +61,7 @@ pub fn order(side: &[u8], band: &[u8], level: &[u8], bytes: &[u8], sheet: &mut [
         return found;
     }
     let unit = read.unit;
-    let order = arguments::order_in(side, band, level);
-    let setting = order.setting;
-    let ordered = orders::order(unit, order.side, order.band, setting);
+    let ordered = order_lists::order_all(unit, numbers);
     let verdict = ordered.verdict;
     if refusals::accepted(verdict) {
         let after = ordered.unit;

@@ -9,17 +9,42 @@ use unit::Unit;
 // The file beside strip.new.
 const PART: [u8; 14] = *b"strip.new.part";
 
-// Whether the file can be made, tried ahead of the sound. A message says why not. A standard stream that is closed is found here too:
-// its number goes to the next file that is opened.
+// Whether the file can be made and can then take the name, tried ahead of the sound. A message says why not. A standard stream that is closed is
+// found here too: its number goes to the next file that is opened.
 pub fn can_save() -> bool {
-    let fd = os::open_overwrite(&PART);
+    let fd = make_part();
     if fd < 0 {
         os::fail(&PART);
         return false;
     }
     libc::close(fd);
     os::unlink(&PART);
-    is_own(fd)
+    if !is_own(fd) {
+        return false;
+    }
+    is_free()
+}
+
+// Makes the file anew. One that is left over goes, and so does a link of its name: what a link points to is not touched.
+fn make_part() -> i32 {
+    os::unlink(&PART);
+    os::create(&PART)
+}
+
+// Whether strip.new is no folder, nor a link to one: it is missing, or a file that another can replace.
+fn is_free() -> bool {
+    let fd = os::open_read(b"strip.new/.");
+    if fd >= 0 {
+        libc::close(fd);
+        io::write_all(libc::STDERR_FILENO, b"strip.new: Is a directory\n");
+        return false;
+    }
+    let error = os::errno();
+    if (error != libc::ENOENT) & (error != libc::ENOTDIR) {
+        os::fail(b"strip.new");
+        return false;
+    }
+    true
 }
 
 // Whether the number is none of the three standard streams'.
@@ -60,7 +85,7 @@ fn show(unit: Unit, sheet: &[u8])
 fn store(unit: Unit, sheet: &[u8]) -> bool
     requires { ⌜ IsSheet unit (now sheet) ⌝ }
 {
-    let fd = os::open_overwrite(&PART);
+    let fd = make_part();
     if fd < 0 {
         os::fail(b"strip.new");
         return false;

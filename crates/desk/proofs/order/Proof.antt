@@ -1,11 +1,11 @@
--- `desk::order` is safe: what is handed out is the sheet after an accepted order.
+-- `desk::order` is safe: what is handed out is the sheet after accepted orders.
 use mathlib.Core.Path.{refl, sym, ap, _∙_}
 use lib.ListN.{replicate}
 use denote.Ref.{now}
 use borrow.Author.Tests.{not-false}
 use borrow.Author.Needs.{needs}
 use Rattle.refusals.specs.Numbers.{isAccepted}
-use Rattle.arguments.specs.Meaning.{orderIn}
+use Rattle.order_lists.specs.Lists.{ordersIn}
 use Rattle.decisions.proofs.Orders.{hands-out}
 use Rattle.desk.proofs.order.Statement.{statement}
 use Rattle.desk.proofs.order.Tie as tie
@@ -14,10 +14,10 @@ hand-out-requires : tie.Need-hand-out-requires
 hand-out-requires c κs =
     let t = c .before .before in
     let o = c .before .before .before .before .before in
-    let s = o .before .before .before .before .before .before in
-    hands-out (now (s .args .bytes)) (orderIn (now (s .args .side)) (now (s .args .band)) (now (s .args .level)))
+    let s = o .before .before .before .before in
+    hands-out (now (s .args .bytes)) (ordersIn (now (s .args .numbers)))
     (ap isAccepted (sym (o .order .ensures .0)) ∙ sym (t .accepted .ensures) ∙ not-false (t .accepted .result) (c .before .if1 .left))
-    (replicate 1128 0) (o .order .last .1 .1 .1 .1 .0) refl (o .order .ensures .1)
+    (replicate 1128 0) (o .order .last .1 .1 .0) refl (o .order .ensures .1)
 
 pub order-spec : {M : Type 1} → statement M
 order-spec =

@@ -46,9 +46,6 @@ module _ (a : lts.After-advance (receive-reads.Asked, receive-reads.Learnt, adva
 slice-aggregate-piece : tie.Need-slice-aggregate-piece
 slice-aggregate-piece c = piece-size (c .before .before .before .before)
 
-slice-reshare-prefix-send : tie.Need-slice-reshare-prefix-send
-slice-reshare-prefix-send c = omega (arith, sound-fits (c .before .before .before))
-
 slice-aggregate-send : tie.Need-slice-aggregate-send
 slice-aggregate-send c =
     let a = c .before .before .before .before in
@@ -85,7 +82,7 @@ turn-spec =
     (λ c. search needs)
     slice-aggregate-piece
     (λ c κs. search needs)
-    slice-reshare-prefix-send
+    (λ c. omega (arith, sound-fits (c .before .before .before)))
     slice-aggregate-send
     send-requires
     (λ c. search needs)

@@ -1,13 +1,13 @@
--- `arguments::byte` meets its contract, by the test.
+-- `order_lists::byte` meets its contract, by the test.
 use mathlib.Core.Path.{sym, ap}
 use mathlib.Core.Bool.{Bool, cond}
 use Prim.Native.Nat.{ℕ}
 use native.Mathlib.Omega.{arith}
 use borrow.Author.Tests.{le-leb, lt-leb}
-use Rattle.arguments.specs.Meaning.{byteOf}
 use borrow.Author.Needs.{needs}
-use Rattle.arguments.proofs.byte.Statement.{statement}
-use Rattle.arguments.proofs.byte.Tie as tie
+use Rattle.order_lists.specs.Lists.{byteOf}
+use Rattle.order_lists.proofs.byte.Statement.{statement}
+use Rattle.order_lists.proofs.byte.Tie as tie
 
 returns : tie.Need-returns
 unfolding byteOf

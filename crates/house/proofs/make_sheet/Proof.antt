@@ -1,4 +1,4 @@
--- `house::main` is safe: what is handed out is the sheet of the cleared house unit.
+-- `house::make_sheet` is safe: what is handed out is the sheet of the cleared house unit.
 use mathlib.Core.Path.{ap, _∙_}
 use mathlib.Core.List.{List}
 use lib.Dec.{lit≤}
@@ -12,8 +12,8 @@ use Rattle.loading.specs.Loading.{loaded}
 use Rattle.loading.proofs.Laws.{loaded-fit}
 use Rattle.writing.specs.Written.{filledPart}
 use Rattle.roundtrip.proofs.Holds.{part-is-sheet}
-use Rattle.house.proofs.main.Statement.{statement}
-use Rattle.house.proofs.main.Tie as tie
+use Rattle.house.proofs.make_sheet.Statement.{statement}
+use Rattle.house.proofs.make_sheet.Tie as tie
 
 hand-out-requires : tie.Need-hand-out-requires
 hand-out-requires c κs =
@@ -22,8 +22,8 @@ hand-out-requires c κs =
     (ap (λ (l : Loaded). l .unit) (c .before .before .before .before .load .ensures) ∙ ap (λ (set : List ℤ). loaded set .unit) (c .before .before .before .before .before .before .house-set .ensures))
     ∙ part-is-sheet (loaded houseSet .unit) 1128 (test-of-fit (loaded houseSet .unit) (loaded-fit houseSet)) (lit≤ tt)
 
-pub main-spec : {M : Type 1} → statement M
-main-spec =
+pub make-sheet-spec : {M : Type 1} → statement M
+make-sheet-spec =
     tie.close
     (tie.spec
     (λ c κs. search needs)

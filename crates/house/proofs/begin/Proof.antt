@@ -1,0 +1,12 @@
+-- `house::begin` is safe: the sheet is made only where nothing else is asked for.
+use mathlib.Core.Path.{sym, ap, _∙_}
+use borrow.Author.Needs.{needs}
+use Rattle.arguments.specs.Meaning.{isPlain}
+use Rattle.house.proofs.begin.Statement.{statement}
+use Rattle.house.proofs.begin.Tie as tie
+
+make-sheet-requires : tie.Need-make-sheet-requires
+make-sheet-requires c κs = sym (ap isPlain (c .before .before .before .requested .ensures)) ∙ sym (c .before .is-plain .ensures) ∙ c .if1 .taken
+
+pub begin-spec : {M : Type 1} → statement M
+begin-spec = tie.close (tie.spec (λ c κs. search needs) (λ c κs. search needs) (λ c κs. search needs) make-sheet-requires (λ c. search needs) (λ c. search needs))

@@ -1,0 +1,2 @@
+-- The laws of lists of level orders.
+pub mod Laws

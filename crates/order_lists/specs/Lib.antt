@@ -1,0 +1,2 @@
+-- Lists of level orders.
+pub mod Lists
