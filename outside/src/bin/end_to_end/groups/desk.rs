@@ -1,0 +1,319 @@
+//! The program desk: level orders to the sheet on its input.
+
+use outside::checks::Difference;
+use outside::random::Random;
+
+use super::arguments::{every, not_taken};
+use super::bad_sheets::{damaged, refused, DAMAGED};
+use crate::expected::{self, line, usage, MOST_ORDERS};
+use crate::folder::other_files;
+use crate::run::{Input, Output, Run, DESK};
+use crate::seen::Seen;
+use crate::test::Test;
+
+/// Arguments in words, not too many of them.
+fn shown(arguments: &[&[u8]]) -> String {
+    let text = arguments.join(&b' ');
+    format!("desk {}", text[..text.len().min(200)].escape_ascii())
+}
+
+/// Runs desk with nothing wrong but the arguments, the sheet or an order; the sheet comes from a file or through a pipe
+/// by turns.
+fn plain(test: &mut Test, arguments: &[&[u8]], sheet: &[u8]) -> Result<(), Difference> {
+    let run = Run { arguments, ..Run::of(DESK, Input::by_turns(test.runs, sheet)) };
+    expect(test, run, &expected::desk(arguments, sheet, &other_files()))
+}
+
+fn expect(test: &mut Test, run: Run, expected: &Seen) -> Result<(), Difference> {
+    test.expect(&shown(run.arguments), &other_files(), run, expected)
+}
+
+/// Runs desk where this is what must be told.
+fn told(test: &mut Test, arguments: &[&[u8]], sheet: &[u8], line: &str) -> Result<(), Difference> {
+    let typed = Seen::nothing_but(line, &other_files());
+    assert!(typed == expected::desk(arguments, sheet, &other_files()), "{}: not {line}", shown(arguments));
+    plain(test, arguments, sheet)
+}
+
+/// The arguments of orders that are written with a blank between two.
+fn split(orders: &str) -> Vec<&[u8]> {
+    orders.split(' ').map(str::as_bytes).collect()
+}
+
+/// An order that is accepted.
+pub fn any_order(random: &mut Random) -> String {
+    let level = match random.below(8) {
+        0 => "mute".to_string(),
+        _ => random.below(32).to_string(),
+    };
+    match random.below(5) {
+        0 => format!("2 10 {level}"),
+        // Few bands, so that orders meet.
+        1 | 2 => format!("{} {} {level}", random.below(3), random.below(3)),
+        _ => format!("{} {} {level}", random.below(3), random.below(10)),
+    }
+}
+
+/// So many orders that are accepted.
+fn any_orders(count: usize, random: &mut Random) -> Vec<String> {
+    (0..count).map(|_| any_order(random)).collect()
+}
+
+/// Orders to a random fit sheet.
+fn accepted(test: &mut Test, orders: &str) -> Result<(), Difference> {
+    let sheet = test.maker.sheet(test.runs);
+    plain(test, &split(orders), &sheet)
+}
+
+/// Pieces in which a sheet comes.
+const PIECES: [&[usize]; 6] = [&[1], &[2, 7], &[100, 1], &[1_127, 1], &[1, 1_127], &[564]];
+
+/// Lists in which a later order goes to the place of an earlier one.
+const MEETING: [&str; 6] = [
+    "2 10 26 2 1 24",
+    "0 3 20 0 3 7",
+    "2 4 31 1 4 mute",
+    "1 4 mute 2 4 31",
+    "2 10 mute 2 10 1",
+    "0 0 1 1 0 2 2 0 3 0 0 4",
+];
+
+/// Accepted orders on random sheets.
+pub fn orders(test: &mut Test) -> Result<(), Difference> {
+    for (turn, lengths) in (1..).zip(PIECES) {
+        let fit = test.maker.sheet(turn);
+        for sheet in [&fit[..], &[&fit[..], b"\n"].concat()] {
+            let arguments: [&[u8]; 3] = [b"1", b"7", b"29"];
+            let run = Run { arguments: &arguments, ..Run::of(DESK, Input::Pieces(sheet, lengths)) };
+            expect(test, run, &expected::desk(&arguments, sheet, &other_files()))?;
+        }
+    }
+    let places = (0..30).map(|place| format!("{} {}", place % 3, place / 3));
+    for place in places.chain(["2 10".to_string()]) {
+        for level in ["0", "17", "31", "mute"] {
+            accepted(test, &format!("{place} {level}"))?;
+        }
+    }
+    for position in 0..32 {
+        let random = &mut test.maker.random;
+        let place = format!("{} {}", random.below(3), random.below(10));
+        accepted(test, &format!("{place} {position}"))?;
+        accepted(test, &format!("2 10 {position}"))?;
+    }
+    for list in MEETING {
+        accepted(test, list)?;
+    }
+    for count in (1..=MOST_ORDERS).chain([2, 3, MOST_ORDERS]) {
+        let list = any_orders(count, &mut test.maker.random);
+        accepted(test, &list.join(" "))?;
+    }
+    let sheet = test.maker.sheet(3);
+    let arguments: [&[u8]; 6] = [b"0", b"9", b"30", b"2", b"10", b"3"];
+    let run = Run { arguments: &arguments, output: Output::File, ..Run::of(DESK, Input::File(&sheet)) };
+    expect(test, run, &expected::desk(&arguments, &sheet, &other_files()))
+}
+
+/// Positions over 31, and sides and bands that there are not.
+const POSITIONS: [u32; 10] = [32, 33, 127, 128, 255, 256, 287, 65_536, 16_777_216, 999_999_999];
+const SIDES: [u32; 8] = [3, 4, 10, 255, 256, 258, 65_536, 999_999_999];
+const BANDS: [u32; 8] = [11, 12, 32, 255, 256, 266, 65_546, 999_999_999];
+
+/// Orders that are refused on a random fit sheet.
+fn refused_order(test: &mut Test, orders: &str, number: u32) -> Result<(), Difference> {
+    let sheet = test.maker.sheet(test.runs);
+    told(test, &split(orders), &sheet, &line(number))
+}
+
+/// 1, with levels that would be refused too and with others; 2, for bands and for the volume.
+fn refused_alone(test: &mut Test) -> Result<(), Difference> {
+    let sides = SIDES.iter().flat_map(|side| [format!("{side} 0"), format!("{side} 10")]);
+    let bands = BANDS.iter().flat_map(|band| [format!("0 {band}"), format!("2 {band}")]);
+    let volume = ["0 10", "1 10"].map(str::to_string);
+    for (place, other) in sides.chain(bands).chain(volume).zip(["32", "mute"].iter().cycle()) {
+        refused_order(test, &format!("{place} 20"), 1)?;
+        refused_order(test, &format!("{place} {other}"), 1)?;
+    }
+    for position in POSITIONS {
+        for place in ["0 0", "1 9", "2 4", "2 10"] {
+            refused_order(test, &format!("{place} {position}"), 2)?;
+        }
+    }
+    Ok(())
+}
+
+/// A refused order at each place of a list, and two of them: the first one's number is told and nothing is written.
+fn refused_in_lists(test: &mut Test) -> Result<(), Difference> {
+    const REFUSED: [(&str, u32); 4] = [("0 10 5", 1), ("2 3 32", 2), ("3 0 99", 1), ("2 10 256", 2)];
+    for count in [2, 5, MOST_ORDERS] {
+        for (first, turn) in (0..count).zip(0..) {
+            let mut list = any_orders(count, &mut test.maker.random);
+            for (order, number) in [REFUSED[turn % 2], REFUSED[2 + turn % 2]] {
+                list[first] = order.to_string();
+                refused_order(test, &list.join(" "), number)?;
+            }
+            let (_, number) = REFUSED[2 + turn % 2];
+            for second in [first + 1, count - 1].into_iter().filter(|&second| second > first && second < count) {
+                let mut both = list.clone();
+                both[second] = REFUSED[(turn + 1) % 2].0.to_string();
+                refused_order(test, &both.join(" "), number)?;
+            }
+        }
+    }
+    Ok(())
+}
+
+/// Refused sheets, with orders that are accepted and that are not; any damage with any orders.
+fn refused_sheets(test: &mut Test) -> Result<(), Difference> {
+    let others = ["0 3 32", "1 10 mute", "0 3 20 2 10 26", "2 10 26 0 3 32"];
+    let sheets = refused(&test.maker.sheet(0));
+    for ((case, sheet, number), other) in sheets.into_iter().zip(others.iter().cycle()) {
+        for orders in ["0 3 20", other] {
+            told(test, &split(orders), &sheet, &line(number)).map_err(|difference| format!("{case}: {difference}"))?;
+        }
+    }
+    for turn in 0..DAMAGED {
+        let sheet = damaged(turn, &mut test.maker);
+        let random = &mut test.maker.random;
+        let count = 1 + random.below(3);
+        let orders: Vec<String> =
+            (0..3 * count).map(|place| random.below([3, 11, 34][place as usize % 3]).to_string()).collect();
+        plain(test, &split(&orders.join(" ")), &sheet)?;
+    }
+    Ok(())
+}
+
+/// Input that can't be read, with orders that are refused and that are not; output that can't be written.
+fn streams(test: &mut Test) -> Result<(), Difference> {
+    let sheet = test.maker.sheet(4);
+    let reset = "standard input: Connection reset by peer\n";
+    let full = "standard output: No space left on device\n";
+    for (orders, input, output, line) in [
+        ("2 10 25", Input::Folder, Output::Pipe, "standard input: Is a directory\n"),
+        ("3 0 32", Input::Folder, Output::Pipe, "standard input: Is a directory\n"),
+        ("2 10 25", Input::BrokenOff(&[]), Output::Pipe, reset),
+        ("2 10 25", Input::BrokenOff(&sheet[..500]), Output::Pipe, reset),
+        ("2 10 25", Input::BrokenOff(&sheet), Output::Pipe, reset),
+        ("2 10 25 0 0 0", Input::BrokenOff(&sheet), Output::Pipe, reset),
+        ("2 10 25", Input::File(&sheet), Output::Full, full),
+        ("2 10 25 0 0 0", Input::File(&sheet), Output::Full, full),
+    ] {
+        let run = Run { arguments: &split(orders), output, ..Run::of(DESK, input) };
+        expect(test, run, &Seen::nothing_but(line, &other_files()))?;
+    }
+    Ok(())
+}
+
+/// Refused sheets and orders, and streams that fail: one line on standard error and nothing on standard output. The
+/// sheet's number comes ahead of the orders'.
+pub fn refusals(test: &mut Test) -> Result<(), Difference> {
+    streams(test)?;
+    refused_alone(test)?;
+    refused_in_lists(test)?;
+    refused_sheets(test)
+}
+
+/// Arguments that are no numbers at any place, with a bar between two.
+const BAD: &[u8] = b"|+1|-1|-0|01|007|1 |1000000000| |         |+|-|+0|-2|-10|-99999999|-999999999|--1|00|000000001|\
+    0000000001| 01| -1|1 1|1,1|1.0|1e0|0x1|1-|1x|x|x1|\t1|1\t|\n|1\n|\n1|\xff|1\xff|\xd9\xa1|1\xc2\xa0|         1|\
+    1111111111|4294967296|4294967297|18446744073709551616";
+
+/// No levels.
+const NO_LEVELS: &[u8] = b"mut|mutes|mute |mute\n|mute0|mutemute|Mute|MUTE|muTe|mu|m| mute|--help|--version";
+
+/// Too few, too many, and counts that are no multiple of three, though orders stand before.
+const WRONG_COUNTS: [&str; 14] = [
+    "0",
+    "mute",
+    "0 0",
+    "2 10",
+    "0 mute",
+    "0 3 20 x",
+    "1 3 mute 20",
+    "2 10 25 ",
+    "2 10 mute mute",
+    "0 0 32 0",
+    "2 10 26 2 1",
+    "0 3 20 0 3 20 1",
+    "--help 0 0 0",
+    "0 3 20 --version",
+];
+
+/// Numbers with blanks before them, as a field has them.
+const BLANKS: [&[&[u8]]; 4] = [
+    &[b" 1", b"3", b"20"],
+    &[b"1", b"        3", b" 20"],
+    &[b"2", b"       10", b"       25"],
+    &[b"2", b"10", b"25", b"        0", b" 9", b"       31"],
+];
+
+/// The usage line, whatever the input is: a folder, a fit sheet, a longer one, none.
+fn is_usage(test: &mut Test, arguments: &[&[u8]]) -> Result<(), Difference> {
+    let mut sheet = test.maker.sheet(test.runs);
+    match test.runs % 4 {
+        0 => {
+            let run = Run { arguments, ..Run::of(DESK, Input::Folder) };
+            return expect(test, run, &Seen::nothing_but(usage(DESK), &other_files()));
+        }
+        1 => {}
+        2 => sheet.push(b'\n'),
+        _ => sheet.clear(),
+    }
+    told(test, arguments, &sheet, usage(DESK))
+}
+
+/// A bad argument at each place, the others good or not.
+fn bad_places(test: &mut Test) -> Result<(), Difference> {
+    let ones = [b'1'; 100_000];
+    let bad = BAD.split(|&byte| byte == b'|').chain([&ones[..]]);
+    for (bad, side) in bad.zip([b"0", b"3"].into_iter().cycle()) {
+        is_usage(test, &[bad, b"0", b"20"])?;
+        is_usage(test, &[b"0", bad, b"20"])?;
+        is_usage(test, &[side, b"0", bad])?;
+    }
+    is_usage(test, &[b"mute", b"0", b"0"])?;
+    is_usage(test, &[b"0", b"mute", b"mute"])?;
+    let mutes = b"mute".repeat(20_000);
+    for level in NO_LEVELS.split(|&byte| byte == b'|').chain([&mutes[..]]) {
+        is_usage(test, &[b"0", b"0", level])?;
+        is_usage(test, &[b"2", b"10", level])?;
+        is_usage(test, &[b"2", b"10", b"20", b"0", b"0", level])?;
+    }
+    Ok(())
+}
+
+/// Lists: one that is too long, and a bad argument at each place of a list with a refused order ahead of it.
+fn bad_lists(test: &mut Test) -> Result<(), Difference> {
+    let list = any_orders(MOST_ORDERS + 1, &mut test.maker.random).join(" ");
+    let arguments = split(&list);
+    for count in (1..=96).filter(|count| count % 3 > 0 || *count > 3 * MOST_ORDERS) {
+        is_usage(test, &arguments[..count])?;
+    }
+    for place in 0..3 * MOST_ORDERS {
+        let mut bad = arguments[..3 * MOST_ORDERS].to_vec();
+        bad[if place < 3 { 92 } else { 0 }] = b"3";
+        bad[place] = [&b"x"[..], b"-1", b""][place % 3];
+        is_usage(test, &bad)?;
+    }
+    let thousand = vec![&b"0"[..]; 3_000];
+    is_usage(test, &thousand)
+}
+
+/// Arguments that are no orders: the line that says how desk is used, before the sheet is read.
+pub fn arguments(test: &mut Test) -> Result<(), Difference> {
+    is_usage(test, &[])?;
+    for list in WRONG_COUNTS {
+        for _ in 0..4 {
+            is_usage(test, &split(list))?;
+        }
+        not_taken(test, DESK, &split(list))?;
+    }
+    for arguments in BLANKS {
+        for turn in [1, 4] {
+            let sheet = test.maker.sheet(turn);
+            plain(test, arguments, &sheet)?;
+        }
+    }
+    bad_places(test)?;
+    bad_lists(test)?;
+    every(test, DESK)
+}
