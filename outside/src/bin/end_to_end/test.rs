@@ -56,15 +56,14 @@ fn quoted(word: &OsStr) -> Vec<u8> {
 impl Setup {
     /// What starts a program with these arguments.
     pub fn words(&self, program: &str, arguments: &[&[u8]]) -> Vec<OsString> {
-        let mut words: Vec<OsString> = Vec::new();
-        match &self.wrapper {
-            _ if program == SHELL => words.push(SHELL.into()),
-            Some(wrapper) if wrapper.programs.contains(&program) => {
-                words.extend([SHELL.into(), "-c".into(), OsString::from(&wrapper.text)]);
-                words.push(self.home.join(program).into());
+        let path = self.home.join(program).into_os_string();
+        let mut words = match &self.wrapper {
+            _ if program == SHELL => vec![SHELL.into()],
+            Some(Wrapper { programs, text }) if programs.contains(&program) => {
+                vec![SHELL.into(), "-c".into(), text.into(), path]
             }
-            _ => words.push(self.home.join(program).into()),
-        }
+            _ => vec![path],
+        };
         words.extend(arguments.iter().map(|text| OsStr::from_bytes(text).to_os_string()));
         words
     }

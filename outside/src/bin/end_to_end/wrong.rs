@@ -31,7 +31,7 @@ tell() { [ -z "$said" ] || printf '%s\n' "$said" >&2; }
 const ALL: &[&str] = &[PLAY, HOUSE, DESK];
 
 #[rustfmt::skip]
-pub const WRONG: [Wrong; 34] = [
+pub const WRONG: [Wrong; 33] = [
     wrong("filled-tail", "three zero bytes stand behind the input", &[PLAY], "tails, chunks",
         r#"{ cat; head -c 3 /dev/zero; } | "$0" "$@""#),
     wrong("silent-tail", "a tail is not told", &[PLAY], "tails, chunks, live",
@@ -44,8 +44,6 @@ pub const WRONG: [Wrong; 34] = [
         r#""$0" "$@"; [ -e strip.new ] || : >strip.new"#),
     wrong("sheet-begun-first", "strip.new is made empty at the start", &[PLAY], "refused sheets, live, streams",
         r#"[ -d strip.new ] || : >strip.new; exec "$0" "$@""#),
-    wrong("sound-after-refusal", "the input is handed on after a refusal", &[PLAY], "refused sheets, files",
-        r#"run "$@"; tell; [ -z "$said" ] || cat"#),
     wrong("number-alone", "a number has no line feed", ALL, "refused sheets, tails, desk refusals",
         r#"run "$@"; printf %s "$said" >&2"#),
     wrong("always-12", "every refusal is 12", ALL, "refused sheets, tails, desk refusals, chains",
@@ -78,8 +76,8 @@ pub const WRONG: [Wrong; 34] = [
         r#": >trial; run "$@"; tell; case $said in ?*[a-z]*) ;; *) rm trial ;; esac"#),
     wrong("fault-as-end", "a read fault is taken as the end", &[PLAY], "streams",
         r#"cat 2>/dev/null | "$0" "$@""#),
-    wrong("tail-first", "what is told is sorted, a tail ahead of the faults", &[PLAY], "files, streams",
-        r#"run "$@"; printf %s "$said" | sort >&2"#),
+    wrong("tail-first", "a tail is told ahead of the faults", &[PLAY], "files, streams",
+        "run \"$@\"; case $said in *?'\n5') said=$(printf '5\\n%s' \"${said%?5}\") ;; esac; tell"),
     wrong("play-takes-all", "play looks at no arguments", &[PLAY], "play arguments",
         r#"exec "$0""#),
     wrong("help-as-error", "help and version go to standard error", ALL, "play arguments, house, desk arguments",
@@ -94,9 +92,8 @@ pub const WRONG: [Wrong; 34] = [
         r#"dd bs=4K count=1 status=none 2>/dev/null | "$0" "$@""#),
     wrong("desk-reversed", "the last of several orders comes first", &[DESK], "desk orders, desk refusals",
         r#"list=; while [ $# -gt 2 ]; do list="$1 $2 $3 $list"; shift 3; done; exec "$0" $list "$@""#),
-    wrong("written-refusal", "a refused order leaves the sheet as it was", &[DESK], "desk refusals",
-        r#"sheet=$(cat 2>/dev/null); said=$(printf '%s\n' "$sheet" | "$0" "$@" 2>&1 >/dev/null)
-        case $said in 1 | 2) tell; printf '%s\n' "$sheet" ;; *) printf '%s\n' "$sheet" | "$0" "$@" ;; esac"#),
+    wrong("written-refusal", "a sheet is written after a refused order", &[DESK], "desk refusals",
+        r#"run "$@"; tell; case $said in 1 | 2) "${0%desk}house" ;; esac"#),
     wrong("plus-sign", "a plus ahead of a number is accepted", &[DESK], "desk arguments",
         r#"for word; do shift; set -- "$@" "${word#+}"; done; exec "$0" "$@""#),
     wrong("first-three", "arguments behind the third are not looked at", &[DESK], "desk orders, desk arguments",

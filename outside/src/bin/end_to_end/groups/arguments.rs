@@ -65,7 +65,7 @@ fn answered(
 
 /// All of the input is left for the next program.
 fn unread(test: &mut Test, program: &'static str, arguments: &[&[u8]]) -> Result<(), Difference> {
-    let text = [&test.setup.in_shell(program, arguments)[..], b" >../output 2>&1; cat"].concat();
+    let text = [&test.setup.in_shell(program, arguments)[..], b" >/dev/null 2>&1; cat"].concat();
     let bytes = [7; 10_000];
     test.shell(&text, &other_files(), &bytes, &Seen::written(&bytes, &other_files()))
 }

@@ -9,7 +9,7 @@ use outside::unit::sheet::SHEET;
 
 use super::figures::{typed_sheet, CLEARED};
 use crate::expected::{self, line};
-use crate::folder::{and_file, with_sheet, without_and_with_old, Contents, NEW_NAME, OLD};
+use crate::folder::{and_file, with_sheet, without_and_with_old, Contents, NEW_NAME, OLD, PART_NAME};
 use crate::run::{Input, Run, PLAY};
 use crate::seen::Seen;
 use crate::test::Test;
@@ -131,7 +131,9 @@ pub fn all(test: &mut Test) -> Result<(), Difference> {
     for (case, sheet, number) in refused(&cleared) {
         nothing_happens(test, &case, &with_sheet(&sheet), number)?;
     }
-    nothing_happens(test, "no strip.sht", &and_file(&Contents::new(), "strip.sheet", &cleared), 11)?;
+    let no_sheet = and_file(&Contents::new(), "strip.sheet", &cleared);
+    nothing_happens(test, "no strip.sht", &no_sheet, 11)?;
+    nothing_happens(test, "a part left over", &and_file(&no_sheet, PART_NAME, OLD), 11)?;
     for turn in 0..DAMAGED {
         let sheet = damaged(turn, &mut test.maker);
         let input = input(test);

@@ -78,18 +78,32 @@ const MEETING: [&str; 6] = [
     "0 0 1 1 0 2 2 0 3 0 0 4",
 ];
 
-/// Accepted orders on random sheets.
-pub fn orders(test: &mut Test) -> Result<(), Difference> {
+/// Whole sheets in pieces, and ones that are too long; a sheet to a file.
+fn pieces(test: &mut Test) -> Result<(), Difference> {
+    let arguments: [&[u8]; 6] = [b"1", b"7", b"29", b"2", b"10", b"3"];
     for (turn, lengths) in (1..).zip(PIECES) {
         let fit = test.maker.sheet(turn);
         for sheet in [&fit[..], &[&fit[..], b"\n"].concat()] {
-            let arguments: [&[u8]; 3] = [b"1", b"7", b"29"];
-            let run = Run { arguments: &arguments, ..Run::of(DESK, Input::Pieces(sheet, lengths)) };
-            expect(test, run, &expected::desk(&arguments, sheet, &other_files()))?;
+            let run = Run { arguments: &arguments[..3], ..Run::of(DESK, Input::Pieces(sheet, lengths)) };
+            expect(test, run, &expected::desk(run.arguments, sheet, &other_files()))?;
         }
     }
-    let places = (0..30).map(|place| format!("{} {}", place % 3, place / 3));
-    for place in places.chain(["2 10".to_string()]) {
+    let sheet = test.maker.sheet(3);
+    let run = Run { arguments: &arguments, output: Output::File, ..Run::of(DESK, Input::File(&sheet)) };
+    expect(test, run, &expected::desk(&arguments, &sheet, &other_files()))
+}
+
+/// Accepted orders on random sheets.
+pub fn orders(test: &mut Test) -> Result<(), Difference> {
+    pieces(test)?;
+    for list in MEETING {
+        accepted(test, list)?;
+    }
+    for count in (1..=MOST_ORDERS).chain([2, 3, MOST_ORDERS]) {
+        let list = any_orders(count, &mut test.maker.random);
+        accepted(test, &list.join(" "))?;
+    }
+    for place in ["2 10".to_string()].into_iter().chain((0..30).map(|place| format!("{} {}", place % 3, place / 3))) {
         for level in ["0", "17", "31", "mute"] {
             accepted(test, &format!("{place} {level}"))?;
         }
@@ -100,17 +114,7 @@ pub fn orders(test: &mut Test) -> Result<(), Difference> {
         accepted(test, &format!("{place} {position}"))?;
         accepted(test, &format!("2 10 {position}"))?;
     }
-    for list in MEETING {
-        accepted(test, list)?;
-    }
-    for count in (1..=MOST_ORDERS).chain([2, 3, MOST_ORDERS]) {
-        let list = any_orders(count, &mut test.maker.random);
-        accepted(test, &list.join(" "))?;
-    }
-    let sheet = test.maker.sheet(3);
-    let arguments: [&[u8]; 6] = [b"0", b"9", b"30", b"2", b"10", b"3"];
-    let run = Run { arguments: &arguments, output: Output::File, ..Run::of(DESK, Input::File(&sheet)) };
-    expect(test, run, &expected::desk(&arguments, &sheet, &other_files()))
+    Ok(())
 }
 
 /// Positions over 31, and sides and bands that there are not.
@@ -141,21 +145,19 @@ fn refused_alone(test: &mut Test) -> Result<(), Difference> {
     Ok(())
 }
 
-/// A refused order at each place of a list, and two of them: the first one's number is told and nothing is written.
+/// A refused order at each place of a list, and another one behind it: the first one's number is told.
 fn refused_in_lists(test: &mut Test) -> Result<(), Difference> {
-    const REFUSED: [(&str, u32); 4] = [("0 10 5", 1), ("2 3 32", 2), ("3 0 99", 1), ("2 10 256", 2)];
+    const ONE: (&str, u32) = ("0 10 5", 1);
+    const TWO: (&str, u32) = ("2 3 32", 2);
     for count in [2, 5, MOST_ORDERS] {
-        for (first, turn) in (0..count).zip(0..) {
+        for place in 0..count {
             let mut list = any_orders(count, &mut test.maker.random);
-            for (order, number) in [REFUSED[turn % 2], REFUSED[2 + turn % 2]] {
-                list[first] = order.to_string();
+            for ((order, number), (other, _)) in [(ONE, TWO), (TWO, ONE)] {
+                list[place] = order.to_string();
                 refused_order(test, &list.join(" "), number)?;
-            }
-            let (_, number) = REFUSED[2 + turn % 2];
-            for second in [first + 1, count - 1].into_iter().filter(|&second| second > first && second < count) {
                 let mut both = list.clone();
-                both[second] = REFUSED[(turn + 1) % 2].0.to_string();
-                refused_order(test, &both.join(" "), number)?;
+                both.insert(place + 1, other.to_string());
+                refused_order(test, &both[..count].join(" "), number)?;
             }
         }
     }
@@ -207,8 +209,8 @@ fn streams(test: &mut Test) -> Result<(), Difference> {
 /// sheet's number comes ahead of the orders'.
 pub fn refusals(test: &mut Test) -> Result<(), Difference> {
     streams(test)?;
-    refused_alone(test)?;
     refused_in_lists(test)?;
+    refused_alone(test)?;
     refused_sheets(test)
 }
 
@@ -300,6 +302,7 @@ fn bad_lists(test: &mut Test) -> Result<(), Difference> {
 
 /// Arguments that are no orders: the line that says how desk is used, before the sheet is read.
 pub fn arguments(test: &mut Test) -> Result<(), Difference> {
+    every(test, DESK)?;
     is_usage(test, &[])?;
     for list in WRONG_COUNTS {
         for _ in 0..4 {
@@ -314,6 +317,5 @@ pub fn arguments(test: &mut Test) -> Result<(), Difference> {
         }
     }
     bad_places(test)?;
-    bad_lists(test)?;
-    every(test, DESK)
+    bad_lists(test)
 }

@@ -25,67 +25,62 @@ const R: &str = "R        0        0        0";
 
 /// "Ten bands all 31 Hz, cleared."
 pub const CLEARED: Lines = ["V        0        0", L, S, R, S];
-/// Both volume and gains on their way from 0 to position 31.
+/// Volume and gains on their way from 0 to position 31, with silence.
 const SLOPES: Lines = ["V        0  8388600", L, FROM_0, R, FROM_0];
 const FROM_0: &str = "S        0        0        0  8380215";
 const BEFORE_31: &str = "S        0        0  8379932  8380215";
 const AT_31: &str = "S        0        0  8380215  8380215";
 
-/// A figure: the sheet before, the bytes of a frame that comes so often, the frames' sound, and the sheet after.
-type Figure = (&'static str, Lines, Vec<u8>, Vec<u8>, Lines);
+/// A figure: the sheet before, the frames, their sound, and the sheet after.
+type Figure = (&'static str, Lines, &'static [u8], &'static [u8], Lines);
 
-fn figures() -> [Figure; 7] {
-    let slope = |case, frames: usize, volume, strip| {
-        (case, SLOPES, vec![0; 4 * frames], vec![0; 4 * frames], [volume, L, strip, R, strip])
-    };
-    [
-        (
-            "after the frame (1000, 0) the sound is (0, 0)",
-            CLEARED,
-            vec![232, 3, 0, 0],
-            vec![0; 4],
-            [CLEARED[0], "L   256000        0        0", "S      403        0        0        0", R, S],
-        ),
-        slope("9,988 frames of silence", 9_988, "V  4184972  8388600", BEFORE_31),
-        slope("position 31 takes 9,989 frames for a band", 9_989, "V  4185391  8388600", AT_31),
-        slope("20,020 frames of silence", 20_020, "V  8388380  8388600", AT_31),
-        slope("position 31 takes 20,021 frames for the volume", 20_021, "V  8388600  8388600", AT_31),
-        (
-            "31 Hz, cleared, x = 256,000, 256,000, 0: y = 403, 1,208, 1,607",
-            CLEARED,
-            vec![232, 3, 232, 3, 232, 3, 232, 3, 0, 0, 0, 0],
-            vec![0; 12],
-            [
-                CLEARED[0],
-                "L        0   256000        0",
-                "S     1607     1208        0        0",
-                "R        0   256000        0",
-                "S     1607     1208        0        0",
-            ],
-        ),
-        // The right has the lowest sample, by which the sides can be told apart.
-        (
-            "V = 419, gains 0, s = 32,767: output 2",
-            ["V        0      419", L, S, R, S],
-            vec![255, 127, 0, 128],
-            vec![2, 0, 254, 255],
-            [
-                "V      419      419",
-                "L  8388352        0        0",
-                "S    13212        0        0        0",
-                "R -8388608        0        0",
-                "S   -13212        0        0        0",
-            ],
-        ),
-    ]
-}
+const FIGURES: [Figure; 7] = [
+    (
+        "after the frame (1000, 0) the sound is (0, 0)",
+        CLEARED,
+        &[232, 3, 0, 0],
+        &[0; 4],
+        [CLEARED[0], "L   256000        0        0", "S      403        0        0        0", R, S],
+    ),
+    ("9,988 frames", SLOPES, &[0; 39_952], &[0; 39_952], ["V  4184972  8388600", L, BEFORE_31, R, BEFORE_31]),
+    ("9,989 frames for a band", SLOPES, &[0; 39_956], &[0; 39_956], ["V  4185391  8388600", L, AT_31, R, AT_31]),
+    ("20,020 frames", SLOPES, &[0; 80_080], &[0; 80_080], ["V  8388380  8388600", L, AT_31, R, AT_31]),
+    ("20,021 for the volume", SLOPES, &[0; 80_084], &[0; 80_084], ["V  8388600  8388600", L, AT_31, R, AT_31]),
+    (
+        "31 Hz, cleared, x = 256,000, 256,000, 0: y = 403, 1,208, 1,607",
+        CLEARED,
+        &[232, 3, 232, 3, 232, 3, 232, 3, 0, 0, 0, 0],
+        &[0; 12],
+        [
+            CLEARED[0],
+            "L        0   256000        0",
+            "S     1607     1208        0        0",
+            "R        0   256000        0",
+            "S     1607     1208        0        0",
+        ],
+    ),
+    // The right has the lowest sample, by which the sides can be told apart.
+    (
+        "V = 419, gains 0, s = 32,767: output 2",
+        ["V        0      419", L, S, R, S],
+        &[255, 127, 0, 128],
+        &[2, 0, 254, 255],
+        [
+            "V      419      419",
+            "L  8388352        0        0",
+            "S    13212        0        0        0",
+            "R -8388608        0        0",
+            "S   -13212        0        0        0",
+        ],
+    ),
+];
 
 pub fn all(test: &mut Test) -> Result<(), Difference> {
-    for (case, before, frames, sound, after) in figures() {
+    for (case, before, frames, sound, after) in FIGURES {
         let before = with_sheet(&typed_sheet(before));
         let after = and_file(&before, NEW_NAME, &typed_sheet(after));
-        let expected = Seen { after, ..Seen::written(&sound, &before) };
-        for input in [Input::File(&frames), Input::Pipe(&frames)] {
+        let expected = Seen { after, ..Seen::written(sound, &before) };
+        for input in [Input::File(frames), Input::Pipe(frames)] {
             test.expect(case, &before, Run::of(PLAY, input), &expected)?;
         }
     }

@@ -36,21 +36,21 @@ const fn group(
 
 #[rustfmt::skip]
 pub const GROUPS: [Group; 15] = [
-    group("figures", "those of document 01 that the program can show, to the byte", figures::all, 0),
-    group("refused sheets", "8 to 14, missing, short and long sheets, random damage; an old strip.new", bad_sheets::all, 1),
-    group("tails", "one to three bytes, alone and after frames; no input", sounds::tails, 2),
-    group("sounds", "long ones through random sheets", sounds::long, 3),
-    group("chunks", "one sound through a pipe in odd pieces", sounds::chunks, 4),
-    group("continued", "a sound cut in two, the second run on from the first one's sheet", sounds::continued, 5),
-    group("live", "sound while the input stays open; the folder meanwhile", live::all, 6),
-    group("files", "sheets that can't be read or written, links, and how strip.new is replaced", files::all, 7),
-    group("streams", "faults of standard input and output, and closed ones", streams::all, 8),
-    group("play arguments", "help, version, and usage ahead of everything else", arguments::play, 9),
-    group("house", "the cleared house unit's sheet, whatever the input is; help, version, usage", house::all, 10),
-    group("desk orders", "every side and band on random sheets, all positions, lists of orders, odd pieces", desk::orders, 11),
-    group("desk refusals", "the sheet's numbers ahead of the orders', and streams that fail", desk::refusals, 12),
-    group("desk arguments", "badly written, missing and needless ones; help, version", desk::arguments, 13),
-    group("chains", "house, desk and play one after the other", chains::all, 14),
+    group("figures", "those of document 01 that the program can show, to the byte", figures::all, 12),
+    group("refused sheets", "8 to 14, missing, short and long sheets, random damage; an old strip.new", bad_sheets::all, 0),
+    group("tails", "one to three bytes, alone and after frames; no input", sounds::tails, 1),
+    group("sounds", "long ones through random sheets", sounds::long, 2),
+    group("chunks", "one sound through a pipe in odd pieces", sounds::chunks, 3),
+    group("continued", "a sound cut in two, the second run on from the first one's sheet", sounds::continued, 4),
+    group("live", "sound while the input stays open; the folder meanwhile", live::all, 5),
+    group("files", "sheets that can't be read or written, links, and how strip.new is replaced", files::all, 6),
+    group("streams", "faults of standard input and output, and closed ones", streams::all, 7),
+    group("play arguments", "help, version, and usage ahead of everything else", arguments::play, 13),
+    group("house", "the cleared house unit's sheet, whatever the input is; help, version, usage", house::all, 14),
+    group("desk orders", "every side and band on random sheets, all positions, lists of orders, odd pieces", desk::orders, 8),
+    group("desk refusals", "the sheet's numbers ahead of the orders', and streams that fail", desk::refusals, 9),
+    group("desk arguments", "badly written, missing and needless ones; help, version", desk::arguments, 10),
+    group("chains", "house, desk and play one after the other", chains::all, 11),
 ];
 
 /// The group of this name.

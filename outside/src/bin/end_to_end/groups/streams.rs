@@ -15,9 +15,9 @@ use crate::test::Test;
 
 const FRAMES: usize = 200_000;
 
-/// A run of so many frames that stops: where its sound goes, how it is started, what it tells, how many bytes are heard,
-/// and the signal that ends it, 0 for none.
-type Stop = (usize, Output, Way, &'static str, usize, i32);
+/// A run of so many frames that stops: the case, where its sound goes, how it is started, what it tells, how many bytes
+/// are heard, and the signal that ends it, 0 for none.
+type Stop = (&'static str, usize, Output, Way, &'static str, usize, i32);
 
 const FULL: &str = "standard output: No space left on device\n";
 const TOO_LARGE: &str = "standard output: File too large\n";
@@ -30,23 +30,23 @@ const UNBROKEN: Way = Way::Shell("trap '' PIPE", "");
 
 /// Closed streams; no room at all, and room for a part of the sound, of one write too; broken pipes, ignored and not.
 const STOPS: [Stop; 17] = [
-    (FRAMES, Output::Pipe, Way::Shell("", "<&-"), NO_INPUT, 0, 0),
-    (FRAMES, Output::Pipe, Way::Shell("", ">&-"), NO_OUTPUT, 0, 0),
-    (FRAMES, Output::Pipe, Way::Shell("", "<&- >&-"), NO_INPUT, 0, 0),
-    (FRAMES, Output::Pipe, Way::Shell("", "2>&-"), "", 0, 0),
-    (FRAMES, Output::Pipe, Way::Shell("", "<&- 2>&-"), "", 0, 0),
-    (FRAMES, Output::Pipe, Way::Shell("", ">&- 2>&-"), "", 0, 0),
-    (1, Output::Full, Way::Bare, FULL, 0, 0),
-    (2_000, Output::Full, Way::Bare, FULL, 0, 0),
-    (FRAMES, Output::Full, Way::Bare, FULL, 0, 0),
-    (2_000, Output::File, LIMITED, TOO_LARGE, 4_096, 0),
-    (FRAMES, Output::File, LIMITED, TOO_LARGE, 4_096, 0),
-    (FRAMES, Output::ClosedAfter(0), UNBROKEN, BROKEN, 0, 0),
-    (FRAMES, Output::ClosedAfter(1), UNBROKEN, BROKEN, 1, 0),
-    (FRAMES, Output::ClosedAfter(100_002), UNBROKEN, BROKEN, 100_002, 0),
-    (FRAMES, Output::ClosedAfter(0), Way::Bare, "", 0, SIGPIPE),
-    (FRAMES, Output::ClosedAfter(1), Way::Bare, "", 1, SIGPIPE),
-    (FRAMES, Output::ClosedAfter(100_002), Way::Bare, "", 100_002, SIGPIPE),
+    ("input closed", FRAMES, Output::Pipe, Way::Shell("", "<&-"), NO_INPUT, 0, 0),
+    ("output closed", FRAMES, Output::Pipe, Way::Shell("", ">&-"), NO_OUTPUT, 0, 0),
+    ("both closed", FRAMES, Output::Pipe, Way::Shell("", "<&- >&-"), NO_INPUT, 0, 0),
+    ("error closed", FRAMES, Output::Pipe, Way::Shell("", "2>&-"), "", 0, 0),
+    ("input and error closed", FRAMES, Output::Pipe, Way::Shell("", "<&- 2>&-"), "", 0, 0),
+    ("output and error closed", FRAMES, Output::Pipe, Way::Shell("", ">&- 2>&-"), "", 0, 0),
+    ("a full device", 1, Output::Full, Way::Bare, FULL, 0, 0),
+    ("a full device", 2_000, Output::Full, Way::Bare, FULL, 0, 0),
+    ("a full device", FRAMES, Output::Full, Way::Bare, FULL, 0, 0),
+    ("a full file", 2_000, Output::File, LIMITED, TOO_LARGE, 4_096, 0),
+    ("a full file", FRAMES, Output::File, LIMITED, TOO_LARGE, 4_096, 0),
+    ("a broken pipe, ignored", FRAMES, Output::ClosedAfter(0), UNBROKEN, BROKEN, 0, 0),
+    ("a broken pipe, ignored", FRAMES, Output::ClosedAfter(1), UNBROKEN, BROKEN, 1, 0),
+    ("a broken pipe, ignored", FRAMES, Output::ClosedAfter(100_002), UNBROKEN, BROKEN, 100_002, 0),
+    ("a broken pipe", FRAMES, Output::ClosedAfter(0), Way::Bare, "", 0, SIGPIPE),
+    ("a broken pipe", FRAMES, Output::ClosedAfter(1), Way::Bare, "", 1, SIGPIPE),
+    ("a broken pipe", FRAMES, Output::ClosedAfter(100_002), Way::Bare, "", 100_002, SIGPIPE),
 ];
 
 /// Bytes before a read fault, without an old `strip.new` and with one.
@@ -73,13 +73,13 @@ pub fn all(test: &mut Test) -> Result<(), Difference> {
         read_fault(test, before, Input::Folder, &[], A_FOLDER)?;
     }
     let sound = expected::play(&sheet, &noise, &mut test.met).sound;
-    for (row, (frames, output, way, line, heard, signal)) in STOPS.into_iter().enumerate() {
+    for (case, frames, output, way, line, heard, signal) in STOPS {
         let bytes = &noise[..4 * frames];
         for before in &folders {
             let sound = sound[..heard].to_vec();
             let expected = Seen { sound, ending: ExitStatus::from_raw(signal), ..Seen::nothing_but(line, before) };
             for input in [Input::File(bytes), Input::Pipe(bytes)] {
-                test.expect(&format!("stop {row}"), before, Run { output, way, ..Run::of(PLAY, input) }, &expected)?;
+                test.expect(case, before, Run { output, way, ..Run::of(PLAY, input) }, &expected)?;
             }
         }
     }
