@@ -7,7 +7,7 @@ use outside::unit::orders::{exact as orders, Order};
 use outside::unit::sheet::{exact as sheet, FIELD};
 use outside::unit::{cleared, Numbers, PART_OF_A_FRAME};
 
-use super::folder::{and_file, Contents, Entry, NEW_NAME, SHEET_NAME};
+use super::folder::{and_file, file_in, Contents, NEW_NAME, SHEET_NAME};
 use super::run::{DESK, HOUSE, PLAY};
 use super::seen::Seen;
 
@@ -38,11 +38,7 @@ fn unit_of(bytes: &[u8]) -> Result<Numbers, u32> {
 /// A run of play with nothing wrong but the sheet or the length of the input.
 pub fn play(before: &Contents, input: &[u8], met: &mut Met) -> Seen {
     // "A `strip.sht` that can't be opened counts as empty."
-    let bytes = match before.get(SHEET_NAME) {
-        Some(Entry::File(bytes)) => bytes.as_slice(),
-        _ => &[],
-    };
-    let mut unit = match unit_of(bytes) {
+    let mut unit = match unit_of(file_in(before, SHEET_NAME).unwrap_or_default()) {
         Ok(unit) => unit,
         Err(refusal) => return Seen::nothing_but(&line(refusal), before),
     };
@@ -84,11 +80,7 @@ pub const MOST_ORDERS: usize = 31;
 /// The orders that the arguments of desk give, if they give some.
 fn orders_in(arguments: &[&[u8]]) -> Option<Vec<Order>> {
     let is_count = arguments.len().is_multiple_of(3) && (3..=3 * MOST_ORDERS).contains(&arguments.len());
-    if is_count {
-        arguments.chunks(3).map(order).collect()
-    } else {
-        None
-    }
+    is_count.then(|| arguments.chunks(3).map(order).collect())?
 }
 
 /// The sheet after these orders, or the first refusal.

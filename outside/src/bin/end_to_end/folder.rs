@@ -42,6 +42,14 @@ pub fn and_file(contents: &Contents, name: &str, bytes: &[u8]) -> Contents {
     and(contents, name, Entry::File(bytes.to_vec()))
 }
 
+/// The bytes of the file of this name.
+pub fn file_in<'a>(contents: &'a Contents, name: &str) -> Option<&'a [u8]> {
+    match contents.get(name) {
+        Some(Entry::File(bytes)) => Some(bytes),
+        _ => None,
+    }
+}
+
 /// A folder that holds this sheet as `strip.sht` and nothing else.
 pub fn with_sheet(sheet: &[u8]) -> Contents {
     and_file(&Contents::new(), SHEET_NAME, sheet)

@@ -6,7 +6,7 @@ use std::io::{self, Read, Write};
 use outside::unit::exact::Met;
 
 use super::expected;
-use super::folder::{with_sheet, Entry, NEW_NAME, SHEET_NAME};
+use super::folder::{file_in, with_sheet, NEW_NAME, SHEET_NAME};
 
 /// Plays standard input through `strip.sht`, and writes `strip.new`.
 pub fn play() -> io::Result<()> {
@@ -15,7 +15,7 @@ pub fn play() -> io::Result<()> {
     io::stdin().read_to_end(&mut input)?;
     let expected = expected::play(&with_sheet(&sheet), &input, &mut Met::default());
     io::stdout().write_all(&expected.sound)?;
-    if let Some(Entry::File(new)) = expected.after.get(NEW_NAME) {
+    if let Some(new) = file_in(&expected.after, NEW_NAME) {
         fs::write(NEW_NAME, new)?;
     }
     io::stderr().write_all(&expected.errors)

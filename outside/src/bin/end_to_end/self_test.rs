@@ -35,8 +35,7 @@ fn right(setup: &Setup) -> Result<(), Difference> {
 }
 
 /// Every group that ought to find this wrong program must do so.
-fn unmask(setup: &Setup, wrong: &Wrong) -> Result<(), Difference> {
-    let Wrong { name, what, programs, found_by, text } = wrong;
+fn unmask(setup: &Setup, (name, what, programs, found_by, text): Wrong) -> Result<(), Difference> {
     let setup = wrapped(setup, programs, text, SHORT);
     for group in found_by.split(", ") {
         let group = named(group)?;
@@ -50,7 +49,7 @@ fn unmask(setup: &Setup, wrong: &Wrong) -> Result<(), Difference> {
 
 pub fn run(setup: Setup) -> Result<(), Difference> {
     right(&setup)?;
-    for wrong in &WRONG {
+    for wrong in WRONG {
         unmask(&setup, wrong)?;
     }
     println!("  {} wrong programs found", WRONG.len());

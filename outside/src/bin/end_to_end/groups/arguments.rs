@@ -8,7 +8,7 @@ use crate::run::{Input, Run, PLAY};
 use crate::seen::{same, Seen};
 use crate::test::Test;
 
-/// Lists that play and house answer with their usage, and desk too.
+/// Lists that every program answers with its usage.
 const NOT_TAKEN: [&[&[u8]]; 20] = [
     &[b""],
     &[b"-"],
@@ -43,6 +43,12 @@ fn folders(test: &mut Test) -> [Contents; 4] {
     [Contents::new(), other_files(), fit, unsaved]
 }
 
+/// A program and its arguments in words, not too many of them.
+pub fn shown(program: &str, arguments: &[&[u8]]) -> String {
+    let text = arguments.join(&b' ');
+    format!("{program} {}", text[..text.len().min(200)].escape_ascii())
+}
+
 /// These arguments in every folder with every input: what is written begins so, and is only that where it is whole.
 fn answered(
     test: &mut Test,
@@ -57,7 +63,7 @@ fn answered(
             let is_begin = seen.sound.starts_with(begin.as_bytes()) && seen.sound.ends_with(b"\n") && !is_whole;
             let sound = if is_begin { &seen.sound } else { begin.as_bytes() };
             same(&Seen::written(sound, &before), &seen)
-                .map_err(|difference| format!("{program} {}: {difference}", arguments[0].escape_ascii()))?;
+                .map_err(|difference| format!("{}: {difference}", shown(program, arguments)))?;
         }
     }
     Ok(())
@@ -70,28 +76,22 @@ fn unread(test: &mut Test, program: &'static str, arguments: &[&[u8]]) -> Result
     test.shell(&text, &other_files(), &bytes, &Seen::written(&bytes, &other_files()))
 }
 
-pub fn help_and_version(test: &mut Test, program: &'static str) -> Result<(), Difference> {
-    answered(test, program, &[b"--help"], usage(program), false)?;
-    answered(test, program, &[b"--version"], &format!("{program} (Fonddrys) 1.0\n"), true)?;
-    unread(test, program, &[b"--help"])?;
-    unread(test, program, &[b"--version"])
-}
-
 /// The usage line and nothing else.
 pub fn not_taken(test: &mut Test, program: &'static str, arguments: &[&[u8]]) -> Result<(), Difference> {
     unread(test, program, arguments)?;
     for (before, input) in folders(test).iter().cycle().zip(INPUTS) {
         let run = Run { arguments, ..Run::of(program, input) };
-        let case =
-            format!("{program} {}", arguments.concat().iter().take(40).copied().collect::<Vec<u8>>().escape_ascii());
-        test.expect(&case, before, run, &Seen::nothing_but(usage(program), before))?;
+        test.expect(&shown(program, arguments), before, run, &Seen::nothing_but(usage(program), before))?;
     }
     Ok(())
 }
 
 /// What every program answers alike.
 pub fn every(test: &mut Test, program: &'static str) -> Result<(), Difference> {
-    help_and_version(test, program)?;
+    answered(test, program, &[b"--help"], usage(program), false)?;
+    answered(test, program, &[b"--version"], &format!("{program} (Fonddrys) 1.0\n"), true)?;
+    unread(test, program, &[b"--help"])?;
+    unread(test, program, &[b"--version"])?;
     for arguments in NOT_TAKEN {
         not_taken(test, program, arguments)?;
     }

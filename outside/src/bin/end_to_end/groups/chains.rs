@@ -3,9 +3,9 @@
 use outside::checks::sounds::Sound;
 use outside::checks::Difference;
 
-use super::desk::any_order;
+use super::desk::{any_order, split};
 use crate::expected::{self, house_sheet};
-use crate::folder::{and_file, with_sheet, Contents, SHEET_NAME};
+use crate::folder::{and_file, file_in, with_sheet, Contents, NEW_NAME, SHEET_NAME};
 use crate::run::{DESK, HOUSE, PLAY};
 use crate::seen::Seen;
 use crate::test::Test;
@@ -14,8 +14,7 @@ const FRAMES: usize = 20_000;
 
 /// Desk with these orders, as a shell takes it.
 fn desk(test: &Test, orders: &str) -> Vec<u8> {
-    let words: Vec<&[u8]> = orders.split(' ').map(str::as_bytes).collect();
-    test.setup.in_shell(DESK, &words)
+    test.setup.in_shell(DESK, &split(orders))
 }
 
 /// House and a desk for each of these, joined by pipes.
@@ -27,10 +26,7 @@ fn chain(test: &Test, orders: &[&str]) -> Vec<u8> {
 
 /// The sheet after these orders.
 fn ordered(sheet: Vec<u8>, orders: &[&str]) -> Vec<u8> {
-    orders.iter().fold(sheet, |sheet, orders| {
-        let words: Vec<&[u8]> = orders.split(' ').map(str::as_bytes).collect();
-        expected::desk(&words, &sheet, &Contents::new()).sound
-    })
+    orders.iter().fold(sheet, |sheet, orders| expected::desk(&split(orders), &sheet, &Contents::new()).sound)
 }
 
 /// The sheet that comes out of a chain, and that of one desk with all orders.
@@ -56,26 +52,17 @@ fn played(test: &mut Test, orders: &[&str], bytes: &[u8]) -> Result<(), Differen
 /// A chain, and an order more between two sounds.
 fn played_on(test: &mut Test, orders: &[&str], more: &str, bytes: &[u8]) -> Result<(), Difference> {
     let (first, second) = bytes.split_at(bytes.len() / 8 * 4);
-    let (play, more_text) = (test.setup.in_shell(PLAY, &[]), desk(test, more));
-    let text: [&[u8]; 7] = [
-        &chain(test, orders),
-        b" >strip.sht; ",
-        &play,
-        b" <first; ",
-        &more_text,
-        b" <strip.new >strip.sht; ",
-        &[&play[..], b" <second"].concat(),
-    ];
+    let [begin, play, more_text] = [chain(test, orders), test.setup.in_shell(PLAY, &[]), desk(test, more)];
+    let middle: [&[u8]; 3] = [b" <first; ", &more_text, b" <strip.new >strip.sht; "];
+    let text = [&begin[..], b" >strip.sht; ", &play, &middle.concat(), &play, b" <second"].concat();
     let begun = expected::play(&with_sheet(&ordered(house_sheet(), orders)), first, &mut test.met);
-    let crate::folder::Entry::File(new) = &begun.after[crate::folder::NEW_NAME] else {
-        return Err("no sheet in the middle".to_string());
-    };
+    let new = file_in(&begun.after, NEW_NAME).unwrap_or_default().to_vec();
     let before = and_file(&and_file(&Contents::new(), "first", first), "second", second);
-    let middle = and_file(&before, SHEET_NAME, &ordered(new.clone(), &[more]));
+    let middle = and_file(&before, SHEET_NAME, &ordered(new, &[more]));
     let mut expected = expected::play(&middle, second, &mut test.met);
     expected.sound.splice(..0, begun.sound);
     test.frames += expected.sound.len() as u64 / 4;
-    test.shell(&text.concat(), &before, &[], &expected)
+    test.shell(&text, &before, &[], &expected)
 }
 
 pub fn all(test: &mut Test) -> Result<(), Difference> {

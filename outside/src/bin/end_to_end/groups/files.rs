@@ -8,7 +8,7 @@ use outside::checks::sounds::Sound;
 use outside::checks::Difference;
 
 use crate::expected;
-use crate::folder::{and, system_fault, with_sheet, without_and_with_old, Contents, Entry, Folder};
+use crate::folder::{and, file_in, system_fault, with_sheet, without_and_with_old, Contents, Entry, Folder};
 use crate::folder::{ELSEWHERE, NEW_NAME, OLD, PART_NAME, SHEET_NAME};
 use crate::run::{seen, without_rights, Input, Run, Way, PLAY};
 use crate::seen::{same, Seen};
@@ -125,14 +125,12 @@ fn not_begun(test: &mut Test, material: &Material) -> Result<(), Difference> {
 
 /// Files may have no bytes: the sheet is told, and after it a tail.
 fn unwritten(test: &mut Test, material: &Material) -> Result<(), Difference> {
-    let Entry::File(new) = &material.expected.after[NEW_NAME] else {
-        return Err("the material has no sheet".to_string());
-    };
+    let new = file_in(&material.expected.after, NEW_NAME).unwrap_or_default();
     for before in without_and_with_old(&material.sheet) {
         for tail in 0..4 {
             let bytes = [&material.bytes[..], &[99; 3][..tail]].concat();
             let told = if tail > 0 { "5\n" } else { "" };
-            let errors = [b"strip.new: File too large\n", &new[..], told.as_bytes()].concat();
+            let errors = [b"strip.new: File too large\n", new, told.as_bytes()].concat();
             let expected = Seen { errors, after: before.clone(), ..material.expected.clone() };
             let run = Run { way: Way::Shell("ulimit -f 0; trap '' XFSZ", ""), ..Run::of(PLAY, Input::Pipe(&bytes)) };
             test.expect(&format!("files of no bytes, a tail of {tail}"), &before, run, &expected)?;

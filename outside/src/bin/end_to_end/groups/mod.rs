@@ -5,6 +5,7 @@ mod arguments;
 mod bad_sheets;
 mod chains;
 mod desk;
+mod desk_arguments;
 mod figures;
 mod files;
 mod house;
@@ -16,21 +17,20 @@ use outside::checks::Difference;
 
 use crate::test::Test;
 
+/// The cases of a group.
+type Cases = fn(&mut Test) -> Result<(), Difference>;
+
 /// A group of cases: its name, what it tries, the seed of its random numbers and what it runs.
 #[derive(Clone, Copy)]
 pub struct Group {
     pub name: &'static str,
     pub what: &'static str,
     pub seed: u64,
-    pub run: fn(&mut Test) -> Result<(), Difference>,
+    pub run: Cases,
 }
 
-const fn group(
-    name: &'static str,
-    what: &'static str,
-    run: fn(&mut Test) -> Result<(), Difference>,
-    number: u64,
-) -> Group {
+/// A group with the seed of this number.
+const fn group(name: &'static str, what: &'static str, run: Cases, number: u64) -> Group {
     Group { name, what, seed: 0xF0DD_00D0 + number, run }
 }
 
@@ -49,7 +49,7 @@ pub const GROUPS: [Group; 15] = [
     group("house", "the cleared house unit's sheet, whatever the input is; help, version, usage", house::all, 14),
     group("desk orders", "every side and band on random sheets, all positions, lists of orders, odd pieces", desk::orders, 8),
     group("desk refusals", "the sheet's numbers ahead of the orders', and streams that fail", desk::refusals, 9),
-    group("desk arguments", "badly written, missing and needless ones; help, version", desk::arguments, 10),
+    group("desk arguments", "badly written, missing and needless ones; help, version", desk_arguments::all, 10),
     group("chains", "house, desk and play one after the other", chains::all, 11),
 ];
 

@@ -4,7 +4,7 @@ use outside::checks::sounds::Sound;
 use outside::checks::Difference;
 
 use crate::expected;
-use crate::folder::{and_file, with_sheet, without_and_with_old, Contents, Entry, NEW_NAME};
+use crate::folder::{and_file, file_in, with_sheet, without_and_with_old, Contents, NEW_NAME};
 use crate::run::{Input, Run, PLAY};
 use crate::seen::{same, Seen};
 use crate::test::Test;
@@ -84,10 +84,8 @@ pub fn chunks(test: &mut Test) -> Result<(), Difference> {
 /// A run in a folder with this sheet, and the sheet that it wrote.
 fn with_new_sheet(test: &mut Test, before: &Contents, bytes: &[u8]) -> Result<(Seen, Vec<u8>), Difference> {
     let seen = test.run(before, Run::of(PLAY, Input::File(bytes)))?;
-    match seen.after.get(NEW_NAME) {
-        Some(Entry::File(new)) => Ok((seen.clone(), new.clone())),
-        _ => Err("no strip.new was written".to_string()),
-    }
+    let new = file_in(&seen.after, NEW_NAME).ok_or("no strip.new was written")?.to_vec();
+    Ok((seen, new))
 }
 
 /// A sound cut in two: a second run, on from the first one's sheet, gives what one run over both inputs gives. Only the
