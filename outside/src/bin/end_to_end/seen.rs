@@ -1,81 +1,68 @@
 //! What a run shows to the outside, and how two of these differ.
 
+use std::os::unix::process::ExitStatusExt;
+use std::process::ExitStatus;
+
 use outside::checks::Difference;
 
 use super::folder::{Contents, Entry};
-use super::session::Ending;
 
 /// Everything that a run leaves behind.
 #[derive(Clone, PartialEq)]
 pub struct Seen {
+    /// Standard output.
     pub sound: Vec<u8>,
+    /// Standard error.
     pub errors: Vec<u8>,
     pub after: Contents,
-    pub ending: Ending,
+    pub ending: ExitStatus,
 }
 
 impl Seen {
-    /// A run that plays nothing, changes nothing and says this.
+    /// A run that writes nothing, changes nothing and says this.
     pub fn nothing_but(errors: &str, before: &Contents) -> Seen {
-        Seen { sound: Vec::new(), errors: errors.as_bytes().to_vec(), after: before.clone(), ending: Ending::Status(0) }
+        Seen { errors: errors.into(), ..Seen::written(&[], before) }
+    }
+
+    /// A run that writes this to standard output, says nothing and changes nothing.
+    pub fn written(bytes: &[u8], before: &Contents) -> Seen {
+        Seen { sound: bytes.to_vec(), errors: Vec::new(), after: before.clone(), ending: ExitStatus::from_raw(0) }
     }
 }
 
-/// The first place where two lists of bytes differ, in words.
-fn first_difference(expected: &[u8], got: &[u8]) -> String {
-    let pairs = expected.iter().zip(got);
-    let same = pairs.take_while(|(one, other)| one == other).count();
-    let lengths = format!("{} bytes expected, {} got", expected.len(), got.len());
-    match (expected.get(same), got.get(same)) {
-        (Some(one), Some(other)) => {
-            format!("{lengths}; byte {same} should be {one} and is {other}")
-        }
-        _ => format!("{lengths}; the same up to byte {same}"),
+/// How two lists of bytes differ: their lengths, and what stands from the first different byte on.
+fn same_bytes(what: &str, expected: &[u8], got: &[u8]) -> Result<(), Difference> {
+    if expected == got {
+        return Ok(());
+    }
+    let same = expected.iter().zip(got).take_while(|(one, other)| one == other).count();
+    let shown = |bytes: &[u8]| bytes[same..].iter().take(80).copied().collect::<Vec<u8>>();
+    Err(format!(
+        "{what}: {} bytes expected, {} got; from byte {same} on \"{}\" expected, \"{}\" got",
+        expected.len(),
+        got.len(),
+        shown(expected).escape_ascii(),
+        shown(got).escape_ascii(),
+    ))
+}
+
+/// An entry of a folder as bytes that can be shown.
+fn shown(entry: Option<&Entry>) -> Vec<u8> {
+    match entry {
+        Some(Entry::File(bytes)) => bytes.clone(),
+        Some(Entry::Folder) => b"(a folder)".to_vec(),
+        Some(Entry::Link(target)) => format!("(a link to {target})").into_bytes(),
+        Some(Entry::Second(first)) => format!("(a second name of {first})").into_bytes(),
+        None => b"(nothing)".to_vec(),
     }
 }
 
-/// Bytes as text, not too much of it.
-fn quoted(bytes: &[u8]) -> String {
-    let shown = &bytes[..bytes.len().min(200)];
-    format!("{:?}", String::from_utf8_lossy(shown))
-}
-
-fn names(contents: &Contents) -> String {
-    let names: Vec<&str> = contents.keys().map(String::as_str).collect();
-    names.join(", ")
-}
-
-/// The lines of two texts that differ first.
-fn first_line(expected: &[u8], got: &[u8]) -> String {
-    let lines = |bytes: &[u8]| -> Vec<Vec<u8>> {
-        let lines = bytes.split(|&byte| byte == b'\n');
-        lines.map(<[u8]>::to_vec).collect()
-    };
-    let (expected, got) = (lines(expected), lines(got));
-    let mut pairs = expected.iter().zip(&got).enumerate();
-    match pairs.find(|(_, (one, other))| one != other) {
-        Some((place, (one, other))) => {
-            let [one, other] = [one, other].map(|line| quoted(line));
-            format!("line {}: {one} expected, {other} got", place + 1)
-        }
-        None => format!("{} lines expected, {} got", expected.len(), got.len()),
-    }
-}
-
-fn folder_difference(expected: &Contents, got: &Contents) -> Result<(), Difference> {
-    if names(expected) != names(got) {
-        return Err(format!("the folder should hold {} and holds {}", names(expected), names(got)));
-    }
-    for (name, entry) in expected {
-        match (entry, &got[name]) {
-            (Entry::File(one), Entry::File(other)) if one != other => {
-                let place = first_difference(one, other);
-                return Err(format!("{name}: {place}; {}", first_line(one, other)));
-            }
-            (one, other) if one != other => {
-                return Err(format!("{name} is no longer what it was"));
-            }
-            _ => {}
+fn same_contents(expected: &Contents, got: &Contents) -> Result<(), Difference> {
+    for name in expected.keys().chain(got.keys()) {
+        let [one, other] = [expected, got].map(|contents| contents.get(name));
+        if one != other {
+            same_bytes(name, &shown(one), &shown(other))?;
+            return Err(format!("{name} is no longer what it was"));
         }
     }
     Ok(())
@@ -83,16 +70,11 @@ fn folder_difference(expected: &Contents, got: &Contents) -> Result<(), Differen
 
 /// Says how a run differs from the expected one, if it does.
 pub fn same(expected: &Seen, got: &Seen) -> Result<(), Difference> {
-    if expected.errors != got.errors {
-        return Err(format!("standard error should be {} and is {}", quoted(&expected.errors), quoted(&got.errors)));
-    }
-    if expected.sound != got.sound {
-        let place = first_difference(&expected.sound, &got.sound);
-        return Err(format!("standard output: {place}"));
-    }
-    folder_difference(&expected.after, &got.after)?;
+    same_bytes("standard error", &expected.errors, &got.errors)?;
+    same_bytes("standard output", &expected.sound, &got.sound)?;
+    same_contents(&expected.after, &got.after)?;
     if expected.ending != got.ending {
-        return Err(format!("it should end with {:?} and ended with {:?}", expected.ending, got.ending));
+        return Err(format!("the end should be \"{}\" and is \"{}\"", expected.ending, got.ending));
     }
     Ok(())
 }

@@ -1,65 +1,57 @@
-//! Shows that the tests can fail: they pass the right actor and find each wrong
-//! one.
+//! Shows that the tests can fail: they pass the programs through a wrapper that spoils nothing, and find each wrong one.
 
 use std::time::Duration;
 
 use outside::checks::Difference;
 
-use super::actor::fault::{Wrong, RIGHT, WRONG};
-use super::groups::{Tester, GROUPS};
-use super::program::{Program, DESK, HOUSE, PLAY};
+use super::groups::{named, GROUPS};
+use super::run::{DESK, HOUSE, PLAY};
+use super::test::{Setup, Test, Wrapper};
+use super::wrong::{Wrong, PRELUDE, WRONG};
 
 /// Short sounds are enough for these.
 const SOUNDS: u64 = 6;
 const FRAMES: usize = 20_000;
-/// A right actor may be slow; a wrong one is not waited for.
-const LONG: Duration = Duration::from_secs(20);
+/// A wrong program is not waited for.
 const SHORT: Duration = Duration::from_millis(300);
 
-fn tester(name: &str, patience: Duration) -> Result<Tester, Difference> {
-    let actor = |role: &str| Program::actor(name, role).map_err(|error| format!("this program itself: {error}"));
-    Ok(Tester {
-        program: actor(PLAY)?,
-        house: actor(HOUSE)?,
-        desk: actor(DESK)?,
-        sounds: SOUNDS,
-        frames: FRAMES,
-        patience,
-    })
+/// These programs with some of them wrapped.
+fn wrapped(setup: &Setup, programs: &'static [&'static str], text: &str, patience: Duration) -> Setup {
+    let wrapper = Some(Wrapper { programs, text: format!("{PRELUDE}{text}") });
+    Setup { wrapper, sounds: SOUNDS, frames: FRAMES, patience, ..setup.clone() }
 }
 
-/// Every group passes the right actor.
-fn right() -> Result<(), Difference> {
-    let tester = tester(RIGHT, LONG)?;
+/// Every group passes what only starts the real program.
+fn right(setup: &Setup) -> Result<(), Difference> {
+    let setup = wrapped(setup, &[PLAY, HOUSE, DESK], r#"exec "$0" "$@""#, setup.patience);
     let mut runs = 0;
     for group in GROUPS {
-        let passed = (group.run)(&tester);
-        runs += passed.map_err(|difference| format!("right, {}: {difference}", group.name))?.runs;
+        let mut test = Test::new(setup.clone(), group.seed);
+        (group.run)(&mut test).map_err(|difference| format!("right, {}: {difference}", group.name))?;
+        runs += test.runs;
     }
     println!("  right: passed by all {} groups, {runs} runs", GROUPS.len());
     Ok(())
 }
 
-/// Every group that ought to find this wrong actor must do so.
-fn unmask(wrong: &Wrong) -> Result<(), Difference> {
-    let tester = tester(wrong.name, SHORT)?;
-    for group in wrong.found_by {
-        if (group.run)(&tester).is_ok() {
-            return Err(format!("{}: not found by {}", wrong.name, group.name));
+/// Every group that ought to find this wrong program must do so.
+fn unmask(setup: &Setup, (name, what, programs, found_by, text): Wrong) -> Result<(), Difference> {
+    let setup = wrapped(setup, programs, text, SHORT);
+    for group in found_by.split(", ") {
+        let group = named(group)?;
+        if (group.run)(&mut Test::new(setup.clone(), group.seed)).is_ok() {
+            return Err(format!("{name}: not found by {}", group.name));
         }
     }
-    let groups: Vec<&str> = wrong.found_by.iter().map(|group| group.name).collect();
-    let Wrong { name, what, .. } = wrong;
-    println!("  {name} ({what}): found by {}", groups.join(", "));
+    println!("  {name} ({what}): found by {found_by}");
     Ok(())
 }
 
-pub fn run() -> Result<(), Difference> {
-    println!("Players of the tests' own:");
-    right()?;
-    for wrong in &WRONG {
-        unmask(wrong)?;
+pub fn run(setup: Setup) -> Result<(), Difference> {
+    right(&setup)?;
+    for wrong in WRONG {
+        unmask(&setup, wrong)?;
     }
-    println!("  {} wrong players found", WRONG.len());
+    println!("  {} wrong programs found", WRONG.len());
     Ok(())
 }

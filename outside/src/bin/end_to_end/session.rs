@@ -1,18 +1,15 @@
-//! A program under way: it is fed, its sound and its errors are collected, and
-//! where it takes too long it is ended.
+//! A program under way: it is fed, its sound and its errors are collected, and where it takes too long it is ended.
 
-use std::io::Write;
+use std::io::{Read, Write};
 use std::os::fd::AsFd;
-use std::os::unix::process::ExitStatusExt;
 use std::process::{Child, ChildStdin, Command, ExitStatus, Stdio};
-use std::sync::{Arc, Mutex};
-use std::thread;
+use std::sync::atomic::{AtomicUsize, Ordering};
+use std::sync::Arc;
+use std::thread::{self, JoinHandle};
 use std::time::{Duration, Instant};
 
 use outside::checks::Difference;
 use outside::system;
-
-use super::threads::{lock, Collector, Watch};
 
 /// The longest that a run may take.
 const LIMIT: Duration = Duration::from_secs(60);
@@ -21,56 +18,61 @@ const PIPE_ROOM: i32 = 1 << 20;
 /// How long to wait before looking again.
 const GLANCE: Duration = Duration::from_micros(100);
 
-/// How a program ended.
-#[derive(Clone, Copy, Debug, PartialEq)]
-pub enum Ending {
-    Status(i32),
-    Signal(i32),
+/// Takes what comes out of a pipe, all of it or so many bytes.
+struct Collector {
+    count: Arc<AtomicUsize>,
+    thread: JoinHandle<Vec<u8>>,
 }
 
-impl Ending {
-    fn of(status: ExitStatus) -> Ending {
-        match status.code() {
-            Some(code) => Ending::Status(code),
-            None => Ending::Signal(status.signal().unwrap_or(0)),
-        }
+impl Collector {
+    fn new(pipe: impl Read + Send + 'static, most: usize) -> Collector {
+        let count = Arc::new(AtomicUsize::new(0));
+        let counted = Arc::clone(&count);
+        let thread = thread::spawn(move || {
+            let mut pipe = pipe.take(most as u64);
+            let (mut bytes, mut buffer) = (Vec::new(), vec![0; 65_536]);
+            while let Ok(more @ 1..) = pipe.read(&mut buffer) {
+                bytes.extend(&buffer[..more]);
+                counted.store(bytes.len(), Ordering::Relaxed);
+            }
+            bytes
+        });
+        Collector { count, thread }
+    }
+
+    /// All that came, once the pipe is at its end. A collector that failed gives nothing, which shows.
+    fn end(self) -> Vec<u8> {
+        self.thread.join().unwrap_or_default()
     }
 }
 
 /// A program under way.
 pub struct Session {
-    child: Arc<Mutex<Child>>,
+    child: Child,
     input: Option<ChildStdin>,
     sound: Option<Collector>,
     errors: Option<Collector>,
-    watch: Option<Watch>,
 }
 
 /// What a program left behind.
 pub struct Ended {
     pub sound: Vec<u8>,
     pub errors: Vec<u8>,
-    pub ending: Ending,
+    pub ending: ExitStatus,
 }
 
 impl Session {
-    /// Starts a program whose errors go to a pipe. Where its sound goes to one,
-    /// that is closed after so many bytes.
+    /// Starts a program whose errors go to a pipe. Where its sound goes to one, that is closed after so many bytes.
     pub fn start(mut command: Command, most_sound: usize) -> Result<Session, Difference> {
         command.stderr(Stdio::piped());
-        let started = command.spawn();
-        let mut child = started.map_err(|error| format!("can't be started: {error}"))?;
+        let mut child = command.spawn().map_err(|error| format!("can't be started: {error}"))?;
         let input = child.stdin.take();
         if let Some(pipe) = &input {
             system::widen_pipe(pipe.as_fd(), PIPE_ROOM);
         }
-        let sound = child.stdout.take().filter(|_| most_sound > 0);
-        let sound = sound.map(|pipe| Collector::new(pipe, most_sound));
-        let errors = child.stderr.take();
-        let errors = errors.map(|pipe| Collector::new(pipe, usize::MAX));
-        let child = Arc::new(Mutex::new(child));
-        let watch = Some(Watch::new(Arc::clone(&child), LIMIT));
-        Ok(Session { child, input, sound, errors, watch })
+        let sound = child.stdout.take().map(|pipe| Collector::new(pipe, most_sound));
+        let errors = child.stderr.take().map(|pipe| Collector::new(pipe, usize::MAX));
+        Ok(Session { child, input, sound, errors })
     }
 
     /// Writes to the program's input. A program that no longer reads loses it.
@@ -82,11 +84,8 @@ impl Session {
 
     /// Waits until the program has read all of its input; false where it did not.
     pub fn wait_until_read(&mut self, patience: Duration) -> bool {
-        let Some(input) = &self.input else {
-            return true;
-        };
         let begun = Instant::now();
-        while system::unread(input.as_fd()) > 0 {
+        while self.input.as_ref().is_some_and(|input| system::unread(input.as_fd()) > 0) {
             if begun.elapsed() > patience || self.has_ended() {
                 return false;
             }
@@ -109,36 +108,40 @@ impl Session {
 
     /// The bytes of sound up to now.
     pub fn sound_count(&self) -> usize {
-        self.sound.as_ref().map_or(0, Collector::count)
+        self.sound.as_ref().map_or(0, |sound| sound.count.load(Ordering::Relaxed))
     }
 
-    /// Ends the program from outside.
+    /// Ends the program from outside. One that has ended can't be ended again.
     pub fn kill(&mut self) {
-        // One that has ended can't be ended again.
-        let _ = lock(&self.child).kill();
+        let _ = self.child.kill();
     }
 
-    fn has_ended(&self) -> bool {
-        !matches!(lock(&self.child).try_wait(), Ok(None))
+    fn has_ended(&mut self) -> bool {
+        !matches!(self.child.try_wait(), Ok(None))
     }
 
-    /// Closes the input and waits for the end of the program. Its errors come to
-    /// their end with it, mostly, so these are waited for first.
-    pub fn end(mut self) -> Result<Ended, Difference> {
-        drop(self.input.take());
+    /// Sends the rest of the input, closes it and waits for the end of the program.
+    pub fn end(mut self, rest: &[u8]) -> Result<Ended, Difference> {
+        let input = self.input.take();
+        let ending = thread::scope(|scope| {
+            // A program that no longer reads loses the rest.
+            scope.spawn(move || input.map(|mut input| input.write_all(rest)));
+            self.wait()
+        })?;
         let collected = |pipe: Option<Collector>| pipe.map_or(Vec::new(), Collector::end);
-        let errors = collected(self.errors.take());
-        let sound = collected(self.sound.take());
+        Ok(Ended { sound: collected(self.sound.take()), errors: collected(self.errors.take()), ending })
+    }
+
+    fn wait(&mut self) -> Result<ExitStatus, Difference> {
+        let begun = Instant::now();
         while !self.has_ended() {
+            if begun.elapsed() > LIMIT {
+                self.kill();
+                return Err(format!("it ran longer than {LIMIT:?}"));
+            }
             thread::sleep(GLANCE);
         }
-        let status = lock(&self.child).wait();
-        let status = status.map_err(|error| format!("can't be waited for: {error}"))?;
-        if self.watch.take().is_some_and(Watch::end) {
-            return Err(format!("it ran longer than {LIMIT:?}"));
-        }
-        let ending = Ending::of(status);
-        Ok(Ended { sound, errors, ending })
+        self.child.wait().map_err(|error| format!("can't be waited for: {error}"))
     }
 }
 
@@ -147,6 +150,6 @@ impl Drop for Session {
     fn drop(&mut self) {
         drop(self.input.take());
         self.kill();
-        let _ = lock(&self.child).wait();
+        let _ = self.child.wait();
     }
 }

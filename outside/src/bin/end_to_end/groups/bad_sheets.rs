@@ -1,9 +1,18 @@
-//! Sheets with something wrong.
+//! Sheets with something wrong, and play with them: one line with the number, nothing played, nothing written.
 
 use outside::checks::sheet_makers::SheetMaker;
 use outside::checks::sheet_places::{lines, Line};
 use outside::checks::sheet_texts::{any_field, badly_written};
-use outside::unit::sheet::{FIELD, SHEET};
+use outside::checks::Difference;
+use outside::unit::exact::Met;
+use outside::unit::sheet::SHEET;
+
+use super::figures::{typed_sheet, CLEARED};
+use crate::expected::{self, line};
+use crate::folder::{and_file, with_sheet, without_and_with_old, Contents, NEW_NAME, OLD, PART_NAME};
+use crate::run::{Input, Run, PLAY};
+use crate::seen::Seen;
+use crate::test::Test;
 
 /// Lines of each kind: the volume, a band, both sides, and a strip of each.
 const V: usize = 0;
@@ -13,7 +22,7 @@ const S: usize = 14;
 const R: usize = 22;
 const LAST: usize = 32;
 
-/// A number, where it is put wrongly - line, column, text - and the refusal.
+/// Where a number is put wrongly - line, column, text - and the refusal.
 const FIELDS: [(usize, usize, &str, u32); 29] = [
     (C, 0, "       -1", 8),
     (C, 0, "  8388608", 8),
@@ -46,81 +55,90 @@ const FIELDS: [(usize, usize, &str, u32); 29] = [
     (LAST, 3, "-99999999", 14),
 ];
 
-/// A sheet with one field changed.
-fn with_field(sheet: &[u8], line: &Line, column: usize, text: &[u8]) -> Vec<u8> {
+/// A sheet with other bytes from this place on.
+fn with_bytes(sheet: &[u8], place: usize, bytes: &[u8]) -> Vec<u8> {
     let mut changed = sheet.to_vec();
-    changed[line.field(column)].copy_from_slice(text);
+    changed[place..place + bytes.len()].copy_from_slice(bytes);
     changed
 }
 
-/// A sheet with one byte changed.
-fn with_byte(sheet: &[u8], place: usize, byte: u8) -> Vec<u8> {
-    let mut changed = sheet.to_vec();
-    changed[place] = byte;
-    changed
-}
-
-/// Sheets with a wrong letter or line end, and their refusal.
-fn wrong_bytes(sheet: &[u8]) -> Vec<(String, Vec<u8>, u32)> {
-    let lines = lines();
-    let mut wrong = Vec::new();
-    for (place, line) in [V, C, L, S, R, LAST].map(|place| (place, lines[place])) {
-        let small = with_byte(sheet, line.begin, line.letter + 32);
-        wrong.push((format!("small letter in line {place}"), small, 12));
-        for byte in [b'\r', b' ', 0] {
-            let end = with_byte(sheet, line.end(), byte);
-            wrong.push((format!("line {place} ends with {byte}"), end, 12));
-        }
-    }
-    let swapped = with_byte(&with_byte(sheet, lines[L].begin, b'R'), lines[R].begin, b'L');
-    wrong.push(("R before L".to_string(), swapped, 12));
-    wrong
-}
-
-/// Sheets of a wrong length.
-fn wrong_lengths(sheet: &[u8]) -> Vec<(String, Vec<u8>, u32)> {
-    let longer = |more: usize| [sheet, &vec![b'\n'; more]].concat();
-    let megabyte = sheet.repeat((1 << 20) / SHEET + 1);
-    let sheets =
-        [Vec::new(), sheet[..1].to_vec(), sheet[..SHEET - 1].to_vec(), longer(1), longer(2), sheet.repeat(2), megabyte];
-    let named = |sheet: Vec<u8>| (format!("{} bytes", sheet.len()), sheet, 11);
-    sheets.map(named).to_vec()
-}
-
-/// Every refused sheet that is made of this one by hand: its fault in words, the
-/// sheet and the number.
+/// Every refused sheet that is made of this one by hand: its fault in words, the sheet and the number.
 pub fn refused(sheet: &[u8]) -> Vec<(String, Vec<u8>, u32)> {
     let lines = lines();
-    let mut refused = wrong_lengths(sheet);
-    refused.extend(wrong_bytes(sheet));
+    let more = |bytes: &[u8]| [sheet, bytes].concat();
+    let megabyte = sheet.repeat((1 << 20) / SHEET + 1);
+    let lengths =
+        [vec![], sheet[..1].to_vec(), sheet[..SHEET - 1].to_vec(), more(b"\n"), more(b"\n\n"), more(sheet), megabyte];
+    let mut refused: Vec<_> = lengths.map(|sheet| (format!("{} bytes", sheet.len()), sheet, 11)).to_vec();
+    for place in [V, C, L, S, R, LAST] {
+        let Line { begin, letter, .. } = lines[place];
+        refused.push((format!("small letter in line {place}"), with_bytes(sheet, begin, &[letter + 32]), 12));
+        for byte in [b'\r', b' ', 0] {
+            refused.push((
+                format!("line {place} ends with {byte}"),
+                with_bytes(sheet, lines[place].end(), &[byte]),
+                12,
+            ));
+        }
+    }
+    let swapped = with_bytes(&with_bytes(sheet, lines[L].begin, b"R"), lines[R].begin, b"L");
+    refused.push(("R before L".to_string(), swapped, 12));
     for (line, column, text, number) in FIELDS {
-        let changed = with_field(sheet, &lines[line], column, text.as_bytes());
-        let case = format!("{text:?} in line {line}, column {column}");
-        refused.push((case, changed, number));
+        let changed = with_bytes(sheet, lines[line].field(column).start, text.as_bytes());
+        refused.push((format!("{text:?} in line {line}, column {column}"), changed, number));
     }
     refused
 }
 
-/// Any damage to any sheet; some are still accepted.
-pub struct Damage {
-    fields: Vec<[u8; FIELD]>,
+/// Random damage is tried so often.
+pub const DAMAGED: u64 = 60;
+
+/// Any damage to any sheet, by turns in one byte or in a field; some are still accepted.
+pub fn damaged(turn: u64, maker: &mut SheetMaker) -> Vec<u8> {
+    let sheet = maker.sheet(turn);
+    let random = &mut maker.random;
+    if turn.is_multiple_of(3) {
+        let place = random.below(SHEET as u64) as usize;
+        return with_bytes(&sheet, place, &[random.draw() as u8]);
+    }
+    let line = random.pick(&lines());
+    let column = random.below(line.count as u64) as usize;
+    let text = any_field(&badly_written(), random);
+    with_bytes(&sheet, line.field(column).start, &text)
 }
 
-impl Damage {
-    pub fn new() -> Damage {
-        Damage { fields: badly_written() }
-    }
+/// The input that is not to be played: whole frames and a tail.
+fn input(test: &mut Test) -> Vec<u8> {
+    let count = test.maker.random.below(400) as usize;
+    test.maker.bytes(count)
+}
 
-    /// A damaged sheet, by turns in one byte or in a field.
-    pub fn sheet(&self, turn: u64, maker: &mut SheetMaker) -> Vec<u8> {
-        let sheet = maker.sheet(turn);
-        let line = maker.random.pick(&lines());
-        if turn.is_multiple_of(3) {
-            let place = maker.random.below(SHEET as u64) as usize;
-            return with_byte(&sheet, place, maker.random.draw() as u8);
-        }
-        let column = maker.random.below(line.count as u64) as usize;
-        let text = any_field(&self.fields, &mut maker.random);
-        with_field(&sheet, &line, column, &text)
+/// A folder whose sheet is refused.
+fn nothing_happens(test: &mut Test, case: &str, folder: &Contents, number: u32) -> Result<(), Difference> {
+    let input = input(test);
+    let case = format!("{number}: {case}");
+    for before in without_and_with_old(folder) {
+        let expected = Seen::nothing_but(&line(number), &before);
+        let by_reader = expected::play(&before, &input, &mut Met::default());
+        assert!(expected == by_reader, "{case}: another refusal");
+        test.expect(&case, &before, Run::of(PLAY, Input::Pipe(&input)), &expected)?;
     }
+    Ok(())
+}
+
+pub fn all(test: &mut Test) -> Result<(), Difference> {
+    let cleared = typed_sheet(CLEARED);
+    for (case, sheet, number) in refused(&cleared) {
+        nothing_happens(test, &case, &with_sheet(&sheet), number)?;
+    }
+    let no_sheet = and_file(&Contents::new(), "strip.sheet", &cleared);
+    nothing_happens(test, "no strip.sht", &no_sheet, 11)?;
+    nothing_happens(test, "a part left over", &and_file(&no_sheet, PART_NAME, OLD), 11)?;
+    for turn in 0..DAMAGED {
+        let sheet = damaged(turn, &mut test.maker);
+        let input = input(test);
+        let before = and_file(&with_sheet(&sheet), NEW_NAME, OLD);
+        test.plain(&format!("damage {turn}"), &before, Input::Pipe(&input), &input)?;
+    }
+    Ok(())
 }

@@ -1,138 +1,193 @@
-//! Sheets that can't be read or written, and how `strip.new` is replaced.
+//! Sheets that can't be read or written, links, and how `strip.new` is replaced.
 
-use std::fs;
+use std::fs::{self, Permissions};
+use std::io;
+use std::os::unix::fs::PermissionsExt;
 
-use outside::checks::sheet_makers::SheetMaker;
 use outside::checks::sounds::Sound;
 use outside::checks::Difference;
 
-use super::{rights, Outcome, Tally, Tester};
 use crate::expected;
-use crate::folder::{and_file, and_folder, with_sheet, Contents, Entry, Folder};
-use crate::folder::{NEW_NAME, PART_NAME, SHEET_NAME};
-use crate::given::{self, Given, Input};
-use crate::program::Way;
+use crate::folder::{and, file_in, system_fault, with_sheet, without_and_with_old, Contents, Entry, Folder};
+use crate::folder::{ELSEWHERE, NEW_NAME, OLD, PART_NAME, SHEET_NAME};
+use crate::run::{seen, without_rights, Input, Run, Way, PLAY};
 use crate::seen::{same, Seen};
+use crate::test::{Setup, Test};
 
-pub const SEED: u64 = 0xF0DD_00D6;
-const OLD: &[u8] = b"an old sheet";
-
-pub fn folder_fault(error: std::io::Error) -> Difference {
-    format!("the folder: {error}")
+/// A sheet in its folder, frames, and the run that they ought to give.
+struct Material {
+    sheet: Contents,
+    bytes: Vec<u8>,
+    expected: Seen,
 }
 
-/// A sheet, frames, and the run that they ought to give.
-pub struct Material {
-    pub sheet: Contents,
-    pub bytes: Vec<u8>,
-    pub expected: Seen,
+fn old() -> Entry {
+    Entry::File(OLD.to_vec())
 }
 
-impl Material {
-    fn new(tally: &mut Tally) -> Material {
-        let mut maker = SheetMaker::new(SEED);
-        let sheet = with_sheet(&maker.sheet(4));
-        let bytes = Sound::Noise.block(20_000, &mut maker.random);
-        let expected = expected::run(&sheet, &bytes, &mut tally.met);
-        Material { sheet, bytes, expected }
+fn link(target: &str) -> Entry {
+    Entry::Link(target.to_string())
+}
+
+fn with(contents: &Contents, entries: Vec<(&str, Entry)>) -> Contents {
+    entries.into_iter().fold(contents.clone(), |contents, (name, entry)| and(&contents, name, entry))
+}
+
+/// What lies in the folder besides the sheet where `strip.new` is still written: a case, and the entries.
+fn passing() -> Vec<(&'static str, Vec<(&'static str, Entry)>)> {
+    let elsewhere = || (ELSEWHERE, old());
+    vec![
+        // Under its second name the old one stays as it was: the new one takes its place and isn't written over it.
+        ("an old strip.new with a second name", vec![(NEW_NAME, old()), ("strip.new.second", Entry::Second(NEW_NAME))]),
+        ("another file", vec![("strip.new.old", old())]),
+        ("strip.new.part left over", vec![("strip.new.old", old()), (PART_NAME, Entry::File(vec![b'9'; 5_000]))]),
+        ("strip.new.part empty, an old strip.new", vec![(NEW_NAME, old()), (PART_NAME, Entry::File(vec![]))]),
+        ("strip.new.part a link elsewhere", vec![(PART_NAME, link(ELSEWHERE)), elsewhere()]),
+        ("strip.new.part a link to nothing", vec![(PART_NAME, link(ELSEWHERE))]),
+        ("strip.new.part a link to a folder", vec![(PART_NAME, link(ELSEWHERE)), (ELSEWHERE, Entry::Folder)]),
+        ("strip.new.part a link to strip.sht", vec![(PART_NAME, link(SHEET_NAME))]),
+        ("strip.new.part a link to strip.new", vec![(NEW_NAME, old()), (PART_NAME, link(NEW_NAME))]),
+        ("strip.new.part a link to itself", vec![(PART_NAME, link(PART_NAME))]),
+        ("strip.new a link elsewhere", vec![(NEW_NAME, link(ELSEWHERE)), elsewhere()]),
+        ("strip.new a link to nothing", vec![(NEW_NAME, link(ELSEWHERE))]),
+        ("strip.new a link to strip.sht", vec![(NEW_NAME, link(SHEET_NAME))]),
+        ("both links elsewhere", vec![(NEW_NAME, link(ELSEWHERE)), (PART_NAME, link(ELSEWHERE)), elsewhere()]),
+    ]
+}
+
+/// The sheet is written: a part and links are gone, and all else stays as it was.
+fn passes(test: &mut Test, material: &Material) -> Result<(), Difference> {
+    let new = &material.expected.after[NEW_NAME];
+    for (case, entries) in passing() {
+        let before = with(&material.sheet, entries);
+        let mut after = and(&before, NEW_NAME, new.clone());
+        after.remove(PART_NAME);
+        after.values_mut().filter(|entry| matches!(entry, Entry::Second(_))).for_each(|entry| *entry = old());
+        let expected = Seen { after, ..material.expected.clone() };
+        test.expect(case, &before, Run::of(PLAY, Input::Pipe(&material.bytes)), &expected)?;
     }
+    // The sheet may be a link too.
+    let before =
+        with(&material.sheet, vec![(SHEET_NAME, link(ELSEWHERE)), (ELSEWHERE, material.sheet[SHEET_NAME].clone())]);
+    let expected = Seen { after: and(&before, NEW_NAME, new.clone()), ..material.expected.clone() };
+    test.expect("strip.sht a link", &before, Run::of(PLAY, Input::Pipe(&material.bytes)), &expected)
+}
 
-    /// The sheet that ought to be written.
-    fn new_sheet(&self) -> &[u8] {
-        match &self.expected.after[NEW_NAME] {
-            Entry::File(bytes) => bytes,
-            Entry::Folder => &[],
+const SHEET_A_FOLDER: &str = "strip.sht: Is a directory\n";
+const PART_A_FOLDER: &str = "strip.new.part: File exists\n";
+const NEW_A_FOLDER: &str = "strip.new: Is a directory\n";
+const NO_INPUT: &str = "standard input: closed\n";
+const NO_OUTPUT: &str = "standard output: closed\n";
+
+/// What keeps a pass from beginning: which names are folders, whether there is a sheet, what is closed, and the one line
+/// that is told. Where several apply it is that of the first.
+const NOT_BEGUN: [(&[&str], bool, &str, &str); 15] = [
+    (&[SHEET_NAME], true, "", SHEET_A_FOLDER),
+    (&[SHEET_NAME, PART_NAME], true, "", SHEET_A_FOLDER),
+    (&[SHEET_NAME, NEW_NAME], true, "", SHEET_A_FOLDER),
+    (&[SHEET_NAME, NEW_NAME], true, "<&-", SHEET_A_FOLDER),
+    (&[PART_NAME], false, "", "11\n"),
+    (&[NEW_NAME], false, "", "11\n"),
+    (&[NEW_NAME, PART_NAME], false, "<&- >&-", "11\n"),
+    (&[PART_NAME], true, "", PART_A_FOLDER),
+    (&[PART_NAME, NEW_NAME], true, "", PART_A_FOLDER),
+    (&[PART_NAME], true, "<&-", PART_A_FOLDER),
+    (&[NEW_NAME], true, "", NEW_A_FOLDER),
+    (&[NEW_NAME], true, "2>&-", ""),
+    (&[NEW_NAME], true, "<&-", NO_INPUT),
+    (&[NEW_NAME], true, ">&-", NO_OUTPUT),
+    (&[NEW_NAME], true, "<&- >&-", NO_INPUT),
+];
+
+/// Nothing is played and nothing changes, whatever the input is.
+fn not_begun(test: &mut Test, material: &Material) -> Result<(), Difference> {
+    let tail = &material.bytes[..4_001];
+    for (folders, has_sheet, closed, line) in NOT_BEGUN {
+        let sheet = if has_sheet { material.sheet.clone() } else { Contents::new() };
+        for begin in without_and_with_old(&sheet) {
+            let before = folders.iter().fold(begin, |contents, name| and(&contents, name, Entry::Folder));
+            let inputs = [
+                Input::Pipe(&material.bytes),
+                Input::File(tail),
+                Input::File(&[]),
+                Input::BrokenOff(tail),
+                Input::Folder,
+            ];
+            for input in inputs {
+                let run = Run { way: Way::Shell("", closed), ..Run::of(PLAY, input) };
+                let case = format!("{} folders, {closed}", folders.join(", "));
+                test.expect(&case, &before, run, &Seen::nothing_but(line, &before))?;
+            }
         }
     }
-
-    fn given(&self) -> Given<'_> {
-        Given::input(Input::Pipe(&self.bytes))
-    }
-
-    /// The right sound, with this line and the sheet on standard error, and
-    /// nothing changed.
-    fn sheet_told(&self, line: &str, before: &Contents) -> Seen {
-        Seen { errors: [line.as_bytes(), self.new_sheet()].concat(), after: before.clone(), ..self.expected.clone() }
-    }
+    Ok(())
 }
 
-/// The old `strip.new` has a second name. Under that it stays as it was: the new
-/// one takes its place and isn't written over it.
-fn replaced(tester: &Tester, material: &Material, tally: &mut Tally) -> Result<(), Difference> {
-    let before = and_file(&material.sheet, NEW_NAME, OLD);
-    let folder = Folder::new(&before).map_err(folder_fault)?;
-    let [new, kept] = [NEW_NAME, "kept"].map(|name| folder.path().join(name));
-    fs::hard_link(new, kept).map_err(folder_fault)?;
-    tally.runs += 1;
-    let given = material.given();
-    let seen = given::run(&tester.program, &folder, &given, tester.patience)?;
-    let mut expected = material.expected.clone();
-    expected.after = and_file(&expected.after, "kept", OLD);
-    same(&expected, &seen).map_err(|difference| format!("strip.new replaced: {difference}"))
-}
-
-/// A `strip.new.part` left over from elsewhere, and other files.
-fn left_over(tester: &Tester, material: &Material, tally: &mut Tally) -> Result<(), Difference> {
-    let mut expected = material.expected.clone();
-    let before = and_file(&material.sheet, "strip.new.old", OLD);
-    expected.after = and_file(&expected.after, "strip.new.old", OLD);
-    tester.expect("other files", &before, &material.given(), &expected, tally)?;
-    let before = and_file(&before, PART_NAME, &[b'9'; 5_000]);
-    let case = "a strip.new.part left over";
-    tester.expect(case, &before, &material.given(), &expected, tally)
-}
-
-/// `strip.new` is a folder: the sheet is told, and after it a tail.
-fn unreplaced(tester: &Tester, material: &Material, tally: &mut Tally) -> Result<(), Difference> {
-    let before = and_folder(&material.sheet, NEW_NAME);
-    for tail in 0..4 {
-        let mut expected = material.sheet_told("strip.new: Is a directory\n", &before);
-        if tail > 0 {
-            expected.errors.extend(b"5\n");
+/// Files may have no bytes: the sheet is told, and after it a tail.
+fn unwritten(test: &mut Test, material: &Material) -> Result<(), Difference> {
+    let new = file_in(&material.expected.after, NEW_NAME).unwrap_or_default();
+    for before in without_and_with_old(&material.sheet) {
+        for tail in 0..4 {
+            let bytes = [&material.bytes[..], &[99; 3][..tail]].concat();
+            let told = if tail > 0 { "5\n" } else { "" };
+            let errors = [b"strip.new: File too large\n", new, told.as_bytes()].concat();
+            let expected = Seen { errors, after: before.clone(), ..material.expected.clone() };
+            let run = Run { way: Way::Shell("ulimit -f 0; trap '' XFSZ", ""), ..Run::of(PLAY, Input::Pipe(&bytes)) };
+            test.expect(&format!("files of no bytes, a tail of {tail}"), &before, run, &expected)?;
         }
-        let bytes = [&material.bytes[..], &[99; 3][..tail]].concat();
-        let given = Given::input(Input::Pipe(&bytes));
-        let case = format!("strip.new is a folder, a tail of {tail}");
-        tester.expect(&case, &before, &given, &expected, tally)?;
     }
     Ok(())
 }
 
-/// Files may have no bytes: the sheet is told.
-fn unwritten(tester: &Tester, material: &Material, tally: &mut Tally) -> Result<(), Difference> {
-    let limited = Given { way: Way::Shell("ulimit -f 0; trap '' XFSZ", ""), ..material.given() };
-    for before in [&material.sheet, &and_file(&material.sheet, NEW_NAME, OLD)] {
-        let expected = material.sheet_told("strip.new: File too large\n", before);
-        tester.expect("files of no bytes", before, &limited, &expected, tally)?;
+/// The rights of all to the folder and to the sheet in it.
+fn set_rights(folder: &Folder, [of_folder, of_sheet]: [u32; 2]) -> io::Result<()> {
+    fs::set_permissions(folder.path().join(SHEET_NAME), Permissions::from_mode(of_sheet))?;
+    fs::set_permissions(folder.path(), Permissions::from_mode(of_folder))
+}
+
+/// Play in a place from which anybody may start it.
+fn for_anybody(setup: &Setup, place: &Folder) -> io::Result<Setup> {
+    let path = place.path().join(PLAY);
+    fs::copy(setup.home.join(PLAY), &path)?;
+    for path in [place.path(), path] {
+        fs::set_permissions(path, Permissions::from_mode(0o755))?;
+    }
+    Ok(Setup { home: place.path(), ..setup.clone() })
+}
+
+/// Folders and files without the rights that the program needs. The superuser has them always, so nobody starts the
+/// program then.
+fn rights(test: &mut Test, material: &Material) -> Result<(), Difference> {
+    let Some(way) = without_rights() else {
+        test.left_out.push("rights of folders and files");
+        return Ok(());
+    };
+    let place = Folder::new(&Contents::new()).map_err(system_fault)?;
+    let setup = for_anybody(&test.setup, &place).map_err(system_fault)?;
+    let run = Run { way, ..Run::of(PLAY, Input::Pipe(&material.bytes)) };
+    let sheet = &material.sheet;
+    for (case, modes, expected) in [
+        ("an unwritable folder", [0o555, 0o444], &Seen::nothing_but("strip.new.part: Permission denied\n", sheet)),
+        ("an unreadable sheet", [0o777, 0o000], &Seen::nothing_but("11\n", sheet)),
+        ("rights enough", [0o777, 0o444], &material.expected),
+    ] {
+        test.runs += 1;
+        let folder = Folder::new(sheet).map_err(system_fault)?;
+        set_rights(&folder, modes).map_err(system_fault)?;
+        let ended = run.to_its_end(setup.words(PLAY, &[]), &folder, setup.patience)?;
+        set_rights(&folder, [0o755, 0o644]).map_err(system_fault)?;
+        same(expected, &seen(ended, &folder)?).map_err(|difference| format!("{case}: {difference}"))?;
     }
     Ok(())
 }
 
-/// `strip.sht` is a folder, or `strip.new.part` is one: nothing is played.
-fn not_begun(tester: &Tester, material: &Material, tally: &mut Tally) -> Result<(), Difference> {
-    let given = material.given();
-    let sheet = and_folder(&Contents::new(), SHEET_NAME);
-    for before in [and_file(&sheet, NEW_NAME, OLD), sheet] {
-        let expected = Seen::nothing_but("strip.sht: Is a directory\n", &before);
-        tester.expect("strip.sht is a folder", &before, &given, &expected, tally)?;
-    }
-    let part = and_folder(&material.sheet, PART_NAME);
-    for before in [and_file(&part, NEW_NAME, OLD), part] {
-        let expected = Seen::nothing_but("strip.new.part: Is a directory\n", &before);
-        let case = "strip.new.part is a folder";
-        tester.expect(case, &before, &given, &expected, tally)?;
-    }
-    Ok(())
-}
-
-pub fn all(tester: &Tester) -> Outcome {
-    let mut tally = Tally::default();
-    let material = Material::new(&mut tally);
-    replaced(tester, &material, &mut tally)?;
-    left_over(tester, &material, &mut tally)?;
-    unreplaced(tester, &material, &mut tally)?;
-    unwritten(tester, &material, &mut tally)?;
-    not_begun(tester, &material, &mut tally)?;
-    rights::all(tester, &material, &mut tally)?;
-    Ok(tally)
+pub fn all(test: &mut Test) -> Result<(), Difference> {
+    let sheet = with_sheet(&test.maker.sheet(4));
+    let bytes = test.sound(Sound::Noise, 20_000);
+    let expected = expected::play(&sheet, &bytes, &mut test.met);
+    let material = Material { sheet, bytes, expected };
+    passes(test, &material)?;
+    unwritten(test, &material)?;
+    rights(test, &material)?;
+    not_begun(test, &material)
 }

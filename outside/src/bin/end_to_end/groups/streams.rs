@@ -1,170 +1,87 @@
 //! Faults of standard input and standard output, and closed ones.
 
-use outside::checks::sheet_makers::SheetMaker;
+use std::os::unix::process::ExitStatusExt;
+use std::process::ExitStatus;
+
 use outside::checks::sounds::Sound;
 use outside::checks::Difference;
 use outside::system::SIGPIPE;
 
-use super::{Outcome, Tally, Tester};
 use crate::expected;
-use crate::folder::{and_file, with_sheet, Contents, NEW_NAME};
-use crate::given::{Given, Input, Output};
-use crate::program::Way;
+use crate::folder::{with_sheet, without_and_with_old, Contents};
+use crate::run::{Input, Output, Run, Way, PLAY};
 use crate::seen::Seen;
-use crate::session::Ending;
+use crate::test::Test;
 
-pub const SEED: u64 = 0xF0DD_00D7;
 const FRAMES: usize = 200_000;
 
-/// A run of so many frames that stops: where its sound goes, how it is started,
-/// what it tells, how many bytes are heard and how it ends.
-#[derive(Clone, Copy)]
-struct Stop {
-    frames: usize,
-    output: Output,
-    way: Way,
-    line: &'static str,
-    heard: usize,
-    ending: Ending,
+/// A run of so many frames that stops: the case, where its sound goes, how it is started, what it tells, how many bytes
+/// are heard, and the signal that ends it, 0 for none.
+type Stop = (&'static str, usize, Output, Way, &'static str, usize, i32);
+
+const FULL: &str = "standard output: No space left on device\n";
+const TOO_LARGE: &str = "standard output: File too large\n";
+const BROKEN: &str = "standard output: Broken pipe\n";
+const NO_INPUT: &str = "standard input: closed\n";
+const NO_OUTPUT: &str = "standard output: closed\n";
+/// Room for a part of the sound.
+const LIMITED: Way = Way::Shell("ulimit -f 8; trap '' XFSZ", "");
+const UNBROKEN: Way = Way::Shell("trap '' PIPE", "");
+
+/// Closed streams; no room at all, and room for a part of the sound, of one write too; broken pipes, ignored and not.
+const STOPS: [Stop; 17] = [
+    ("input closed", FRAMES, Output::Pipe, Way::Shell("", "<&-"), NO_INPUT, 0, 0),
+    ("output closed", FRAMES, Output::Pipe, Way::Shell("", ">&-"), NO_OUTPUT, 0, 0),
+    ("both closed", FRAMES, Output::Pipe, Way::Shell("", "<&- >&-"), NO_INPUT, 0, 0),
+    ("error closed", FRAMES, Output::Pipe, Way::Shell("", "2>&-"), "", 0, 0),
+    ("input and error closed", FRAMES, Output::Pipe, Way::Shell("", "<&- 2>&-"), "", 0, 0),
+    ("output and error closed", FRAMES, Output::Pipe, Way::Shell("", ">&- 2>&-"), "", 0, 0),
+    ("a full device", 1, Output::Full, Way::Bare, FULL, 0, 0),
+    ("a full device", 2_000, Output::Full, Way::Bare, FULL, 0, 0),
+    ("a full device", FRAMES, Output::Full, Way::Bare, FULL, 0, 0),
+    ("a full file", 2_000, Output::File, LIMITED, TOO_LARGE, 4_096, 0),
+    ("a full file", FRAMES, Output::File, LIMITED, TOO_LARGE, 4_096, 0),
+    ("a broken pipe, ignored", FRAMES, Output::ClosedAfter(0), UNBROKEN, BROKEN, 0, 0),
+    ("a broken pipe, ignored", FRAMES, Output::ClosedAfter(1), UNBROKEN, BROKEN, 1, 0),
+    ("a broken pipe, ignored", FRAMES, Output::ClosedAfter(100_002), UNBROKEN, BROKEN, 100_002, 0),
+    ("a broken pipe", FRAMES, Output::ClosedAfter(0), Way::Bare, "", 0, SIGPIPE),
+    ("a broken pipe", FRAMES, Output::ClosedAfter(1), Way::Bare, "", 1, SIGPIPE),
+    ("a broken pipe", FRAMES, Output::ClosedAfter(100_002), Way::Bare, "", 100_002, SIGPIPE),
+];
+
+/// Bytes before a read fault, without an old `strip.new` and with one.
+const BEFORE_A_FAULT: [[usize; 5]; 2] = [[0, 4, 1, 7, 4_001], [4_000, 40_000, 3, 6, 40_002]];
+const BROKEN_OFF: &str = "standard input: Connection reset by peer\n";
+const A_FOLDER: &str = "standard input: Is a directory\n";
+
+/// An input that fails after these bytes: the whole frames are played and the sheet after them is written. A tail is
+/// told after the fault.
+fn read_fault(test: &mut Test, before: &Contents, input: Input, bytes: &[u8], fault: &str) -> Result<(), Difference> {
+    let mut expected = expected::play(before, bytes, &mut test.met);
+    expected.errors.splice(..0, fault.bytes());
+    test.expect(&format!("a fault after {} bytes", bytes.len()), before, Run::of(PLAY, input), &expected)
 }
 
-const STOP: Stop =
-    Stop { frames: FRAMES, output: Output::Pipe, way: Way::Bare, line: "", heard: 0, ending: Ending::Status(0) };
-
-/// The test under way: two folders with one sheet, without an old `strip.new`
-/// and with one, and a long sound.
-struct Test<'a> {
-    tester: &'a Tester,
-    tally: Tally,
-    folders: [Contents; 2],
-    bytes: Vec<u8>,
-    /// The sound of all of it.
-    sound: Vec<u8>,
-}
-
-impl Test<'_> {
-    fn new(tester: &Tester) -> Test<'_> {
-        let mut tally = Tally::default();
-        let mut maker = SheetMaker::new(SEED);
-        let sheet = with_sheet(&maker.sheet(4));
-        let with_old = and_file(&sheet, NEW_NAME, b"an old sheet");
-        let bytes = Sound::Noise.block(FRAMES, &mut maker.random);
-        let expected = expected::run(&sheet, &bytes, &mut tally.met);
-        Test { tester, tally, folders: [sheet, with_old], bytes, sound: expected.sound }
-    }
-
-    /// A read fault after so many bytes: the whole frames are played and the sheet
-    /// after them is written. A tail is told after the fault.
-    fn read_faults(&mut self) -> Result<(), Difference> {
-        let counts = [[0, 4, 1, 7, 4_001], [4_000, 40_000, 3, 6, 40_002]];
-        for (before, counts) in self.folders.clone().iter().zip(counts) {
-            for count in counts {
-                let case = format!("input broken off after {count} bytes");
-                let bytes = self.bytes[..count].to_vec();
-                let fault = b"standard input: Connection reset by peer\n";
-                self.read_fault(&case, before, Input::BrokenOff(&bytes), &bytes, fault)?;
-            }
-            let fault = b"standard input: Is a directory\n";
-            self.read_fault("input a folder", before, Input::Folder, &[], fault)?;
+pub fn all(test: &mut Test) -> Result<(), Difference> {
+    let sheet = with_sheet(&test.maker.sheet(4));
+    let folders = without_and_with_old(&sheet);
+    let noise = test.sound(Sound::Noise, FRAMES);
+    for (before, counts) in folders.iter().zip(BEFORE_A_FAULT) {
+        for bytes in counts.map(|count| &noise[..count]) {
+            read_fault(test, before, Input::BrokenOff(bytes), bytes, BROKEN_OFF)?;
         }
-        Ok(())
+        read_fault(test, before, Input::Folder, &[], A_FOLDER)?;
     }
-
-    /// An input that fails after these bytes.
-    fn read_fault(
-        &mut self,
-        case: &str,
-        before: &Contents,
-        input: Input,
-        bytes: &[u8],
-        fault: &[u8],
-    ) -> Result<(), Difference> {
-        let mut expected = expected::run(before, bytes, &mut self.tally.met);
-        expected.errors.splice(..0, fault.iter().copied());
-        let given = Given::input(input);
-        self.tester.expect(case, before, &given, &expected, &mut self.tally)
-    }
-
-    /// Runs that stop with nothing written, in both folders, by a file and by a
-    /// pipe.
-    fn stops(&mut self, case: &str, stop: Stop) -> Result<(), Difference> {
-        let bytes = &self.bytes[..4 * stop.frames];
-        for before in &self.folders {
+    let sound = expected::play(&sheet, &noise, &mut test.met).sound;
+    for (case, frames, output, way, line, heard, signal) in STOPS {
+        let bytes = &noise[..4 * frames];
+        for before in &folders {
+            let sound = sound[..heard].to_vec();
+            let expected = Seen { sound, ending: ExitStatus::from_raw(signal), ..Seen::nothing_but(line, before) };
             for input in [Input::File(bytes), Input::Pipe(bytes)] {
-                let (output, way) = (stop.output, stop.way);
-                let given = Given { input, output, way };
-                let expected = Seen {
-                    sound: self.sound[..stop.heard].to_vec(),
-                    ending: stop.ending,
-                    ..Seen::nothing_but(stop.line, before)
-                };
-                self.tester.expect(case, before, &given, &expected, &mut self.tally)?;
+                test.expect(case, before, Run { output, way, ..Run::of(PLAY, input) }, &expected)?;
             }
         }
-        Ok(())
     }
-
-    /// No room at all, and room for a part of the sound, of one write too.
-    fn no_room(&mut self) -> Result<(), Difference> {
-        for frames in [1, 2_000, FRAMES] {
-            let stop =
-                Stop { frames, output: Output::Full, line: "standard output: No space left on device\n", ..STOP };
-            self.stops(&format!("a full device, {frames} frames"), stop)?;
-        }
-        for frames in [2_000, FRAMES] {
-            let stop = Stop {
-                frames,
-                output: Output::File,
-                way: Way::Shell("ulimit -f 8; trap '' XFSZ", ""),
-                line: "standard output: File too large\n",
-                heard: 4_096,
-                ..STOP
-            };
-            self.stops(&format!("a full file, {frames} frames"), stop)?;
-        }
-        Ok(())
-    }
-
-    /// Broken pipes, ignored and not.
-    fn broken_pipes(&mut self) -> Result<(), Difference> {
-        for heard in [0, 1, 100_002] {
-            let case = format!("a pipe closed after {heard} bytes");
-            let output = Output::ClosedAfter(heard);
-            let stop = Stop {
-                output,
-                heard,
-                way: Way::Shell("trap '' PIPE", ""),
-                line: "standard output: Broken pipe\n",
-                ..STOP
-            };
-            self.stops(&case, stop)?;
-            let stop = Stop { output, heard, ending: Ending::Signal(SIGPIPE), ..STOP };
-            self.stops(&case, stop)?;
-        }
-        Ok(())
-    }
-
-    fn closed(&mut self) -> Result<(), Difference> {
-        for (closing, line) in [
-            ("<&-", "standard input: closed\n"),
-            (">&-", "standard output: closed\n"),
-            ("<&- >&-", "standard input: closed\n"),
-            ("2>&-", ""),
-            ("<&- 2>&-", ""),
-            (">&- 2>&-", ""),
-        ] {
-            let way = Way::Shell("", closing);
-            self.stops(closing, Stop { way, line, ..STOP })?;
-        }
-        Ok(())
-    }
-}
-
-pub fn all(tester: &Tester) -> Outcome {
-    let mut test = Test::new(tester);
-    test.read_faults()?;
-    test.closed()?;
-    test.no_room()?;
-    test.broken_pipes()?;
-    Ok(test.tally)
+    Ok(())
 }

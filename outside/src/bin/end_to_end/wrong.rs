@@ -1,0 +1,86 @@
+//! Programs that are wrong in one way each: a shell's text around the real one, whose path is `$0`. It spoils what the
+//! real one is given or what it leaves.
+
+use super::run::{DESK, HOUSE, PLAY};
+
+/// A wrong program: its name, what is wrong, which programs are so, the groups that must find it, and the text.
+pub type Wrong = (&'static str, &'static str, &'static [&'static str], &'static str, &'static str);
+
+/// What the texts use: `run` runs the real program and keeps its standard error, `tell` tells that.
+pub const PRELUDE: &str = r#"
+run() { exec 3>&1; said=$("$0" "$@" 2>&1 >&3 3>&-); }
+tell() { [ -z "$said" ] || printf '%s\n' "$said" >&2; }
+"#;
+
+const ALL: &[&str] = &[PLAY, HOUSE, DESK];
+
+#[rustfmt::skip]
+pub const WRONG: [Wrong; 33] = [
+    ("filled-tail", "three zero bytes stand behind the input", &[PLAY], "tails, chunks",
+        r#"{ cat; head -c 3 /dev/zero; } | "$0" "$@""#),
+    ("silent-tail", "a tail is not told", &[PLAY], "tails, chunks, live",
+        r#"run "$@"; [ "$said" = 5 ] || tell"#),
+    ("unsaved-tail", "a tail leaves no sheet", &[PLAY], "tails",
+        r#"run "$@"; tell; [ "$said" != 5 ] || rm strip.new"#),
+    ("copied-sheet", "strip.new is strip.sht again", &[PLAY], "figures, sounds, continued",
+        r#""$0" "$@"; [ ! -f strip.new ] || cp strip.sht strip.new"#),
+    ("sheet-after-refusal", "strip.new is there after every run", &[PLAY], "refused sheets",
+        r#""$0" "$@"; [ -e strip.new ] || : >strip.new"#),
+    ("sheet-begun-first", "strip.new is made empty at the start", &[PLAY], "refused sheets, live, streams",
+        r#"[ -d strip.new ] || : >strip.new; exec "$0" "$@""#),
+    ("number-alone", "a number has no line feed", ALL, "refused sheets, tails, desk refusals",
+        r#"run "$@"; printf %s "$said" >&2"#),
+    ("always-12", "every refusal is 12", ALL, "refused sheets, tails, desk refusals, chains",
+        r#"run "$@"; case $said in [0-9]|1[0-9]) said=12 ;; esac; tell"#),
+    ("number-as-status", "a refusal is the exit status too", ALL, "refused sheets, desk refusals",
+        r#"run "$@"; tell; case $said in 5) ;; [0-9]*) exit "$said" ;; esac"#),
+    ("one-read", "what one read gives is all of the input", &[PLAY], "chunks, live",
+        r#"dd bs=1M count=1 status=none | "$0" "$@""#),
+    ("begun-anew", "the sheet is read anew after a thousand frames", &[PLAY], "chunks, sounds, live",
+        r#"head -c 4000 | "$0" "$@"; exec "$0" "$@""#),
+    ("lost-frame", "a frame of the sound is lost after a thousand", &[PLAY], "sounds, chunks",
+        r#""$0" "$@" | { head -c 4000; head -c 4 >/dev/null; cat; }"#),
+    ("lost-flag", "the flags are not written", &[PLAY], "sounds",
+        r#""$0" "$@"; [ ! -f strip.new ] || sed -i 's/^\([LR].*\)1$/\10/' strip.new"#),
+    ("gain-at-target", "every gain is written as its target", &[PLAY], "figures, continued",
+        r#""$0" "$@"; [ ! -f strip.new ] || sed -i 's/^\(S.\{18\}\).\{9\}\(.\{9\}\)$/\1\2\2/' strip.new"#),
+    ("high-byte-first", "the sound's samples have their high byte first", &[PLAY], "figures, sounds",
+        r#""$0" "$@" | dd conv=swab status=none"#),
+    ("waits-for-more", "64 KiB are waited for before they are played", &[PLAY], "live",
+        r#"dd bs=64K iflag=fullblock status=none | "$0" "$@""#),
+    ("in-place", "strip.new is written over the old one", &[PLAY], "files",
+        r#"[ ! -f strip.new ] || ln -f strip.new kept; "$0" "$@"
+        [ ! -f kept ] || { cat strip.new >kept; mv kept strip.new; }"#),
+    ("followed-link", "a link strip.new.part is followed", &[PLAY], "files",
+        r#"[ ! -L strip.new.part ] || : >strip.new.part; exec "$0" "$@""#),
+    ("lost-sheet", "the sheet is not told where it can't be written", &[PLAY], "files",
+        r#"run "$@"; said=$(printf %s "$said" | grep -v '^[VCLRS]'); tell"#),
+    ("late-folder", "a folder in the place of strip.new is found after the sound", &[PLAY], "files",
+        r#"[ ! -d strip.new ] || { cat; exec </dev/null; }; exec "$0" "$@""#),
+    ("left-trial", "a trial is left where a fault is told", &[PLAY], "live, streams",
+        r#": >trial; run "$@"; tell; case $said in ?*[a-z]*) ;; *) rm trial ;; esac"#),
+    ("fault-as-end", "a read fault is taken as the end", &[PLAY], "streams",
+        r#"cat 2>/dev/null | "$0" "$@""#),
+    ("tail-first", "a tail is told ahead of the faults", &[PLAY], "files, streams",
+        "run \"$@\"; case $said in *?'\n5') said=$(printf '5\\n%s' \"${said%?5}\") ;; esac; tell"),
+    ("play-takes-all", "play looks at no arguments", &[PLAY], "play arguments",
+        r#"exec "$0""#),
+    ("help-as-error", "help and version go to standard error", ALL, "play arguments, house, desk arguments",
+        r#"case $1 in --*) exec "$0" "$@" >&2 ;; *) exec "$0" "$@" ;; esac"#),
+    ("house-writes-nothing", "house writes nothing", &[HOUSE], "house, chains",
+        r#"exec "$0" "$@" >/dev/null"#),
+    ("house-waits", "house waits for the end of its input", &[HOUSE], "house",
+        r#"cat >/dev/null 2>&1; exec "$0" "$@""#),
+    ("mute-as-16", "mute is position 16", &[DESK], "desk orders, chains",
+        r#"for word; do shift; [ "$word" != mute ] || word=16; set -- "$@" "$word"; done; exec "$0" "$@""#),
+    ("desk-one-read", "desk takes what one read gives as the sheet", &[DESK], "desk orders",
+        r#"dd bs=4K count=1 status=none 2>/dev/null | "$0" "$@""#),
+    ("desk-reversed", "the last of several orders comes first", &[DESK], "desk orders, desk refusals",
+        r#"list=; while [ $# -gt 2 ]; do list="$1 $2 $3 $list"; shift 3; done; exec "$0" $list "$@""#),
+    ("written-refusal", "a sheet is written after a refused order", &[DESK], "desk refusals",
+        r#"run "$@"; tell; case $said in 1 | 2) "${0%desk}house" ;; esac"#),
+    ("plus-sign", "a plus ahead of a number is accepted", &[DESK], "desk arguments",
+        r#"for word; do shift; set -- "$@" "${word#+}"; done; exec "$0" "$@""#),
+    ("first-three", "arguments behind the third are not looked at", &[DESK], "desk orders, desk arguments",
+        r#"[ $# -lt 3 ] || set -- "$1" "$2" "$3"; exec "$0" "$@""#),
+];
