@@ -1,4 +1,5 @@
--- Demand 3, with all that it rests on. Definitions only; `Demand3`, at the end, is proved in proofs/Holds.antt.
+-- Demand 3, with all that it rests on: docs/SPECIFICATION.md, The exact sound and the distance. Definitions only; `Demand3`, at the end, is
+-- proved in proofs/Holds.antt.
 --
 -- "Take a list of calls, each a level order or a block of frames, refused ones included. It begins with a cleared unit with an accepted
 -- band set. Each call gets the unit that the last one handed back, and nobody else changes it meanwhile. Frames are numbered from 1 over

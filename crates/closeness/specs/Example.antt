@@ -1,4 +1,5 @@
--- A list of calls of which the claim speaks, and one of which it does not, with figures worked from document 01. Definitions only.
+-- A list of calls of which the claim speaks, and one of which it does not, with figures worked from the
+-- rules of docs/SPECIFICATION.md alone by tests/reckoning. Definitions only.
 use mathlib.Core.Bool.{Bool, false}
 use mathlib.Core.List.{List, [], _∷_}
 use Prim.Native.Nat.{ℕ, zero, suc}

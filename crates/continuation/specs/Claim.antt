@@ -1,4 +1,5 @@
--- Continuing a list of calls from its sheet. Definitions only; `Continuing`, at the end, is proved in proofs/Holds.antt.
+-- Continuing a list of calls from its sheet: docs/SPECIFICATION.md, The exact sound and the distance. Definitions only; `Continuing`, at the
+-- end, is proved in proofs/Holds.antt.
 --
 -- "Demand 3 starts from a cleared unit. Reading back the sheet that a list wrote under these same rules continues that list"
 --

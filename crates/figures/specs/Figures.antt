@@ -1,4 +1,5 @@
--- "Figures to check (starred ones are proved)": what the definitions give, and what document 01 prints. Definitions only.
+-- "Figures to check (starred ones are proved)": what the definitions give, and what docs/SPECIFICATION.md prints.
+-- Definitions only.
 use mathlib.Core.Bool.{true, false}
 use mathlib.Core.List.{List, [], _∷_}
 use Prim.Native.Nat.{ℕ, _^_}

@@ -1,2 +1,2 @@
--- The starred figures of document 01.
+-- The starred figures.
 pub mod Figures

@@ -1,1 +1,1 @@
-// The starred figures of document 01. It has no code: specs/Figures.antt is the table, proofs/Hold.antt its one proof.
+// The starred figures of docs/SPECIFICATION.md, Figures to check. It has no code: specs/Figures.antt is the table, proofs/Hold.antt its one proof.

@@ -1,4 +1,4 @@
--- Reading a line of the strip sheet. Definitions only.
+-- Reading a line of the strip sheet. Definitions only, by docs/SPECIFICATION.md, The strip sheet.
 -- "from the first byte on, 12 wrong letter or line end, 13 field badly written, 14 number outside its range; a C line tests 8 to 10 after its three
 -- fields, in place of 14 and ahead of its line end."
 use mathlib.Core.Bool.{Bool}

@@ -1,4 +1,4 @@
--- The unit as flat numbers, in the order of document 01, "The strip sheet". Definitions only.
+-- The unit as flat numbers, in the order of docs/SPECIFICATION.md, The strip sheet. Definitions only.
 -- "In order: V (volume, target); ten C (A, B, G); L (x1, x2, flag); ten S (y1, y2, gain, target); R as L; ten S."
 use mathlib.Core.Path.{_≡_}
 use mathlib.Core.List.{List, [], _∷_, _++_}

@@ -1,4 +1,4 @@
--- What a level order sets, and its answer. Definitions only.
+-- What a level order sets, and its answer. Definitions only, by docs/SPECIFICATION.md, Levels.
 use mathlib.Core.Bool.{cond}
 use Prim.Native.Nat.{ℕ}
 use lib.Dec.{eqb}

@@ -1,4 +1,4 @@
--- "The preview keeps coefficients and delayed words as f64": how it carries a section. Definitions only.
+-- "The preview keeps coefficients and delayed words as f64": how it carries a section. Definitions only, by docs/SPECIFICATION.md, The floating preview.
 use mathlib.Core.Path.{_≡_}
 use mathlib.Core.Bool.{true, false}
 use Prim.Native.Nat.{_^_, _<_}

@@ -1,4 +1,4 @@
--- What the preview gives: the integer section's results over a list of words. Definitions only.
+-- What the preview gives: the integer section's results over a list of words. Definitions only, by docs/SPECIFICATION.md, The floating preview.
 use mathlib.Core.Bool.{Bool, true, cond, _&&_}
 use mathlib.Core.List.{List, [], _∷_, _++_}
 use Prim.Native.Nat.{ℕ}

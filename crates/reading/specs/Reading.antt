@@ -1,6 +1,6 @@
--- Reading the strip sheet. Definitions only.
--- "The archive: 11 not 1,128 bytes; then from the first byte on, 12 wrong letter or line end, 13 field badly written, 14 number outside its
--- range; a C line tests 8 to 10 after its three fields, in place of 14 and ahead of its line end. The given unit comes back, unexamined."
+-- Reading the strip sheet. Definitions only, by docs/SPECIFICATION.md, The strip sheet.
+-- "11 not 1,128 bytes; then from the first byte on, 12 wrong letter or line end, 13 field badly written, 14 number outside its range; a C line
+-- tests 8 to 10 after its three fields, in place of 14 and ahead of its line end." Of a refused sheet "the given unit comes back, unexamined".
 use mathlib.Core.Bool.{cond}
 use mathlib.Core.List.{List, [], _∷_, _++_}
 use Prim.Native.Nat.{ℕ, _+_}

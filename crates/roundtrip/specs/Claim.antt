@@ -1,4 +1,5 @@
--- The round trip of the strip sheet. Definitions only; `RoundTrip`, at the end, is proved in proofs/Holds.antt.
+-- The round trip of the strip sheet: docs/SPECIFICATION.md, The strip sheet. Definitions only; `RoundTrip`, at the end, is proved in
+-- proofs/Holds.antt.
 --
 -- A written sheet reads back as the same unit, an accepted sheet is written again byte for byte, and "a unit is unfit when no accepted
 -- sheet could carry its numbers".

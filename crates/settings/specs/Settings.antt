@@ -1,5 +1,5 @@
 -- "A level order names a side (0 left, 1 right, 2 both), a band (0 to 9, or 10 for the volume, with side 2 only) and a level." Which are refused,
--- and the target that a level stands for. Definitions only.
+-- and the target that a level stands for. Definitions only, by docs/SPECIFICATION.md, Levels.
 use mathlib.Core.Bool.{Bool, cond, _&&_, _||_}
 use Prim.Native.Nat.{ℕ}
 use lib.Dec.{eqb, leb, ltb}

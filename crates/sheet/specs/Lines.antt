@@ -1,4 +1,5 @@
--- The strip sheet: "1,128 bytes, 33 lines, each a letter, fields of nine columns ..., and a line feed (byte 10)." Definitions only.
+-- The strip sheet: "1,128 bytes, 33 lines, each a letter, fields of nine columns ..., and a line feed (byte 10)."
+-- Definitions only, by docs/SPECIFICATION.md, The strip sheet.
 use mathlib.Core.Bool.{Bool, true}
 use mathlib.Core.List.{List, [], _∷_, _++_}
 use Prim.Native.Nat.{ℕ, _+_, _*_}

@@ -52,7 +52,7 @@ pub const RIGHT_LETTER: u8 = b'R';
 // The byte that ends a line.
 pub const LINE_FEED: u8 = 10;
 
-// A line: V, C, L, S or R of document 01.
+// A line: V, C, L, S or R of docs/SPECIFICATION.md, The strip sheet.
 pub enum Line {
     Volume,
     Band,

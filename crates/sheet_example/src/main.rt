@@ -1,6 +1,7 @@
-// The example of document 01: ten bands, all 31 Hz. Prints the sheet of the cleared unit, the sheet after the frame (1000, 0), and that one
-// again, of the unit that it is read as. Then three buffers of dots that were lent to `writing::write`, every byte of them: one longer than the
-// sheet, one lent with an unfit unit, and one that is too short. Of what stands behind the part that `write` hands back its contract says nothing.
+// The example of docs/SPECIFICATION.md, Figures to check: ten bands, all 31 Hz. Prints the sheet of the cleared unit, the sheet after the
+// frame (1000, 0), and that one again, of the unit that it is read as. Then three buffers of dots that were lent to `writing::write`, every
+// byte of them: one longer than the sheet, one lent with an unfit unit, and one that is too short. Of what stands behind the part that `write`
+// hands back its contract says nothing.
 use levels::Level;
 use unit::Unit;
 

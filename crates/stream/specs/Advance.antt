@@ -1,4 +1,4 @@
--- Playing one piece of a stream, for any number of channels. Definitions only.
+-- Playing one piece of a stream, for any number of channels. Definitions only, by docs/SPECIFICATION.md, The unit, loading and blocks.
 use mathlib.Core.Bool.{cond}
 use mathlib.Core.List.{List, _++_}
 use Prim.Native.Nat.{ℕ, _-_, _%_}

@@ -1,4 +1,5 @@
--- That a stream, cut anywhere, is played as one block. Definitions only; `CutAnywhere`, at the end, is proved in proofs/Holds.antt.
+-- That a stream, cut anywhere, is played as one block: docs/SPECIFICATION.md, The unit, loading and blocks. Definitions only; `CutAnywhere`,
+-- at the end, is proved in proofs/Holds.antt.
 --
 -- What it rests on. `advanced` and `advancedOutput` (specs/Advance.antt) are what the contract of `stream::advance` promises, for all inputs. Under them stand frames (frames/specs/Played.antt), a block of them (blocks/specs/Block.antt) and fitness (unit/specs/Fit.antt).
 use mathlib.Core.Path.{_≡_}

@@ -1,4 +1,4 @@
--- Writing the strip sheet. Definitions only.
+-- Writing the strip sheet. Definitions only, by docs/SPECIFICATION.md, The strip sheet.
 use mathlib.Core.Bool.{Bool, cond, _&&_}
 use mathlib.Core.List.{List, [], _∷_, _++_}
 use Prim.Native.Nat.{ℕ, zero, suc}
