@@ -1,0 +1,43 @@
+//! Sheets of the fast form, spoiled.
+
+use crate::reference::ACCEPTED;
+use crate::unit::sheet::fast::read;
+use crate::unit::sheet::SHEET;
+use crate::unit::{Numbers, LEFT, RIGHT, SIDE_COUNT, STRIPS};
+
+/// The unit with y1 and y2 exchanged in each band.
+pub fn exchanged(unit: &Numbers) -> Numbers {
+    let mut other = *unit;
+    for side in [LEFT, RIGHT] {
+        other[side + STRIPS..side + SIDE_COUNT].chunks_exact_mut(4).for_each(|strip| strip.swap(0, 1));
+    }
+    other
+}
+
+/// A reader that takes 2 for a flag. The flags are the last fields of the lines L and R.
+pub fn flag_2(unit: &mut Numbers, bytes: &[u8]) -> u32 {
+    const ENDS: [(usize, usize); 2] = [(338, LEFT + 2), (747, RIGHT + 2)];
+    let is_2 = |end: usize| bytes.get(end - 9..end) == Some(b"        2".as_slice());
+    let mut other = bytes.to_vec();
+    ENDS.iter().filter(|(end, _)| is_2(*end)).for_each(|(end, _)| other[end - 1] = b'1');
+    let refusal = read(unit, &other);
+    if refusal == ACCEPTED {
+        ENDS.iter().filter(|(end, _)| is_2(*end)).for_each(|(_, flag)| unit[*flag] = 2);
+    }
+    refusal
+}
+
+/// A reader that leaves the last four numbers as they were given.
+pub fn last_line_unread(unit: &mut Numbers, bytes: &[u8]) -> u32 {
+    const LAST: &[u8] = b"S        0        0        0        0\n";
+    let given = *unit;
+    let mut other = bytes.to_vec();
+    if bytes.len() == SHEET {
+        other[SHEET - LAST.len()..].copy_from_slice(LAST);
+    }
+    let refusal = read(unit, &other);
+    if refusal == ACCEPTED {
+        unit[114..].copy_from_slice(&given[114..]);
+    }
+    refusal
+}
