@@ -7,6 +7,7 @@ pub mod checks;
 pub mod exact_sound;
 pub mod faults;
 pub mod ffi;
+pub mod figures;
 pub mod lent;
 pub mod preview;
 pub mod random;

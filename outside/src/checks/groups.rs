@@ -1,11 +1,10 @@
 //! The groups of tests by name.
 
 use super::{arithmetic, bands, figures, refusals, steps, Outcome};
-use super::{block_refusals, blocks, cuts, fitness, levels, loads, unit_figures};
-use super::{call_lists, distance, factors, order_figures, orders};
-use super::{preview_figures, preview_lengths, preview_refusals, previews};
-use super::{sheet_damage, sheet_fields, sheet_figures, sheet_lengths, sheet_lines};
-use super::{sheet_lists, sheets};
+use super::{block_refusals, blocks, cuts, fitness, levels, loads};
+use super::{call_lists, distance, factors, orders};
+use super::{preview_lengths, preview_refusals, previews};
+use super::{sheet_damage, sheet_fields, sheet_lengths, sheet_lines, sheet_lists, sheets};
 use crate::subject::Subject;
 
 /// A group of tests: its name, what it compares and what it runs.
@@ -32,7 +31,7 @@ groups! {
     LISTS: steps::lists, "lists", "steps of house, random and extreme bands, up to a million words a list";
     CORNERS: steps::corners, "corners", "steps with the corners of a word in all five places, extreme bands";
     REFUSED: refusals::steps, "refused calls", "steps with one number wrong or several";
-    FIGURES: figures::starred, "figures", "those that document 01 gives for a section";
+    FIGURES: figures::of_sections, "figures", "those that document 01 gives for a section";
 
     LEVELS: levels::moved, "levels", "one move from corners and random numbers, slopes of every size";
     LOADS: loads::sets, "loadings",
@@ -43,11 +42,11 @@ groups! {
     CUTS: cuts::sizes_and_cuts, "cuts", "blocks of 0 to 64 frames, and one sound cut in several ways";
     REFUSED_BLOCKS: block_refusals::lengths, "refused blocks",
         "input and output of every small length and of larger ones";
-    UNIT_FIGURES: unit_figures::of_the_unit, "unit figures", "those that document 01 gives for a unit";
+    UNIT_FIGURES: figures::of_units, "unit figures", "those that document 01 gives for a unit";
 
     ORDERS: orders::places, "orders", "every side and band, all 256 positions, mute; fit and unfit units";
     FACTORS: factors::factors, "factors", "edges, halves and their neighbours, random bits; fit and unfit units";
-    ORDER_FIGURES: order_figures::of_orders, "order figures",
+    ORDER_FIGURES: figures::of_orders, "order figures",
         "those that document 01 gives for orders, and their targets";
     LISTS_OF_CALLS: call_lists::lists, "lists of calls",
         "orders and blocks from cleared units, refused ones among them";
@@ -55,7 +54,7 @@ groups! {
         "samples of lists of calls held to the bound around the exact sound";
 
     SHEETS: sheets::units, "sheets", "fit units written and read back; short buffers, unfit units";
-    SHEET_FIGURES: sheet_figures::of_sheets, "sheet figures",
+    SHEET_FIGURES: figures::of_sheets, "sheet figures",
         "the sheets that document 01 gives, and the ends of every range";
     SHEET_FIELDS: sheet_fields::each, "sheet fields",
         "each field badly written, at the ends of its range and outside";
@@ -73,7 +72,7 @@ groups! {
         "lists of every small length and of larger ones, buffers shorter and longer";
     REFUSED_PREVIEWS: preview_refusals::calls, "refused previews",
         "band, buffer and words wrong alone and together, a wrong word at each place";
-    PREVIEW_FIGURES: preview_figures::starred, "preview figures",
+    PREVIEW_FIGURES: figures::of_previews, "preview figures",
         "those that document 01 gives for a section, from a cleared start";
     PREVIEW_AND_SECTION: previews::beside_section, "preview and section",
         "lists held against the same implementation's own section";
