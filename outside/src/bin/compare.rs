@@ -7,12 +7,7 @@ use outside::checks::groups::{
     Group, BLOCKS, CORNERS, CUTS, FITNESS, FRAMES, GROUPS, LISTS, MANY_SHEETS, REFUSED, REFUSED_BLOCKS,
 };
 use outside::checks::report::report;
-use outside::checks::{
-    arithmetic, bands, big_numbers, block_refusals, blocks, call_lists, cuts, distance_lists, factors, fitness, levels,
-    loads, one_step, orders, refusals, steps,
-};
-use outside::checks::{preview_lengths, preview_refusals, previews};
-use outside::checks::{sheet_damage, sheet_fields, sheet_lengths, sheet_lines, sheet_lists, sheets};
+use outside::checks::{big_numbers, one_step};
 use outside::checks::{Difference, Tally};
 use outside::exact_sound::judge::Distances;
 use outside::faults::{Wrong, RIGHT, WRONG};
@@ -23,40 +18,11 @@ use outside::subject::{Form, FAST, LIBRARY};
 const NEAR: f64 = 0.9;
 
 fn main() -> ExitCode {
-    report(&SEEDS, "All agree.", everything)
+    let of_group = |group: &Group| Some((group.name, group.seed?));
+    let mut seeds: Vec<(&str, u64)> = GROUPS.iter().chain([&MANY_SHEETS]).filter_map(of_group).collect();
+    seeds.extend([("big numbers", big_numbers::BIG_SEED), ("one step", one_step::ONE_STEP_SEED)]);
+    report(&seeds, "All agree.", everything)
 }
-
-const SEEDS: [(&str, u64); 29] = [
-    ("nearest", arithmetic::NEAREST_SEED),
-    ("limit", arithmetic::LIMIT_SEED),
-    ("bands", bands::BANDS_SEED),
-    ("lists", steps::LISTS_SEED),
-    ("refused calls", refusals::REFUSALS_SEED),
-    ("levels", levels::LEVELS_SEED),
-    ("loadings", loads::LOADS_SEED),
-    ("fitness", fitness::FITNESS_SEED),
-    ("blocks", blocks::BLOCKS_SEED),
-    ("frames", blocks::FRAMES_SEED),
-    ("cuts", cuts::CUTS_SEED),
-    ("refused blocks", block_refusals::BLOCK_REFUSALS_SEED),
-    ("orders", orders::ORDERS_SEED),
-    ("factors", factors::FACTORS_SEED),
-    ("lists of calls", call_lists::CALLS_SEED),
-    ("distance", distance_lists::DISTANCE_SEED),
-    ("sheets", sheets::SHEETS_SEED),
-    ("many sheets", sheets::MANY_SEED),
-    ("sheet fields", sheet_fields::FIELDS_SEED),
-    ("sheet lines", sheet_lines::LINES_SEED),
-    ("damaged sheets", sheet_damage::DAMAGE_SEED),
-    ("sheet lengths", sheet_lengths::LENGTHS_SEED),
-    ("lists through sheets", sheet_lists::SHEET_LISTS_SEED),
-    ("previews", previews::PREVIEWS_SEED),
-    ("preview lengths", preview_lengths::PREVIEW_LENGTHS_SEED),
-    ("refused previews", preview_refusals::PREVIEW_REFUSALS_SEED),
-    ("preview and section", previews::PREVIEW_SECTION_SEED),
-    ("big numbers", big_numbers::BIG_SEED),
-    ("one step", one_step::ONE_STEP_SEED),
-];
 
 fn everything() -> Result<(), Difference> {
     let numbers = big_numbers::agree().map_err(|difference| format!("big numbers: {difference}"))?;
