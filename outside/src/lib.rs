@@ -15,4 +15,5 @@ pub mod reference;
 pub mod subject;
 pub mod system;
 pub mod temporary;
+pub mod timer;
 pub mod unit;
