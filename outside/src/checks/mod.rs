@@ -67,33 +67,19 @@ pub fn same<T: PartialEq + std::fmt::Debug>(
     }
 }
 
-/// Steps the section with the exact reference and a copy of it with the
-/// subject; compares the packed answer and all seven numbers afterwards.
+/// Steps the section with the exact reference and a copy of it with the subject; compares 2 × refusal + limited, y and
+/// all seven numbers afterwards.
 pub fn same_step(subject: &dyn Subject, section: &mut Section, x: i32, tally: &mut Tally) -> Result<(), Difference> {
     let before = *section;
     let mut other = before;
-    let expected = exact::step(section, x);
-    let got = subject.section_step(&mut other, x);
-    if expected != got || *section != other {
-        return Err(format!(
-            "step of A, B, G, x1, x2, y1, y2 = {before:?} with x = {x}: \
-             expected {} and {section:?}, got {} and {other:?}",
-            spell(expected),
-            spell(got),
-        ));
-    }
-    tally.answers += 1;
-    let (status, y) = unpack(expected);
+    let (status, y) = unpack(exact::step(section, x));
+    let got = unpack(subject.section_step(&mut other, x));
+    let inputs = || format!("step of A, B, G, x1, x2, y1, y2 = {before:?} with x = {x}");
+    same(tally, ((status, y), *section), (got, other), inputs)?;
     if status > 1 {
         tally.refused += 1;
     } else {
         tally.steps.count(&before, x, status == 1, y);
     }
     Ok(())
-}
-
-/// A packed answer in words.
-fn spell(answer: i64) -> String {
-    let (status, y) = unpack(answer);
-    format!("(refusal {}, limited {}, y {y})", status >> 1, status & 1)
 }

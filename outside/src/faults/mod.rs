@@ -6,8 +6,8 @@ mod sound;
 
 use self::sheets::{exchanged, flag_2, last_line_unread};
 use self::sound::{
-    block_with, frames_with, halves_up, levels, mix, nine_first, output, output_unlimited, past_target, raise_flags,
-    step_with, worked_again, wrapped,
+    block_with, frames_with, halves_up, levels, mix, nine_first, order_with, output, output_unlimited, past_target,
+    raise_flags, step_with, worked_again, wrapped,
 };
 use crate::checks::groups::*;
 use crate::preview::{fast::preview, RESULTS_TOO_SHORT};
@@ -18,7 +18,7 @@ use crate::reference::{
 };
 use crate::subject::{Form, FAST};
 use crate::unit::fast::{block, level_moved};
-use crate::unit::orders::fast::{order, refusal, set};
+use crate::unit::orders::fast::{order, refusal};
 use crate::unit::orders::{Order, Setting, BOTH, NO_SIDE_AND_BAND, POSITION_OVER_31};
 use crate::unit::sheet::fast::{read, write};
 use crate::unit::sheet::{BADLY_WRITTEN, OUTSIDE, SHEET};
@@ -170,30 +170,20 @@ wrong! {
     "each order refused" [ORDERS FACTORS ORDER_FIGURES LISTS_OF_CALLS DISTANCE]
         order = |_, _| NO_SIDE_AND_BAND;
     "positions below 16 on the steeper slope" [ORDERS ORDER_FIGURES LISTS_OF_CALLS DISTANCE]
-        order = |unit, given| match (order(unit, given), given.setting) {
-            (ACCEPTED, Setting::Position(p @ 0..16)) if !given.is_volume() => {
-                set(unit, given, (i32::from(p) - 16) * 558_681);
-                ACCEPTED
-            }
-            (right, _) => right,
-        };
+        order = |unit, given| order_with(unit, given, |right| match given.setting {
+            Setting::Position(p @ 0..16) if !given.is_volume() => (i32::from(p) - 16) * 558_681,
+            _ => right,
+        });
     "the factor cut off, not rounded" [FACTORS ORDER_FIGURES LISTS_OF_CALLS]
-        order = |unit, given| match (order(unit, given), given.setting) {
-            (ACCEPTED, Setting::Factor(f)) => {
-                set(unit, given, (f * 8_388_608.0) as i32);
-                ACCEPTED
-            }
-            (right, _) => right,
-        };
+        order = |unit, given| order_with(unit, given, |right| match given.setting {
+            Setting::Factor(f) => (f * 8_388_608.0) as i32,
+            _ => right,
+        });
     "halves of factors rounded upwards" [FACTORS ORDER_FIGURES]
-        order = |unit, given| match (order(unit, given), given.setting) {
-            (ACCEPTED, Setting::Factor(f)) => {
-                let target = (f64::from(f) * 8_388_608.0 + 0.5).floor() as i32;
-                set(unit, given, target.min(WORD_MAX));
-                ACCEPTED
-            }
-            (right, _) => right,
-        };
+        order = |unit, given| order_with(unit, given, |right| match given.setting {
+            Setting::Factor(f) => ((f64::from(f) * 8_388_608.0 + 0.5).floor() as i32).min(WORD_MAX),
+            _ => right,
+        });
     "the volume accepted for side 0" [ORDERS FACTORS LISTS_OF_CALLS DISTANCE]
         order = |unit, given| match given.side {
             0 if given.is_volume() => order(unit, &Order { side: BOTH, ..*given }),

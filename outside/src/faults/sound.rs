@@ -1,8 +1,9 @@
-//! Steps and blocks of the fast form, spoiled.
+//! Steps, blocks and orders of the fast form, spoiled.
 
 use crate::reference::fast::{nearest, step};
 use crate::reference::{band_refusal, pack, unpack, Section, ACCEPTED, REFUSED_A, REFUSED_B, WORD_MAX, WORD_MIN};
 use crate::unit::fast::{block, fit};
+use crate::unit::orders::{fast as orders, Order};
 use crate::unit::{block_refusal, Numbers, GAIN_SLOPE, LEFT, RIGHT, STRIPS, VOLUME, VOLUME_SLOPE};
 
 /// v / 2^k with its halves rounded upwards.
@@ -111,4 +112,13 @@ pub fn past_target(present: i32, target: i32, slope: u32) -> i32 {
 
 pub fn raise_flags(unit: &mut Numbers) {
     [LEFT, RIGHT].iter().for_each(|side| unit[side + 2] = 1);
+}
+
+/// An order that spoils the target it sets.
+pub fn order_with(unit: &mut Numbers, order: &Order, spoiled: impl Fn(i32) -> i32) -> u32 {
+    let refusal = orders::order(unit, order);
+    if refusal == ACCEPTED {
+        orders::set(unit, order, spoiled(orders::target(order)));
+    }
+    refusal
 }
