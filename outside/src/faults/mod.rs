@@ -4,7 +4,7 @@
 mod sheets;
 mod sound;
 
-use self::sheets::{exchanged, flag_2, last_line_unread};
+use self::sheets::{exchanged, flag_2, last_line_unread, letters_first};
 use self::sound::{
     block_with, frames_with, halves_up, levels, mix, nine_first, order_with, output, output_unlimited, past_target,
     raise_flags, step_with, worked_again, wrapped,
@@ -31,6 +31,7 @@ pub struct Wrong {
     pub form: Form,
 }
 
+/// What is wrong, the groups that must find it, and the functions of the fast form that are replaced.
 macro_rules! wrong {
     ($($name:literal [$($group:ident)+] $($function:ident = $spoiled:expr),+;)*) => {
         pub const WRONG: &[Wrong] = &[$(Wrong {
@@ -129,7 +130,7 @@ wrong! {
         });
     "a sample of each block off by one" [BLOCKS FRAMES CUTS LISTS_OF_CALLS DISTANCE]
         block = |unit, input, output| block_with(unit, input, output, |_, sound| {
-            sound.iter_mut().rev().skip(1).take(1).for_each(|byte| *byte ^= 1);
+            sound[sound.len() - 2] ^= 1;
         });
     "bytes behind the block cleared" [BLOCKS FRAMES CUTS REFUSED_BLOCKS]
         block = |unit, input, output| {
@@ -150,7 +151,7 @@ wrong! {
     "the output cleared by a refused block" [REFUSED_BLOCKS FITNESS]
         block = |unit, input, output| {
             let refusal = block(unit, input, output);
-            output.iter_mut().filter(|_| refusal != ACCEPTED).for_each(|byte| *byte = 0);
+            if refusal != ACCEPTED { output.fill(0); }
             refusal
         };
     "the band set of a refused loading kept" [LOADS]
@@ -212,20 +213,20 @@ wrong! {
         sheet_write = |unit, buffer| write(&exchanged(unit), buffer),
         sheet_read = |unit, bytes| {
             let refusal = read(unit, bytes);
-            *unit = if refusal == ACCEPTED { exchanged(unit) } else { *unit };
+            if refusal == ACCEPTED { *unit = exchanged(unit); }
             refusal
         };
     "the buffer cleared where no sheet is written" [SHEETS]
         sheet_write = |unit, buffer| {
             let written = write(unit, buffer);
-            buffer.iter_mut().filter(|_| written == 0).for_each(|byte| *byte = 0);
+            if written == 0 { buffer.fill(0); }
             written
         };
     "all sheets called badly written"
         [SHEETS SHEET_FIGURES SHEET_FIELDS SHEET_LINES DAMAGED_SHEETS SHEET_LENGTHS SHEET_LISTS]
         sheet_read = |_, _| BADLY_WRITTEN;
-    "small letters accepted" [SHEET_LINES DAMAGED_SHEETS]
-        sheet_read = |unit, bytes| read(unit, &bytes.to_ascii_uppercase());
+    "12 tested ahead of all else" [SHEET_LINES DAMAGED_SHEETS]
+        sheet_read = letters_first;
     "14 in place of 8 to 10" [SHEET_FIELDS SHEET_LINES DAMAGED_SHEETS]
         sheet_read = |unit, bytes| match read(unit, bytes) {
             REFUSED_A..=REFUSED_G => OUTSIDE,
@@ -245,14 +246,14 @@ wrong! {
     "the house unit given for a refused sheet" [SHEET_FIELDS SHEET_LINES DAMAGED_SHEETS SHEET_LENGTHS]
         sheet_read = |unit, bytes| {
             let refusal = read(unit, bytes);
-            *unit = if refusal == ACCEPTED { *unit } else { cleared(&house_set()) };
+            if refusal != ACCEPTED { *unit = cleared(&house_set()); }
             refusal
         };
 
     "silence for a preview" [PREVIEWS PREVIEW_LENGTHS PREVIEW_FIGURES PREVIEW_AND_SECTION]
         preview = |band, words, results| {
             let refusal = preview(band, words, results);
-            results.iter_mut().take(words.len()).filter(|_| refusal == ACCEPTED).for_each(|y| *y = 0);
+            if refusal == ACCEPTED { results[..words.len()].fill(0); }
             refusal
         };
     "the length taken modulo 65,536" [PREVIEWS PREVIEW_LENGTHS PREVIEW_AND_SECTION]
@@ -260,7 +261,7 @@ wrong! {
     "the entry behind the results written" [PREVIEWS PREVIEW_LENGTHS PREVIEW_FIGURES]
         preview = |band, words, results| {
             let refusal = preview(band, words, results);
-            results.iter_mut().skip(words.len()).take(1).filter(|_| refusal == ACCEPTED).for_each(|entry| *entry = 0);
+            if refusal == ACCEPTED && results.len() > words.len() { results[words.len()] = 0; }
             refusal
         };
     "each list refused" [PREVIEWS PREVIEW_LENGTHS REFUSED_PREVIEWS PREVIEW_FIGURES PREVIEW_AND_SECTION]
@@ -273,14 +274,11 @@ wrong! {
     "a short buffer filled" [PREVIEW_LENGTHS REFUSED_PREVIEWS]
         preview = |band, words, results| {
             let refusal = preview(band, words, results);
-            if refusal == RESULTS_TOO_SHORT {
-                preview(band, &words[..results.len()], results);
-            }
+            if refusal == RESULTS_TOO_SHORT { preview(band, &words[..results.len()], results); }
             refusal
         };
     "a buffer longer than the words refused" [PREVIEWS PREVIEW_LENGTHS REFUSED_PREVIEWS PREVIEW_FIGURES]
-        preview = |band, words, results| match results.len() > words.len() {
-            true => preview(band, &[0], &mut []),
-            false => preview(band, words, results),
+        preview = |band, words, results| {
+            if results.len() > words.len() { preview(band, &[0], &mut []) } else { preview(band, words, results) }
         };
 }
