@@ -35,11 +35,11 @@ impl<'a> Run<'a> {
         same(&mut self.tally, expected, got, inputs)
     }
 
-    fn block(&mut self, numbers: &mut Numbers, input: &[u8]) -> Checked<Vec<u8>> {
-        same_block(self.subject, numbers, input, input.len(), &mut self.tally)
+    fn block(&mut self, numbers: &mut Numbers, input: &[u8], room: usize) -> Checked<Vec<u8>> {
+        same_block(self.subject, numbers, input, room, &mut self.tally)
     }
 
-    fn step(&mut self, section: &mut Section, x: i32, (limited, y): (bool, i32)) -> Checked {
+    fn step_gives(&mut self, section: &mut Section, x: i32, (limited, y): (bool, i32)) -> Checked {
         let before = *section;
         let answer = self.subject.section_step(&mut before.clone(), x);
         same_step(self.subject, section, x, &mut self.tally)?;
@@ -47,7 +47,7 @@ impl<'a> Run<'a> {
     }
 
     /// A list with its results, and an entry behind them.
-    fn preview(&mut self, band: [i32; 3], words: &[i32], results: &[i32]) -> Checked {
+    fn preview_gives(&mut self, band: [i32; 3], words: &[i32], results: &[i32]) -> Checked {
         let mut lent = vec![i32::MIN; words.len() + 1];
         same_preview(self.subject, band, words, &lent, &mut self.tally)?;
         let answer = self.subject.preview(band, words, &mut lent);
@@ -59,7 +59,8 @@ impl<'a> Run<'a> {
     fn slope(&mut self, mut numbers: Numbers, level: usize, (far, way, frames): (i32, i32, i32)) -> Checked {
         let mut levels = Vec::new();
         for length in [frames - 1, 1, 1] {
-            self.block(&mut numbers, &vec![0; 4 * length as usize])?;
+            let silence = vec![0; 4 * length as usize];
+            self.block(&mut numbers, &silence, silence.len())?;
             levels.push(numbers[level]);
         }
         let expected = vec![way * (frames - 1), far, far];
@@ -73,14 +74,14 @@ impl<'a> Run<'a> {
         let answer = self.subject.load(&mut numbers, &set);
         let mut expected = cleared(&set);
         self.same((ACCEPTED, expected), (answer, numbers), || "ten bands all 31 Hz".to_string())?;
-        let sound = self.block(&mut numbers, &FRAME)?;
+        let sound = self.block(&mut numbers, &FRAME, 4)?;
         expected[LEFT] = RUN_WORDS[0];
         expected[LEFT + STRIPS..RIGHT].chunks_exact_mut(4).for_each(|strip| strip[0] = RUN_RESULTS[0]);
         self.same((vec![0; 4], expected), (sound, numbers), || "ten bands after the frame (1000, 0)".to_string())
     }
 
     /// One order on a unit: the answer, and the unit with the target at exactly these places, or as it was.
-    fn order(&mut self, order: &Order, wanted: Wanted, targets: &[usize]) -> Checked {
+    fn order_gives(&mut self, order: &Order, wanted: Wanted, targets: &[usize]) -> Checked {
         let mut expected = cleared(&house_set());
         (0..).zip(&mut expected[LEFT + STRIPS..RIGHT]).for_each(|(n, number)| *number = n);
         expected[VOLUME + 1] = 7;
@@ -97,15 +98,15 @@ impl<'a> Run<'a> {
     fn every_place(&mut self, order: impl Fn(u32, u32) -> Order, of_band: Wanted, of_volume: Wanted) -> Checked {
         for band in 0..10 {
             let targets = [LEFT, RIGHT].map(|side| gain(side, band as usize) + 1);
-            self.order(&order(0, band), of_band, &targets[..1])?;
-            self.order(&order(1, band), of_band, &targets[1..])?;
-            self.order(&order(BOTH, band), of_band, &targets)?;
+            self.order_gives(&order(0, band), of_band, &targets[..1])?;
+            self.order_gives(&order(1, band), of_band, &targets[1..])?;
+            self.order_gives(&order(BOTH, band), of_band, &targets)?;
         }
-        self.order(&order(BOTH, VOLUME_BAND), of_volume, &[VOLUME + 1])
+        self.order_gives(&order(BOTH, VOLUME_BAND), of_volume, &[VOLUME + 1])
     }
 
     /// A unit whose sheet must be these lines: written, and read back.
-    fn sheet(&mut self, numbers: &Numbers, lines: Lines) -> Checked {
+    fn sheet_gives(&mut self, numbers: &Numbers, lines: Lines) -> Checked {
         let mut expected = sheet(lines);
         expected.extend([0xAA; 7]);
         let buffer = same_write(self.subject, exact::write, numbers, &[0xAA; SHEET + 7], &mut self.tally)?;
@@ -122,16 +123,16 @@ pub fn of_sections(subject: &dyn Subject) -> Outcome {
     for (s, y) in ROUNDED {
         run.same(y.into(), subject.nearest(s.into(), 22), || format!("S = {s}"))?;
         // With B = G = 0 and x = 1 or -1, S is A or -A.
-        run.step(&mut [s.abs(), 0, 0, 0, 0, 0, 0], s.signum(), (false, y))?;
+        run.step_gives(&mut [s.abs(), 0, 0, 0, 0, 0, 0], s.signum(), (false, y))?;
     }
     for (mut section, x, limited, y) in STEPS_AT_THE_ENDS {
-        run.step(&mut section, x, (limited, y))?;
+        run.step_gives(&mut section, x, (limited, y))?;
     }
     let house = subject.house_set();
     run.same(&FIRST_TWO[..], &house[..6], || "house set".to_string())?;
     let mut section = [house[0], house[1], house[2], 0, 0, 0, 0];
     for (x, y) in RUN_WORDS.into_iter().zip(RUN_RESULTS) {
-        run.step(&mut section, x, (false, y))?;
+        run.step_gives(&mut section, x, (false, y))?;
     }
     Ok(run.tally)
 }
@@ -139,13 +140,13 @@ pub fn of_sections(subject: &dyn Subject) -> Outcome {
 pub fn of_previews(subject: &dyn Subject) -> Outcome {
     let mut run = Run::new(subject);
     for (s, y) in ROUNDED {
-        run.preview([s.abs(), 0, 0], &[s.signum()], &[y])?;
+        run.preview_gives([s.abs(), 0, 0], &[s.signum()], &[y])?;
     }
     for (band, words, results) in PREVIEWS_AT_THE_ENDS {
-        run.preview(band, &words, &results)?;
+        run.preview_gives(band, &words, &results)?;
     }
     let house = subject.house_set();
-    run.preview([house[0], house[1], house[2]], &RUN_WORDS, &RUN_RESULTS)?;
+    run.preview_gives([house[0], house[1], house[2]], &RUN_WORDS, &RUN_RESULTS)?;
     Ok(run.tally)
 }
 
@@ -154,7 +155,7 @@ pub fn of_units(subject: &dyn Subject) -> Outcome {
     for (target, volume, sample) in QUIET {
         let mut numbers = cleared(&house_set());
         numbers[VOLUME + 1] = target;
-        let output = run.block(&mut numbers, &[255, 127, 255, 127])?;
+        let output = run.block(&mut numbers, &[255, 127, 255, 127], 4)?;
         let expected = (vec![sample, 0, sample, 0], volume);
         run.same(expected, (output, numbers[VOLUME]), || format!("a full sample at V = {volume}"))?;
     }
@@ -169,7 +170,7 @@ pub fn of_units(subject: &dyn Subject) -> Outcome {
         let mut numbers = cleared(&house_set());
         let mut results = Vec::new();
         for input in [frame, frame, [0; 4]] {
-            run.block(&mut numbers, &input)?;
+            run.block(&mut numbers, &input, 4)?;
             results.push(numbers[side + STRIPS]);
         }
         run.same(&RUN_RESULTS[..], &results, || "three frames through the 31 Hz band".to_string())?;
@@ -212,12 +213,12 @@ pub fn of_sheets(subject: &dyn Subject) -> Outcome {
     let mut run = Run::new(subject);
     let mut numbers = [-1; 118];
     subject.load(&mut numbers, &FIRST_TWO[..3].repeat(10));
-    run.sheet(&numbers, CLEARED)?;
+    run.sheet_gives(&numbers, CLEARED)?;
     subject.sheet_read(&mut numbers, &sheet(CLEARED));
     let mut sound = [7; 4];
     let answer = subject.block(&mut numbers, &FRAME, &mut sound);
     run.same((ACCEPTED, [0; 4]), (answer, sound), || "the frame (1000, 0)".to_string())?;
-    run.sheet(&numbers, PLAYED)?;
-    run.sheet(&numbers_of(ENDS), ENDS)?;
+    run.sheet_gives(&numbers, PLAYED)?;
+    run.sheet_gives(&numbers_of(ENDS), ENDS)?;
     Ok(run.tally)
 }
