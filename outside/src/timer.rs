@@ -49,15 +49,16 @@ pub fn kept(limit: &str, mut measure: impl FnMut() -> Result<bool, String>) -> R
     Ok(false)
 }
 
-/// The exit status: 0 only if all limits are kept.
+/// Tells how it went and gives the exit status: 0 only if all limits are kept.
 pub fn status(all_kept: Result<bool, String>) -> ExitCode {
-    match all_kept {
+    match &all_kept {
         Ok(true) => println!("All limits are kept."),
-        Ok(false) => return ExitCode::FAILURE,
-        Err(fault) => {
-            println!("FAILED: {fault}");
-            return ExitCode::FAILURE;
-        }
+        Ok(false) => println!("Not all limits are kept."),
+        Err(fault) => println!("FAILED: {fault}"),
     }
-    ExitCode::SUCCESS
+    if all_kept == Ok(true) {
+        ExitCode::SUCCESS
+    } else {
+        ExitCode::FAILURE
+    }
 }

@@ -6,7 +6,7 @@ use outside::random::Random;
 use outside::reference::{house_set, ACCEPTED};
 use outside::subject::{Form, FAST, LIBRARY};
 use outside::timer::{fold, in_turns, kept, timed, Run};
-use outside::unit::{cleared, Numbers, GAIN_SLOPE, LEFT, RIGHT, STRIPS, VOLUME, VOLUME_SLOPE};
+use outside::unit::{cleared, Numbers, LEFT, RIGHT, STRIPS, VOLUME};
 
 /// The most that a block of 4,096 frames may take, in times of the Rust form.
 const MOST: f64 = 1.10;
@@ -23,15 +23,10 @@ fn gains() -> impl Iterator<Item = usize> {
     [LEFT, RIGHT].into_iter().flat_map(|side| (0..10).map(move |band| side + STRIPS + 4 * band + 2))
 }
 
-/// The unit at the start: half of the gains half a turn's way below zero, half of them as far above, and the volume
-/// below its middle.
+/// The unit at the start, with the volume so high that it never comes back to 0.
 fn start() -> Numbers {
-    let way = (GAIN_SLOPE as usize * TURN / 2) as i32;
     let mut unit = cleared(&house_set());
-    for (n, gain) in gains().enumerate() {
-        unit[gain] = if n.is_multiple_of(2) { -way } else { way };
-    }
-    unit[VOLUME] = 4_194_304 - (VOLUME_SLOPE as usize * TURN / 2) as i32;
+    unit[VOLUME] = 4_194_304;
     unit
 }
 

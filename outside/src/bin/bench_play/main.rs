@@ -8,7 +8,7 @@ mod programs;
 
 use std::env;
 use std::fs;
-use std::path::PathBuf;
+use std::path::{Path, PathBuf};
 use std::process::ExitCode;
 
 use outside::timer::{in_turns, kept, status};
@@ -32,22 +32,18 @@ const NAMES: [&str; 3] = ["user", "user and system", "elapsed"];
 const USER: usize = 0;
 const USER_AND_SYSTEM: usize = 1;
 
-struct Arguments {
-    play: PathBuf,
-    need_sox: bool,
-}
-
-fn arguments() -> Option<Arguments> {
-    let mut arguments = Arguments { play: PathBuf::from(PLAY), need_sox: false };
+/// The play program, and whether sox is needed.
+fn arguments() -> Option<(PathBuf, bool)> {
+    let (mut play, mut need_sox) = (PathBuf::from(PLAY), false);
     let mut given = env::args().skip(1);
     while let Some(argument) = given.next() {
         match argument.as_str() {
-            "--play" => arguments.play = PathBuf::from(given.next()?),
-            "--need-sox" => arguments.need_sox = true,
+            "--play" => play = PathBuf::from(given.next()?),
+            "--need-sox" => need_sox = true,
             _ => return None,
         }
     }
-    Some(arguments)
+    Some((play, need_sox))
 }
 
 /// Play and another in turns. True where the ratio of this time of theirs is at most so much.
@@ -75,9 +71,8 @@ fn memory_below(material: &Material, most: u64) -> Result<bool, String> {
     Ok(memory < most)
 }
 
-fn everything(arguments: &Arguments) -> Result<bool, String> {
-    let play = fs::canonicalize(&arguments.play);
-    let play = play.map_err(|error| format!("{}: {error}", arguments.play.display()))?;
+fn everything(play: &Path, need_sox: bool) -> Result<bool, String> {
+    let play = fs::canonicalize(play).map_err(|error| format!("{}: {error}", play.display()))?;
     let material = Material::new(play).map_err(|error| format!("the noise: {error}"))?;
     println!("seed {SEED:#x}, {FRAMES} frames of noise, best of {RUNS} runs each, in turns");
     let mut all_kept = kept("the memory", || memory_below(&material, MEMORY))?;
@@ -86,7 +81,7 @@ fn everything(arguments: &Arguments) -> Result<bool, String> {
     if programs::has_sox() {
         let sox = (USER, MOST_OF_SOX);
         all_kept &= kept("the time against sox", || within(&material, "sox", programs::sox, sox))?;
-    } else if arguments.need_sox {
+    } else if need_sox {
         return Err("sox is not installed".to_string());
     } else {
         println!("sox is not installed: its ratio is left out");
@@ -95,9 +90,9 @@ fn everything(arguments: &Arguments) -> Result<bool, String> {
 }
 
 fn main() -> ExitCode {
-    let Some(arguments) = arguments() else {
+    let Some((play, need_sox)) = arguments() else {
         println!("usage: bench_play [--play PATH] [--need-sox]");
         return ExitCode::FAILURE;
     };
-    status(everything(&arguments))
+    status(everything(&play, need_sox))
 }
