@@ -4,85 +4,47 @@
 use std::process::ExitCode;
 
 use outside::checks::groups::{
-    Group, DISTANCE, LISTS_OF_CALLS, MANY_SHEETS, ORDER_GROUPS, PREVIEW_GROUPS, SECTION_GROUPS, SHEET_GROUPS,
-    SOUND_GROUPS, UNIT_GROUPS,
+    Group, BLOCKS, CORNERS, CUTS, FITNESS, FRAMES, GROUPS, LISTS, MANY_SHEETS, REFUSED, REFUSED_BLOCKS,
 };
 use outside::checks::report::report;
-use outside::checks::{
-    arithmetic, bands, big_numbers, block_refusals, blocks, call_lists, cuts, distance_lists, factors, fitness, levels,
-    loads, one_step, orders, refusals, steps,
-};
-use outside::checks::{preview_lengths, preview_refusals, previews};
-use outside::checks::{sheet_damage, sheet_fields, sheet_lengths, sheet_lines, sheet_lists, sheets};
+use outside::checks::{big_numbers, one_step};
 use outside::checks::{Difference, Tally};
 use outside::exact_sound::judge::Distances;
-use outside::faults::{desk, preview, section, sheet, unit, Impostor};
+use outside::faults::{Wrong, RIGHT, WRONG};
 use outside::lent;
-use outside::subject::{Fast, Library, Subject};
+use outside::subject::{Form, FAST, LIBRARY};
 
 /// The least part of the bound that the largest distance must come to.
 const NEAR: f64 = 0.9;
 
 fn main() -> ExitCode {
-    report(&SEEDS, "All agree.", everything)
+    let of_group = |group: &Group| Some((group.name, group.seed?));
+    let mut seeds: Vec<(&str, u64)> = GROUPS.iter().chain([&MANY_SHEETS]).filter_map(of_group).collect();
+    seeds.extend([("big numbers", big_numbers::BIG_SEED), ("one step", one_step::ONE_STEP_SEED)]);
+    report(&seeds, "All agree.", everything)
 }
-
-const SEEDS: [(&str, u64); 29] = [
-    ("nearest", arithmetic::NEAREST_SEED),
-    ("limit", arithmetic::LIMIT_SEED),
-    ("bands", bands::BANDS_SEED),
-    ("lists", steps::LISTS_SEED),
-    ("refused calls", refusals::REFUSALS_SEED),
-    ("levels", levels::LEVELS_SEED),
-    ("loadings", loads::LOADS_SEED),
-    ("fitness", fitness::FITNESS_SEED),
-    ("blocks", blocks::BLOCKS_SEED),
-    ("frames", blocks::FRAMES_SEED),
-    ("cuts", cuts::CUTS_SEED),
-    ("refused blocks", block_refusals::BLOCK_REFUSALS_SEED),
-    ("orders", orders::ORDERS_SEED),
-    ("factors", factors::FACTORS_SEED),
-    ("lists of calls", call_lists::CALLS_SEED),
-    ("distance", distance_lists::DISTANCE_SEED),
-    ("sheets", sheets::SHEETS_SEED),
-    ("many sheets", sheets::MANY_SEED),
-    ("sheet fields", sheet_fields::FIELDS_SEED),
-    ("sheet lines", sheet_lines::LINES_SEED),
-    ("damaged sheets", sheet_damage::DAMAGE_SEED),
-    ("sheet lengths", sheet_lengths::LENGTHS_SEED),
-    ("lists through sheets", sheet_lists::SHEET_LISTS_SEED),
-    ("previews", previews::PREVIEWS_SEED),
-    ("preview lengths", preview_lengths::PREVIEW_LENGTHS_SEED),
-    ("refused previews", preview_refusals::PREVIEW_REFUSALS_SEED),
-    ("preview and section", previews::PREVIEW_SECTION_SEED),
-    ("big numbers", big_numbers::BIG_SEED),
-    ("one step", one_step::ONE_STEP_SEED),
-];
 
 fn everything() -> Result<(), Difference> {
     let numbers = big_numbers::agree().map_err(|difference| format!("big numbers: {difference}"))?;
     println!("The arithmetic of the exact sound:");
     println!("  {} answers agree", numbers.answers);
     println!("The fast Rust form against the exact one:");
-    every_group(&Fast, &[])?;
+    every_group(&FAST, &[])?;
     println!("The library against the exact Rust form:");
-    every_group(&Library, &[MANY_SHEETS])?;
+    every_group(&LIBRARY, &[MANY_SHEETS])?;
     if !lent::keeps_to_its_numbers() {
         return Err("the library wrote outside what was lent to it".to_string());
     }
     println!("  numbers and bytes before and behind the lent ones kept");
     println!("Wrong implementations, each to be found by the groups named:");
-    every_fault()
+    every_wrong_one()
 }
 
 /// Runs all groups and these more against one subject and prints a line for
 /// each.
-fn every_group(subject: &dyn Subject, more: &[Group]) -> Result<(), Difference> {
+fn every_group(subject: &Form, more: &[Group]) -> Result<(), Difference> {
     let mut total = Tally::default();
-    let groups = SECTION_GROUPS.iter().chain(&UNIT_GROUPS);
-    let groups = groups.chain(&ORDER_GROUPS).chain(&SOUND_GROUPS);
-    let groups = groups.chain(&SHEET_GROUPS).chain(&PREVIEW_GROUPS);
-    for group in groups.chain(more) {
+    for group in GROUPS.iter().chain(more) {
         let tally = (group.run)(subject).map_err(|difference| format!("{}: {difference}", group.name))?;
         println!("  {} ({}): {} answers agree{}", group.name, group.what, tally.answers, sound_of(&tally));
         total.add(&tally);
@@ -116,42 +78,24 @@ fn near_the_bound(distances: &Distances) -> Result<(), Difference> {
     Ok(())
 }
 
-/// Every wrong implementation, and what they have in common.
-fn every_fault() -> Result<(), Difference> {
-    nothing_wrong(&section::Fault::Nothing, &SECTION_GROUPS)?;
-    nothing_wrong(&unit::Fault::Nothing, &UNIT_GROUPS)?;
-    nothing_wrong(&unit::Fault::Nothing, &[LISTS_OF_CALLS, DISTANCE])?;
-    nothing_wrong(&desk::Fault::Nothing, &ORDER_GROUPS)?;
-    nothing_wrong(&desk::Fault::Nothing, &SOUND_GROUPS)?;
-    nothing_wrong(&sheet::Fault::Nothing, &SHEET_GROUPS)?;
-    nothing_wrong(&preview::Fault::Nothing, &PREVIEW_GROUPS)?;
-    let impostors = section::IMPOSTORS.iter().chain(&unit::IMPOSTORS);
-    let impostors = impostors.chain(&desk::IMPOSTORS).chain(&sheet::IMPOSTORS);
-    for impostor in impostors.chain(&preview::IMPOSTORS) {
-        unmask(impostor)?;
+/// Every wrong implementation, and what they have in common: this must be right, or they would be found for something
+/// else than what is wrong in them.
+fn every_wrong_one() -> Result<(), Difference> {
+    for group in [LISTS, CORNERS, REFUSED, FITNESS, BLOCKS, FRAMES, CUTS, REFUSED_BLOCKS] {
+        (group.run)(&RIGHT).map_err(|difference| format!("nothing wrong, {}: {difference}", group.name))?;
     }
+    WRONG.iter().try_for_each(find)?;
     let found = one_step::found_everywhere()?.answers;
     println!("  a sample one step away: found by distance at each of {found} places");
     Ok(())
 }
 
-/// What the wrong implementations have in common must be right, or they would
-/// be found for something else than their fault.
-fn nothing_wrong(subject: &dyn Subject, groups: &[Group]) -> Result<(), Difference> {
-    for group in groups {
-        (group.run)(subject).map_err(|difference| format!("nothing wrong, {}: {difference}", group.name))?;
-    }
-    Ok(())
-}
-
 /// Every group that ought to find this wrong implementation must do so.
-fn unmask(impostor: &Impostor) -> Result<(), Difference> {
-    for group in impostor.found_by {
-        if (group.run)(impostor.fault).is_ok() {
-            return Err(format!("{}: not found by {}", impostor.name, group.name));
-        }
+fn find(wrong: &Wrong) -> Result<(), Difference> {
+    if let Some(group) = wrong.found_by.iter().find(|group| (group.run)(&wrong.form).is_ok()) {
+        return Err(format!("{}: not found by {}", wrong.name, group.name));
     }
-    let groups: Vec<&str> = impostor.found_by.iter().map(|group| group.name).collect();
-    println!("  {}: found by {}", impostor.name, groups.join(", "));
+    let groups: Vec<&str> = wrong.found_by.iter().map(|group| group.name).collect();
+    println!("  {}: found by {}", wrong.name, groups.join(", "));
     Ok(())
 }

@@ -1,68 +1,224 @@
-//! The figures of document 01 that a section and its rounding must give.
+//! The figures of document 01, asked of a subject. Whatever is asked is compared with the reference as well.
 
+use super::same_block::same_block;
+use super::same_order::same_order;
+use super::same_preview::same_preview;
+use super::same_sheet::{same_read, same_write};
 use super::{same, same_step, Difference, Outcome, Tally};
-use crate::reference::{pack, Section, ACCEPTED};
+use crate::figures::*;
+use crate::reference::{house_set, pack, Section, ACCEPTED};
 use crate::subject::Subject;
+use crate::unit::orders::{Order, BOTH, VOLUME_BAND};
+use crate::unit::sheet::{exact, SHEET};
+use crate::unit::{cleared, Numbers, LEFT, RIGHT, STRIPS, VOLUME};
+use std::fmt::Debug;
 
-/// "S = 2,097,152 gives 0; 2,097,153 gives 1; 6,291,456 gives 2; -2,097,152
-/// gives 0; -6,291,456 gives -2."
-pub const ROUNDED: [(i64, i64); 5] =
-    [(2_097_152, 0), (2_097_153, 1), (6_291_456, 2), (-2_097_152, 0), (-6_291_456, -2)];
+type Checked<T = ()> = Result<T, Difference>;
 
-/// "Rounded 8,388,607 and -8,388,608 don't limit; 8,388,608 and -8,388,609 do."
-/// A section, x, whether it limits, and y. With A = 2^22 and B = G = 0 the
-/// rounded number is x - x2; with A = G = 2^21 it is (x - x2 + y1) / 2 rounded,
-/// so a half beyond the end of a word goes either way.
-const AT_THE_ENDS: [(Section, i32, bool, i32); 8] = [
-    ([4_194_304, 0, 0, 0, 0, 0, 0], 8_388_607, false, 8_388_607),
-    ([4_194_304, 0, 0, 0, 0, 0, 0], -8_388_608, false, -8_388_608),
-    ([4_194_304, 0, 0, 0, -1, 0, 0], 8_388_607, true, 8_388_607),
-    ([4_194_304, 0, 0, 0, 1, 0, 0], -8_388_608, true, -8_388_608),
-    ([2_097_152, 0, 2_097_152, 0, -8_388_607, 0, 0], 8_388_607, false, 8_388_607),
-    ([2_097_152, 0, 2_097_152, 0, -8_388_608, 0, 0], 8_388_607, true, 8_388_607),
-    ([2_097_152, 0, 2_097_152, 0, 8_388_607, -2, 0], -8_388_608, false, -8_388_608),
-    ([2_097_152, 0, 2_097_152, 0, 8_388_607, -3, 0], -8_388_608, true, -8_388_608),
-];
-
-/// "The first two bands are 6,606, 4,181,093, 8,375,315 (31 Hz) and 13,191,
-/// 4,167,923, 8,361,900 (62 Hz)."
-const FIRST_TWO: [i32; 6] = [6_606, 4_181_093, 8_375_315, 13_191, 4_167_923, 8_361_900];
-
-/// "31 Hz, cleared, x = 256,000, 256,000, 0: y = 403, 1,208, 1,607."
-pub const RUN: [(i32, i32); 3] = [(256_000, 403), (256_000, 1_208), (0, 1_607)];
-
-/// One step with the answer the document gives for it.
-fn figure(
-    subject: &dyn Subject,
-    section: &mut Section,
-    x: i32,
-    (limited, y): (bool, i32),
-    tally: &mut Tally,
-) -> Result<(), Difference> {
-    let before = *section;
-    let answer = subject.section_step(&mut before.clone(), x);
-    same_step(subject, section, x, tally)?;
-    let expected = pack(ACCEPTED, limited, y);
-    same(tally, expected, answer, || format!("step of {before:?} with x = {x}"))
+/// A subject, and what its inputs met.
+struct Run<'a> {
+    subject: &'a dyn Subject,
+    tally: Tally,
 }
 
-pub fn starred(subject: &dyn Subject) -> Outcome {
-    let mut tally = Tally::default();
-    for (s, expected) in ROUNDED {
-        same(&mut tally, expected, subject.nearest(s, 22), || format!("S = {s}"))?;
-        // With B = G = 0 and x = 1 or -1, S is A or -A.
-        let mut section = [s.abs() as i32, 0, 0, 0, 0, 0, 0];
-        let x = s.signum() as i32;
-        figure(subject, &mut section, x, (false, expected as i32), &mut tally)?;
+/// The present gain of a band; its target stands behind it.
+fn gain(side: usize, band: usize) -> usize {
+    side + STRIPS + 4 * band + 2
+}
+
+impl<'a> Run<'a> {
+    fn new(subject: &'a dyn Subject) -> Run<'a> {
+        Run { subject, tally: Tally::default() }
     }
-    for (section, x, limited, y) in AT_THE_ENDS {
-        figure(subject, &mut section.clone(), x, (limited, y), &mut tally)?;
+
+    fn same<T: PartialEq + Debug>(&mut self, expected: T, got: T, inputs: impl FnOnce() -> String) -> Checked {
+        same(&mut self.tally, expected, got, inputs)
+    }
+
+    fn block(&mut self, numbers: &mut Numbers, input: &[u8], room: usize) -> Checked<Vec<u8>> {
+        same_block(self.subject, numbers, input, room, &mut self.tally)
+    }
+
+    fn step_gives(&mut self, section: &mut Section, x: i32, (limited, y): (bool, i32)) -> Checked {
+        let before = *section;
+        let answer = self.subject.section_step(&mut before.clone(), x);
+        same_step(self.subject, section, x, &mut self.tally)?;
+        self.same(pack(ACCEPTED, limited, y), answer, || format!("step of {before:?} with x = {x}"))
+    }
+
+    /// A list with its results, and an entry behind them.
+    fn preview_gives(&mut self, band: [i32; 3], words: &[i32], results: &[i32]) -> Checked {
+        let mut lent = vec![i32::MIN; words.len() + 1];
+        same_preview(self.subject, band, words, &lent, &mut self.tally)?;
+        let answer = self.subject.preview(band, words, &mut lent);
+        let expected = [results, &[i32::MIN]].concat();
+        self.same((ACCEPTED, expected), (answer, lent), || format!("preview with {band:?} of {words:?}"))
+    }
+
+    /// A level in silence: after all frames but one, after all, and after one more.
+    fn slope(&mut self, mut numbers: Numbers, level: usize, (far, way, frames): (i32, i32, i32)) -> Checked {
+        let mut levels = Vec::new();
+        for length in [frames - 1, 1, 1] {
+            let silence = vec![0; 4 * length as usize];
+            self.block(&mut numbers, &silence, silence.len())?;
+            levels.push(numbers[level]);
+        }
+        let expected = vec![way * (frames - 1), far, far];
+        self.same(expected, levels, || format!("number {level} from 0 to {far} in {frames} frames"))
+    }
+
+    /// Ten bands all 31 Hz, loaded, and the frame played.
+    fn ten_alike(&mut self) -> Checked {
+        let set: [i32; 30] = std::array::from_fn(|n| FIRST_TWO[n % 3]);
+        let mut numbers = [-1; 118];
+        let answer = self.subject.load(&mut numbers, &set);
+        let mut expected = cleared(&set);
+        self.same((ACCEPTED, expected), (answer, numbers), || "ten bands all 31 Hz".to_string())?;
+        let sound = self.block(&mut numbers, &FRAME, 4)?;
+        expected[LEFT] = RUN_WORDS[0];
+        expected[LEFT + STRIPS..RIGHT].chunks_exact_mut(4).for_each(|strip| strip[0] = RUN_RESULTS[0]);
+        self.same((vec![0; 4], expected), (sound, numbers), || "ten bands after the frame (1000, 0)".to_string())
+    }
+
+    /// One order on a unit: the answer, and the unit with the target at exactly these places, or as it was.
+    fn order_gives(&mut self, order: &Order, wanted: Wanted, targets: &[usize]) -> Checked {
+        let mut expected = cleared(&house_set());
+        (0..).zip(&mut expected[LEFT + STRIPS..RIGHT]).for_each(|(n, number)| *number = n);
+        expected[VOLUME + 1] = 7;
+        let mut got = expected;
+        if let Ok(target) = wanted {
+            targets.iter().for_each(|&place| expected[place] = target);
+        }
+        let answer = same_order(self.subject, &mut got, order, &mut self.tally)?;
+        let number = wanted.err().unwrap_or(ACCEPTED);
+        self.same((number, expected), (answer, got), || format!("{order:?}"))
+    }
+
+    /// The order for each side and band, with these targets of a band and of the volume.
+    fn every_place(&mut self, order: impl Fn(u32, u32) -> Order, of_band: Wanted, of_volume: Wanted) -> Checked {
+        for band in 0..10 {
+            let targets = [LEFT, RIGHT].map(|side| gain(side, band as usize) + 1);
+            self.order_gives(&order(0, band), of_band, &targets[..1])?;
+            self.order_gives(&order(1, band), of_band, &targets[1..])?;
+            self.order_gives(&order(BOTH, band), of_band, &targets)?;
+        }
+        self.order_gives(&order(BOTH, VOLUME_BAND), of_volume, &[VOLUME + 1])
+    }
+
+    /// A unit whose sheet must be these lines: written, and read back.
+    fn sheet_gives(&mut self, numbers: &Numbers, lines: Lines) -> Checked {
+        let mut expected = sheet(lines);
+        expected.extend([0xAA; 7]);
+        let buffer = same_write(self.subject, exact::write, numbers, &[0xAA; SHEET + 7], &mut self.tally)?;
+        self.same(&expected, &buffer, || format!("sheet of {numbers:?}"))?;
+        same_read(self.subject, &[-1; 118], &expected[..SHEET], &mut self.tally)?;
+        let mut read = [-1; 118];
+        let answer = self.subject.sheet_read(&mut read, &expected[..SHEET]);
+        self.same((ACCEPTED, *numbers), (answer, read), || format!("sheet of {numbers:?} read back"))
+    }
+}
+
+pub fn of_sections(subject: &dyn Subject) -> Outcome {
+    let mut run = Run::new(subject);
+    for (s, y) in ROUNDED {
+        run.same(y.into(), subject.nearest(s.into(), 22), || format!("S = {s}"))?;
+        // With B = G = 0 and x = 1 or -1, S is A or -A.
+        run.step_gives(&mut [s.abs(), 0, 0, 0, 0, 0, 0], s.signum(), (false, y))?;
+    }
+    for (mut section, x, limited, y) in STEPS_AT_THE_ENDS {
+        run.step_gives(&mut section, x, (limited, y))?;
     }
     let house = subject.house_set();
-    same(&mut tally, FIRST_TWO.as_slice(), &house[..6], || "house set".to_string())?;
+    run.same(&FIRST_TWO[..], &house[..6], || "house set".to_string())?;
     let mut section = [house[0], house[1], house[2], 0, 0, 0, 0];
-    for (x, y) in RUN {
-        figure(subject, &mut section, x, (false, y), &mut tally)?;
+    for (x, y) in RUN_WORDS.into_iter().zip(RUN_RESULTS) {
+        run.step_gives(&mut section, x, (false, y))?;
     }
-    Ok(tally)
+    Ok(run.tally)
+}
+
+pub fn of_previews(subject: &dyn Subject) -> Outcome {
+    let mut run = Run::new(subject);
+    for (s, y) in ROUNDED {
+        run.preview_gives([s.abs(), 0, 0], &[s.signum()], &[y])?;
+    }
+    for (band, words, results) in PREVIEWS_AT_THE_ENDS {
+        run.preview_gives(band, &words, &results)?;
+    }
+    let house = subject.house_set();
+    run.preview_gives([house[0], house[1], house[2]], &RUN_WORDS, &RUN_RESULTS)?;
+    Ok(run.tally)
+}
+
+pub fn of_units(subject: &dyn Subject) -> Outcome {
+    let mut run = Run::new(subject);
+    for (target, volume, sample) in QUIET {
+        let mut numbers = cleared(&house_set());
+        numbers[VOLUME + 1] = target;
+        let output = run.block(&mut numbers, &[255, 127, 255, 127], 4)?;
+        let expected = (vec![sample, 0, sample, 0], volume);
+        run.same(expected, (output, numbers[VOLUME]), || format!("a full sample at V = {volume}"))?;
+    }
+    let bands = [gain(LEFT, 0), gain(LEFT, 9), gain(RIGHT, 9)].map(|level| (level, BAND_31));
+    for (level, figure) in bands.into_iter().chain([(VOLUME, VOLUME_31)]) {
+        let mut numbers = cleared(&house_set());
+        numbers[level + 1] = figure.0;
+        run.slope(numbers, level, figure)?;
+    }
+    run.ten_alike()?;
+    for (side, frame) in [(LEFT, FRAME), (RIGHT, [0, 0, FRAME[0], FRAME[1]])] {
+        let mut numbers = cleared(&house_set());
+        let mut results = Vec::new();
+        for input in [frame, frame, [0; 4]] {
+            run.block(&mut numbers, &input, 4)?;
+            results.push(numbers[side + STRIPS]);
+        }
+        run.same(&RUN_RESULTS[..], &results, || "three frames through the 31 Hz band".to_string())?;
+    }
+    Ok(run.tally)
+}
+
+pub fn of_orders(subject: &dyn Subject) -> Outcome {
+    let mut run = Run::new(subject);
+    for (bits, of_band, of_volume) in FACTORS {
+        run.every_place(|side, band| Order::factor(side, band, f32::from_bits(bits)), of_band, of_volume)?;
+    }
+    for (position, of_band, of_volume) in POSITIONS {
+        run.every_place(|side, band| Order::position(side, band, position), Ok(of_band), Ok(of_volume))?;
+    }
+    run.every_place(Order::mute, Ok(0), Ok(0))?;
+    for (side, band, level, figure) in [
+        (0, 0, gain(LEFT, 0), BAND_31),
+        (1, 9, gain(RIGHT, 9), BAND_31),
+        (BOTH, 4, gain(LEFT, 4), BAND_31),
+        (BOTH, 4, gain(RIGHT, 4), BAND_31),
+        (BOTH, VOLUME_BAND, VOLUME, VOLUME_31),
+    ] {
+        let mut numbers = cleared(&house_set());
+        same_order(subject, &mut numbers, &Order::position(side, band, 31), &mut run.tally)?;
+        run.slope(numbers, level, figure)?;
+    }
+    Ok(run.tally)
+}
+
+/// The numbers of a sheet, by the standard library.
+fn numbers_of(lines: Lines) -> Numbers {
+    let text = String::from_utf8(sheet(lines)).expect("a typed sheet");
+    let numbers = text.split_whitespace().filter_map(|field| field.parse().ok());
+    numbers.collect::<Vec<i32>>().try_into().expect("118 numbers")
+}
+
+/// The frame is played by a unit that comes from a sheet.
+pub fn of_sheets(subject: &dyn Subject) -> Outcome {
+    let mut run = Run::new(subject);
+    let mut numbers = [-1; 118];
+    subject.load(&mut numbers, &FIRST_TWO[..3].repeat(10));
+    run.sheet_gives(&numbers, CLEARED)?;
+    subject.sheet_read(&mut numbers, &sheet(CLEARED));
+    let mut sound = [7; 4];
+    let answer = subject.block(&mut numbers, &FRAME, &mut sound);
+    run.same((ACCEPTED, [0; 4]), (answer, sound), || "the frame (1000, 0)".to_string())?;
+    run.sheet_gives(&numbers, PLAYED)?;
+    run.sheet_gives(&numbers_of(ENDS), ENDS)?;
+    Ok(run.tally)
 }

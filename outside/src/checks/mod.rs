@@ -18,9 +18,7 @@ pub mod levels;
 pub mod loads;
 pub mod makers;
 pub mod one_step;
-pub mod order_figures;
 pub mod orders;
-pub mod preview_figures;
 pub mod preview_lengths;
 pub mod preview_refusals;
 pub mod previews;
@@ -32,7 +30,6 @@ pub mod same_preview;
 pub mod same_sheet;
 pub mod sheet_damage;
 pub mod sheet_fields;
-pub mod sheet_figures;
 pub mod sheet_lengths;
 pub mod sheet_lines;
 pub mod sheet_lists;
@@ -43,11 +40,11 @@ pub mod sheets;
 pub mod sounds;
 pub mod steps;
 pub mod tally;
-pub mod unit_figures;
 pub mod units;
 pub mod words;
 
 pub use self::tally::Tally;
+pub use crate::figures as sheet_figures;
 use crate::reference::{exact, unpack, Section};
 use crate::subject::Subject;
 
@@ -70,33 +67,19 @@ pub fn same<T: PartialEq + std::fmt::Debug>(
     }
 }
 
-/// Steps the section with the exact reference and a copy of it with the
-/// subject; compares the packed answer and all seven numbers afterwards.
+/// Steps the section with the exact reference and a copy of it with the subject; compares 2 × refusal + limited, y and
+/// all seven numbers afterwards.
 pub fn same_step(subject: &dyn Subject, section: &mut Section, x: i32, tally: &mut Tally) -> Result<(), Difference> {
     let before = *section;
     let mut other = before;
-    let expected = exact::step(section, x);
-    let got = subject.section_step(&mut other, x);
-    if expected != got || *section != other {
-        return Err(format!(
-            "step of A, B, G, x1, x2, y1, y2 = {before:?} with x = {x}: \
-             expected {} and {section:?}, got {} and {other:?}",
-            spell(expected),
-            spell(got),
-        ));
-    }
-    tally.answers += 1;
-    let (status, y) = unpack(expected);
+    let (status, y) = unpack(exact::step(section, x));
+    let got = unpack(subject.section_step(&mut other, x));
+    let inputs = || format!("step of A, B, G, x1, x2, y1, y2 = {before:?} with x = {x}");
+    same(tally, ((status, y), *section), (got, other), inputs)?;
     if status > 1 {
         tally.refused += 1;
     } else {
         tally.steps.count(&before, x, status == 1, y);
     }
     Ok(())
-}
-
-/// A packed answer in words.
-fn spell(answer: i64) -> String {
-    let (status, y) = unpack(answer);
-    format!("(refusal {}, limited {}, y {y})", status >> 1, status & 1)
 }

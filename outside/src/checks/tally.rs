@@ -21,23 +21,19 @@ impl Steps {
     pub fn add(&mut self, other: &Steps) {
         self.high += other.high;
         self.low += other.low;
-        add_halves(&mut self.halves, other.halves);
+        self.halves.up += other.halves.up;
+        self.halves.down += other.halves.down;
     }
 
     /// Counts an accepted step by what the exact reference says of it.
     pub fn count(&mut self, before: &Section, x: i32, limited: bool, y: i32) {
-        if limited && y > 0 {
-            self.high += 1;
-        } else if limited {
-            self.low += 1;
-        }
+        self.high += u64::from(limited && y > 0);
+        self.low += u64::from(limited && y < 0);
         let sum = exact::sum(before, x);
         if sum & 0x3F_FFFF == 0x20_0000 {
-            if (sum >> 22) & 1 == 1 {
-                self.halves.up += 1;
-            } else {
-                self.halves.down += 1;
-            }
+            let odd = (sum >> 22) & 1 == 1;
+            self.halves.up += u64::from(odd);
+            self.halves.down += u64::from(!odd);
         }
     }
 }
@@ -59,82 +55,60 @@ pub struct Tally {
     pub blocks_14: u64,
     /// What the frames met.
     pub met: Met,
-    /// What the orders met.
+    /// What the orders, the sheets and the previews met.
     pub orders: Orders,
-    /// What the sheets met.
     pub sheets: Sheets,
-    /// What the previews met.
     pub previews: Previews,
     /// How far the lists lay from the exact sound.
     pub distances: Distances,
 }
 
-fn add_halves(sum: &mut Halves, other: Halves) {
-    sum.up += other.up;
-    sum.down += other.down;
+/// Adds and names these counts and all those of orders, sheets, previews and distances.
+macro_rules! counts {
+    ($($what:literal: $($field:ident).+;)*) => {
+        impl Tally {
+            pub fn add(&mut self, other: &Tally) {
+                self.answers += other.answers;
+                $(self.$($field).+ += other.$($field).+;)*
+                self.orders.add(&other.orders);
+                self.sheets.add(&other.sheets);
+                self.previews.add(&other.previews);
+                self.distances.add(&other.distances);
+            }
+
+            /// Everything that a comparison must reach, by name: one that never limits or never meets a half proves
+            /// nothing of them.
+            pub fn reached(&self) -> Vec<(&'static str, u64)> {
+                let mut reached = vec![$(($what, self.$($field).+)),*];
+                reached.extend(self.orders.reached());
+                reached.extend(self.sheets.reached());
+                reached.extend(self.previews.reached());
+                reached.extend(self.distances.reached());
+                reached
+            }
+        }
+    };
 }
 
-fn add_met(sum: &mut Met, other: &Met) {
-    sum.sections_high += other.sections_high;
-    sum.sections_low += other.sections_low;
-    sum.outputs_high += other.outputs_high;
-    sum.outputs_low += other.outputs_low;
-    add_halves(&mut sum.section_halves, other.section_halves);
-    add_halves(&mut sum.mix_halves, other.mix_halves);
-    add_halves(&mut sum.output_halves, other.output_halves);
-    sum.flags_raised += other.flags_raised;
-}
-
-impl Tally {
-    pub fn add(&mut self, other: &Tally) {
-        self.answers += other.answers;
-        self.refused += other.refused;
-        self.steps.add(&other.steps);
-        self.frames += other.frames;
-        self.blocks_5 += other.blocks_5;
-        self.blocks_6 += other.blocks_6;
-        self.blocks_14 += other.blocks_14;
-        add_met(&mut self.met, &other.met);
-        self.orders.add(&other.orders);
-        self.sheets.add(&other.sheets);
-        self.previews.add(&other.previews);
-        self.distances.add(&other.distances);
-    }
-
-    /// Everything that a comparison must reach, by name: one that never limits
-    /// or never meets a half proves nothing of them.
-    pub fn reached(&self) -> Vec<(&'static str, u64)> {
-        let mut reached = self.steps_and_blocks().to_vec();
-        reached.extend(self.orders.reached());
-        reached.extend(self.sheets.reached());
-        reached.extend(self.previews.reached());
-        reached.extend(self.distances.reached());
-        reached
-    }
-
-    fn steps_and_blocks(&self) -> [(&'static str, u64); 20] {
-        let (steps, met) = (&self.steps, &self.met);
-        [
-            ("refused steps", self.refused),
-            ("steps limited at the upper end", steps.high),
-            ("steps limited at the lower end", steps.low),
-            ("halves of steps rounded up", steps.halves.up),
-            ("halves of steps rounded down", steps.halves.down),
-            ("frames", self.frames),
-            ("blocks refused with 5", self.blocks_5),
-            ("blocks refused with 6", self.blocks_6),
-            ("blocks refused with 14", self.blocks_14),
-            ("sections limited at the upper end", met.sections_high),
-            ("sections limited at the lower end", met.sections_low),
-            ("flags raised", met.flags_raised),
-            ("outputs limited at the upper end", met.outputs_high),
-            ("outputs limited at the lower end", met.outputs_low),
-            ("halves of sections rounded up", met.section_halves.up),
-            ("halves of sections rounded down", met.section_halves.down),
-            ("halves of mixes rounded up", met.mix_halves.up),
-            ("halves of mixes rounded down", met.mix_halves.down),
-            ("halves of outputs rounded up", met.output_halves.up),
-            ("halves of outputs rounded down", met.output_halves.down),
-        ]
-    }
+counts! {
+    "refused steps": refused;
+    "steps limited at the upper end": steps.high;
+    "steps limited at the lower end": steps.low;
+    "halves of steps rounded up": steps.halves.up;
+    "halves of steps rounded down": steps.halves.down;
+    "frames": frames;
+    "blocks refused with 5": blocks_5;
+    "blocks refused with 6": blocks_6;
+    "blocks refused with 14": blocks_14;
+    "sections limited at the upper end": met.sections_high;
+    "sections limited at the lower end": met.sections_low;
+    "flags raised": met.flags_raised;
+    "outputs limited at the upper end": met.outputs_high;
+    "outputs limited at the lower end": met.outputs_low;
+    "halves of sections rounded up": met.section_halves.up;
+    "halves of sections rounded down": met.section_halves.down;
+    "halves of mixes rounded up": met.mix_halves.up;
+    "halves of mixes rounded down": met.mix_halves.down;
+    "halves of outputs rounded up": met.output_halves.up;
+    "halves of outputs rounded down": met.output_halves.down;
 }

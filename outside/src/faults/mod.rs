@@ -1,23 +1,284 @@
-//! Wrong implementations. The comparison must find a difference in each, in
-//! every group named beside it; a comparison that passes one of them is itself
-//! wrong.
+//! Wrong implementations: the fast form with one thing spoiled. The comparison must find a difference in each, in every
+//! group named beside it; a comparison that passes one of them is itself wrong.
 
-pub mod desk;
-pub mod preview;
-pub mod section;
-pub mod sheet;
-pub mod unit;
+mod sheets;
+mod sound;
 
-use crate::checks::groups::Group;
-use crate::subject::Subject;
+use self::sheets::{exchanged, flag_2, last_line_unread, letters_first};
+use self::sound::{
+    block_with, frames_with, halves_up, levels, mix, nine_first, order_with, output, output_unlimited, past_target,
+    raise_flags, step_with, worked_again, wrapped,
+};
+use crate::checks::groups::*;
+use crate::preview::{fast::preview, RESULTS_TOO_SHORT};
+use crate::reference::fast::{nearest, step};
+use crate::reference::{
+    band_refusal, house_set, is_word, pack, unpack, ACCEPTED, NO_WORD, REFUSED_A, REFUSED_G, TABLE_1, WORD_MAX,
+    WORD_MIN,
+};
+use crate::subject::{Form, FAST};
+use crate::unit::fast::{block, level_moved};
+use crate::unit::orders::fast::{order, refusal};
+use crate::unit::orders::{Order, Setting, BOTH, NO_SIDE_AND_BAND, POSITION_OVER_31};
+use crate::unit::sheet::fast::{read, write};
+use crate::unit::sheet::{BADLY_WRITTEN, OUTSIDE, SHEET};
+use crate::unit::{block_refusal, cleared, load, OUTPUT_TOO_SHORT, PART_OF_A_FRAME, UNFIT};
 
 /// A wrong implementation, in words, and the groups that must find it.
-pub struct Impostor {
-    pub fault: &'static (dyn Subject + Sync),
+pub struct Wrong {
     pub name: &'static str,
     pub found_by: &'static [Group],
+    pub form: Form,
 }
 
-const fn impostor(fault: &'static (dyn Subject + Sync), name: &'static str, found_by: &'static [Group]) -> Impostor {
-    Impostor { fault, name, found_by }
+/// What is wrong, the groups that must find it, and the functions of the fast form that are replaced.
+macro_rules! wrong {
+    ($($name:literal [$($group:ident)+] $($function:ident = $spoiled:expr),+;)*) => {
+        pub const WRONG: &[Wrong] = &[$(Wrong {
+            name: $name,
+            found_by: &[$($group),+],
+            form: Form { $($function: $spoiled,)+ ..FAST },
+        }),*];
+    };
+}
+
+/// What the wrong sections and units have in common, with nothing wrong in it.
+pub const RIGHT: Form = Form {
+    section_step: |section, x| step_with(section, x, |products| nearest(products.iter().sum(), 22)),
+    block: |unit, input, sound| {
+        frames_with(unit, input, sound, |_, after, frame| {
+            worked_again(frame, |side| output(after, mix(after, after, side)))
+        })
+    },
+    ..FAST
+};
+
+wrong! {
+    "halves rounded upwards" [NEAREST LISTS CORNERS FIGURES]
+        nearest = halves_up,
+        section_step = |section, x| step_with(section, x, |products| halves_up(products.iter().sum(), 22));
+    "each product rounded by itself" [LISTS CORNERS FIGURES]
+        section_step = |section, x| step_with(section, x, |products| products.map(|v| nearest(v, 22)).iter().sum());
+    "the word left to wrap" [LISTS CORNERS FIGURES]
+        section_step = |section, x| step_with(section, x, |products| wrapped(nearest(products.iter().sum(), 22)));
+    "counted as limited where y is at the end of a word" [CORNERS FIGURES]
+        section_step = |section, x| match unpack(step(section, x)) {
+            (0, y @ (WORD_MIN | WORD_MAX)) => pack(ACCEPTED, true, y),
+            (status, y) => (status << 32) + i64::from(y),
+        };
+    "9 tested ahead of 8" [BANDS REFUSED]
+        band_refusal = |a, b, g| nine_first(b, band_refusal(a, b, g)),
+        section_step = |section, x| {
+            let (status, y) = unpack(step(section, x));
+            pack(nine_first(section[1], (status >> 1) as u32), status & 1 == 1, y)
+        };
+    "15 tested ahead of 8 to 10" [REFUSED]
+        section_step = |section, x| {
+            let [_, _, _, x1, x2, y1, y2] = *section;
+            let words = [x, x1, x2, y1, y2].into_iter().all(is_word);
+            if words { step(section, x) } else { pack(NO_WORD, false, 0) }
+        };
+    "high tested ahead of low" [LIMIT]
+        limit = |v, low, high| if v > high { high } else { v.max(low) };
+    "the shift taken modulo 64" [NEAREST]
+        nearest = |v, k| nearest(v, k % 64);
+    "the house set cut off, not to the nearest" [HOUSE FIGURES]
+        house_set = || {
+            let figure = |n: usize| TABLE_1[n / 3][n % 3].parse::<f64>().expect("a decimal figure");
+            std::array::from_fn(|n| (figure(n) * 8_388_608.0) as i32)
+        };
+
+    "input copied to output" [BLOCKS FRAMES UNIT_FIGURES DISTANCE]
+        block = |unit, input, output| block_with(unit, input, output, |_, sound| sound.copy_from_slice(input));
+    "silence for an answer" [BLOCKS FRAMES UNIT_FIGURES DISTANCE]
+        block = |unit, input, output| block_with(unit, input, output, |_, sound| sound.fill(0));
+    "the first frame filtered and repeated" [BLOCKS CUTS DISTANCE]
+        block = |unit, input, output| block_with(unit, input, output, |_, sound| {
+            (4..sound.len()).for_each(|place| sound[place] = sound[place - 4]);
+        });
+    "the mix limited before the volume" [BLOCKS FRAMES]
+        block = |unit, input, sound| frames_with(unit, input, sound, |_, after, frame| {
+            let limited = |m: i64| m.clamp(WORD_MIN.into(), WORD_MAX.into());
+            worked_again(frame, |side| output(after, limited(mix(after, after, side))));
+        });
+    "the output left to wrap" [BLOCKS FRAMES DISTANCE]
+        block = |unit, input, sound| frames_with(unit, input, sound, |_, after, frame| {
+            worked_again(frame, |side| output_unlimited(after, mix(after, after, side)));
+        });
+    "gains moved after the sound" [BLOCKS FRAMES LISTS_OF_CALLS DISTANCE]
+        block = |unit, input, sound| frames_with(unit, input, sound, |before, after, frame| {
+            worked_again(frame, |side| output(after, mix(before, after, side)));
+        });
+    "a level that steps past its target and comes back" [LEVELS BLOCKS FRAMES UNIT_FIGURES]
+        level_moved = past_target,
+        block = |unit, input, sound| frames_with(unit, input, sound, |before, after, _| {
+            levels().for_each(|(n, slope)| after[n] = past_target(before[n], before[n + 1], slope));
+        });
+    "levels moved once a block" [BLOCKS CUTS UNIT_FIGURES]
+        block = |unit, input, output| {
+            let before = *unit;
+            block_with(unit, input, output, |unit, _| {
+                levels().for_each(|(n, slope)| unit[n] = level_moved(before[n], before[n + 1], slope));
+            })
+        };
+    "the flag raised at the start" [BLOCKS FRAMES UNIT_FIGURES]
+        block = |unit, input, output| block_with(unit, input, output, |unit, _| raise_flags(unit));
+    "silence with the flags raised at the start" [BLOCKS FRAMES UNIT_FIGURES LISTS_OF_CALLS DISTANCE]
+        block = |unit, input, output| block_with(unit, input, output, |unit, sound| {
+            raise_flags(unit);
+            sound.fill(0);
+        });
+    "a sample of each block off by one" [BLOCKS FRAMES CUTS LISTS_OF_CALLS DISTANCE]
+        block = |unit, input, output| block_with(unit, input, output, |_, sound| {
+            sound[sound.len() - 2] ^= 1;
+        });
+    "bytes behind the block cleared" [BLOCKS FRAMES CUTS REFUSED_BLOCKS]
+        block = |unit, input, output| {
+            let behind = input.len().min(output.len());
+            output[behind..].fill(0);
+            block(unit, input, output)
+        };
+    "6 tested ahead of 5" [REFUSED_BLOCKS]
+        block = |unit, input, output| match block(unit, input, output) {
+            PART_OF_A_FRAME if output.len() < input.len() => OUTPUT_TOO_SHORT,
+            right => right,
+        };
+    "14 tested after 5 and 6" [FITNESS]
+        block = |unit, input, output| match (block(unit, input, output), block_refusal(true, input.len(), output.len())) {
+            (UNFIT, refusal @ (PART_OF_A_FRAME | OUTPUT_TOO_SHORT)) => refusal,
+            (right, _) => right,
+        };
+    "the output cleared by a refused block" [REFUSED_BLOCKS FITNESS]
+        block = |unit, input, output| {
+            let refusal = block(unit, input, output);
+            if refusal != ACCEPTED { output.fill(0); }
+            refusal
+        };
+    "the band set of a refused loading kept" [LOADS]
+        load = |unit, set| {
+            let refusal = load(unit, set);
+            *unit = cleared(set.try_into().unwrap_or(&house_set()));
+            refusal
+        };
+    "the volume kept by a loading" [LOADS UNIT_FIGURES]
+        load = |unit, set| {
+            let volume = unit[0];
+            let refusal = load(unit, set);
+            unit[0] = volume;
+            refusal
+        };
+
+    "each order refused" [ORDERS FACTORS ORDER_FIGURES LISTS_OF_CALLS DISTANCE]
+        order = |_, _| NO_SIDE_AND_BAND;
+    "positions below 16 on the steeper slope" [ORDERS ORDER_FIGURES LISTS_OF_CALLS DISTANCE]
+        order = |unit, given| order_with(unit, given, |right| match given.setting {
+            Setting::Position(p @ 0..16) if !given.is_volume() => (i32::from(p) - 16) * 558_681,
+            _ => right,
+        });
+    "the factor cut off, not rounded" [FACTORS ORDER_FIGURES LISTS_OF_CALLS]
+        order = |unit, given| order_with(unit, given, |right| match given.setting {
+            Setting::Factor(f) => (f * 8_388_608.0) as i32,
+            _ => right,
+        });
+    "halves of factors rounded upwards" [FACTORS ORDER_FIGURES]
+        order = |unit, given| order_with(unit, given, |right| match given.setting {
+            Setting::Factor(f) => ((f64::from(f) * 8_388_608.0 + 0.5).floor() as i32).min(WORD_MAX),
+            _ => right,
+        });
+    "the volume accepted for side 0" [ORDERS FACTORS LISTS_OF_CALLS DISTANCE]
+        order = |unit, given| match given.side {
+            0 if given.is_volume() => order(unit, &Order { side: BOTH, ..*given }),
+            _ => order(unit, given),
+        };
+    "2 tested ahead of 1" [ORDERS LISTS_OF_CALLS]
+        order = |unit, given| match (order(unit, given), given.setting) {
+            (NO_SIDE_AND_BAND, Setting::Position(32..)) => POSITION_OVER_31,
+            (right, _) => right,
+        };
+    "14 tested after 1 to 4" [ORDERS FACTORS]
+        order = |unit, given| match (order(unit, given), refusal(given)) {
+            (UNFIT, refusal @ 1..) => refusal,
+            (right, _) => right,
+        };
+    "side and band taken modulo 256" [ORDERS FACTORS LISTS_OF_CALLS]
+        order = |unit, given| order(unit, &Order { side: given.side % 256, band: given.band % 256, ..*given });
+
+    "zeros in place of blanks" [SHEETS SHEET_FIGURES SHEET_LISTS]
+        sheet_write = |unit, buffer| {
+            let written = write(unit, buffer);
+            buffer[..written].iter_mut().filter(|byte| **byte == b' ').for_each(|byte| *byte = b'0');
+            written
+        };
+    "y1 and y2 exchanged in sheets" [SHEETS SHEET_FIGURES SHEET_FIELDS SHEET_LISTS]
+        sheet_write = |unit, buffer| write(&exchanged(unit), buffer),
+        sheet_read = |unit, bytes| {
+            let refusal = read(unit, bytes);
+            if refusal == ACCEPTED { *unit = exchanged(unit); }
+            refusal
+        };
+    "the buffer cleared where no sheet is written" [SHEETS]
+        sheet_write = |unit, buffer| {
+            let written = write(unit, buffer);
+            if written == 0 { buffer.fill(0); }
+            written
+        };
+    "all sheets called badly written"
+        [SHEETS SHEET_FIGURES SHEET_FIELDS SHEET_LINES DAMAGED_SHEETS SHEET_LENGTHS SHEET_LISTS]
+        sheet_read = |_, _| BADLY_WRITTEN;
+    "12 tested ahead of all else" [SHEET_LINES DAMAGED_SHEETS]
+        sheet_read = letters_first;
+    "14 in place of 8 to 10" [SHEET_FIELDS SHEET_LINES DAMAGED_SHEETS]
+        sheet_read = |unit, bytes| match read(unit, bytes) {
+            REFUSED_A..=REFUSED_G => OUTSIDE,
+            right => right,
+        };
+    "tabs accepted for blanks" [SHEET_FIELDS DAMAGED_SHEETS]
+        sheet_read = |unit, bytes| {
+            let blank = |&byte: &u8| if byte == b'\t' { b' ' } else { byte };
+            read(unit, &bytes.iter().map(blank).collect::<Vec<u8>>())
+        };
+    "the flag 2 accepted" [SHEET_FIELDS SHEET_LINES]
+        sheet_read = flag_2;
+    "bytes behind a sheet ignored" [SHEET_LENGTHS]
+        sheet_read = |unit, bytes| read(unit, &bytes[..bytes.len().min(SHEET)]);
+    "the last line not read" [SHEETS SHEET_FIGURES SHEET_FIELDS SHEET_LINES DAMAGED_SHEETS SHEET_LISTS]
+        sheet_read = last_line_unread;
+    "the house unit given for a refused sheet" [SHEET_FIELDS SHEET_LINES DAMAGED_SHEETS SHEET_LENGTHS]
+        sheet_read = |unit, bytes| {
+            let refusal = read(unit, bytes);
+            if refusal != ACCEPTED { *unit = cleared(&house_set()); }
+            refusal
+        };
+
+    "silence for a preview" [PREVIEWS PREVIEW_LENGTHS PREVIEW_FIGURES PREVIEW_AND_SECTION]
+        preview = |band, words, results| {
+            let refusal = preview(band, words, results);
+            if refusal == ACCEPTED { results[..words.len()].fill(0); }
+            refusal
+        };
+    "the length taken modulo 65,536" [PREVIEWS PREVIEW_LENGTHS PREVIEW_AND_SECTION]
+        preview = |band, words, results| preview(band, &words[..words.len() % 65_536], results);
+    "the entry behind the results written" [PREVIEWS PREVIEW_LENGTHS PREVIEW_FIGURES]
+        preview = |band, words, results| {
+            let refusal = preview(band, words, results);
+            if refusal == ACCEPTED && results.len() > words.len() { results[words.len()] = 0; }
+            refusal
+        };
+    "each list refused" [PREVIEWS PREVIEW_LENGTHS REFUSED_PREVIEWS PREVIEW_FIGURES PREVIEW_AND_SECTION]
+        preview = |_, _, _| NO_WORD;
+    "15 tested ahead of 6" [REFUSED_PREVIEWS]
+        preview = |band, words, results| match preview(band, words, results) {
+            RESULTS_TOO_SHORT if !words.iter().all(|&word| is_word(word)) => NO_WORD,
+            right => right,
+        };
+    "a short buffer filled" [PREVIEW_LENGTHS REFUSED_PREVIEWS]
+        preview = |band, words, results| {
+            let refusal = preview(band, words, results);
+            if refusal == RESULTS_TOO_SHORT { preview(band, &words[..results.len()], results); }
+            refusal
+        };
+    "a buffer longer than the words refused" [PREVIEWS PREVIEW_LENGTHS REFUSED_PREVIEWS PREVIEW_FIGURES]
+        preview = |band, words, results| {
+            if results.len() > words.len() { preview(band, &[0], &mut []) } else { preview(band, words, results) }
+        };
 }

@@ -1,134 +1,67 @@
-//! Times the library's section step, rounding, level orders, previews, blocks and
-//! strip sheets over the C ABI against plain Rust of the same shape, and its
-//! previews against its section too: same input, same loop, taken in turns. The
-//! results must be equal. Exit status 0 only if a block of the library takes at
-//! most a tenth longer than one of the Rust form, and a sheet written or read at
-//! most half longer; no other time is asserted.
+//! Times the library over the C ABI against the fast Rust form, and its preview against its own section too: same
+//! input, same loop, in turns. The results must be equal. Exit status 0 only if a block of the library takes at most a
+//! tenth longer than one of the Rust form, and a sheet written or read at most half longer; no other time is asserted.
 
 mod blocks;
-mod previews;
-mod sheets;
 
 use std::hint::black_box;
 use std::process::ExitCode;
-use std::time::Instant;
 
-use outside::ffi::{self, raw};
+use outside::checks::units::{random_fit, Sets};
+use outside::ffi::raw;
 use outside::random::Random;
-use outside::reference::{fast, house_set, Section};
-use outside::unit::orders::{self, Order};
+use outside::reference::{house_set, ACCEPTED};
+use outside::subject::{Form, FAST, LIBRARY};
+use outside::timer::{fold, in_turns, kept, status, timed};
+use outside::unit::orders::Order;
+use outside::unit::sheet::SHEET;
 use outside::unit::{cleared, Numbers};
 
 const SEED: u64 = 0xF0DD_00BE;
-const COUNT: usize = 2_000_000;
 const ROUNDS: usize = 11;
-/// The most that a block of 4,096 frames may take, in times of the Rust form.
-const MOST: f64 = 1.10;
-/// The most that a sheet may take, written and read.
+/// Steps and roundings of a run.
+const COUNT: usize = 2_000_000;
+const ORDERS: usize = 100_000;
+/// The words of a list, and how often it is previewed in a run.
+const WORDS: usize = 100_000;
+const PREVIEWS: usize = 20;
+/// Sheets of a run, and the most that one may take in times of the Rust form.
+const SHEETS: usize = 65_536;
 const MOST_SHEET: f64 = 1.50;
 
-type StepFn = unsafe extern "C" fn(*mut Section, i32) -> i64;
-type NearestFn = unsafe extern "C" fn(i64, u32) -> i64;
-type OrderFn = fn(&mut Numbers, &Order) -> u32;
+/// Two forms by name.
+type Pair = [(&'static str, Form); 2];
+const WITH_RUST: Pair = [("library", LIBRARY), ("Rust", FAST)];
+const WITH_SECTION: Pair = [("preview", LIBRARY), ("section", Form { preview: section_steps, ..LIBRARY })];
 
-#[inline(never)]
-unsafe extern "C" fn rust_step(section: *mut Section, x: i32) -> i64 {
-    // SAFETY: the caller lends seven numbers that nobody else holds.
-    fast::step(unsafe { &mut *section }, x)
-}
-
-#[inline(never)]
-unsafe extern "C" fn rust_nearest(v: i64, k: u32) -> i64 {
-    fast::nearest(v, k)
-}
-
-fn fold(checksum: u64, answer: i64) -> u64 {
-    checksum.rotate_left(1) ^ answer as u64
-}
-
-/// All words through one section: nanoseconds a step, and the checksum.
-#[inline(never)]
-fn run_steps(step: StepFn, band: [i32; 3], words: &[i32]) -> (f64, u64) {
-    let [a, b, g] = band;
+/// The library's section from a cleared start, a step a word, in place of its preview. The low half of a step's answer
+/// is y.
+fn section_steps([a, b, g]: [i32; 3], words: &[i32], results: &mut [i32]) -> u32 {
     let mut section = [a, b, g, 0, 0, 0, 0];
-    let mut checksum = 0;
-    let begun = Instant::now();
-    for &x in words {
+    for (result, &x) in results.iter_mut().zip(words) {
         // SAFETY: the section is seven numbers of this function's own.
-        let answer = unsafe { step(&mut section, x) };
-        checksum = fold(checksum, answer);
+        *result = unsafe { raw::fonddrys_section_step(&mut section, x) } as i32;
     }
-    let nanoseconds = begun.elapsed().as_nanos() as f64;
-    (nanoseconds / words.len() as f64, black_box(checksum))
+    ACCEPTED
 }
 
-/// All numbers rounded: nanoseconds a number, and the checksum.
-#[inline(never)]
-fn run_nearest(nearest: NearestFn, numbers: &[(i64, u32)]) -> (f64, u64) {
-    let mut checksum = 0;
-    let begun = Instant::now();
-    for &(v, k) in numbers {
-        // SAFETY: takes and gives numbers only.
-        let answer = unsafe { nearest(v, k) };
-        checksum = fold(checksum, answer);
-    }
-    let nanoseconds = begun.elapsed().as_nanos() as f64;
-    (nanoseconds / numbers.len() as f64, black_box(checksum))
+/// Prints the best time of each for one thing of so many, and gives their ratio.
+fn race(name: &str, pair: &Pair, count: usize, run: impl Fn(&Form) -> (f64, u64)) -> Result<f64, String> {
+    let [(first, one), (second, other)] = pair;
+    let measure = |form| {
+        let (time, checksum) = run(black_box(form));
+        Ok(([time / count as f64], checksum))
+    };
+    let best = in_turns(ROUNDS, [&mut || measure(one), &mut || measure(other)]);
+    let [[one], [other]] = best.map_err(|fault| format!("{name}: {fault}"))?;
+    let ratio = one / other;
+    println!("{name}: {first} {one:.2} ns, {second} {other:.2} ns, ratio {ratio:.2}");
+    Ok(ratio)
 }
 
-/// All orders to one unit: nanoseconds an order, and the checksum.
-#[inline(never)]
-fn run_orders(order: OrderFn, orders: &[Order]) -> (f64, u64) {
-    let mut unit = cleared(&house_set());
-    let mut checksum = 0;
-    let begun = Instant::now();
-    for given in orders {
-        checksum = fold(checksum, order(&mut unit, given).into());
-    }
-    let nanoseconds = begun.elapsed().as_nanos() as f64;
-    let checksum = unit.iter().fold(checksum, |sum, &n| fold(sum, n.into()));
-    (nanoseconds / orders.len() as f64, black_box(checksum))
-}
-
-/// The library and Rust in turns: prints the best of each and gives their ratio.
-fn race<F: Copy>(name: &str, library: F, rust: F, run: impl Fn(F) -> (f64, u64)) -> f64 {
-    race_named(name, [("library", library), ("Rust", rust)], run)
-}
-
-/// The same for any two, by their names.
-fn race_named<F: Copy>(name: &str, runners: [(&str, F); 2], run: impl Fn(F) -> (f64, u64)) -> f64 {
-    let mut best = [f64::MAX; 2];
-    for _ in 0..ROUNDS {
-        let [first, second] = runners.map(|(_, runner)| run(black_box(runner)));
-        assert_eq!(first.1, second.1, "{name}: the results differ");
-        best = [best[0].min(first.0), best[1].min(second.0)];
-    }
-    let [(first, _), (second, _)] = runners;
-    let ratio = best[0] / best[1];
-    println!("{name}: {first} {:.2} ns, {second} {:.2} ns, ratio {ratio:.2}", best[0], best[1]);
-    ratio
-}
-
-fn main() -> ExitCode {
-    println!("seed {SEED:#x}, {COUNT} calls a run, best of {ROUNDS} runs each, in turns");
-    let mut random = Random::new(SEED);
-    time_steps(&mut random);
-    time_nearest(&mut random);
-    time_orders(&mut random);
-    previews::time();
-    let blocks = blocks::within(MOST);
-    if !blocks {
-        println!("FAILED: blocks of 4,096 frames, ratio over {MOST:.2}");
-    }
-    let sheets = sheets::within(MOST_SHEET);
-    if !sheets {
-        println!("FAILED: sheets written or read, ratio over {MOST_SHEET:.2}");
-    }
-    if blocks && sheets {
-        ExitCode::SUCCESS
-    } else {
-        ExitCode::FAILURE
-    }
+/// A run over a list: each thing gives a number for the checksum.
+fn run_each<T>(things: &[T], mut call: impl FnMut(&T) -> i64) -> (f64, u64) {
+    timed(|| things.iter().fold(0, |sum, thing| fold(sum, call(thing))))
 }
 
 /// The bands that steps and previews are timed with.
@@ -137,39 +70,113 @@ fn bands() -> [(&'static str, [i32; 3]); 2] {
     [("house band 1000 Hz", [house[15], house[16], house[17]]), ("extreme band", [8_388_607, 4_194_303, 8_388_606])]
 }
 
-fn time_steps(random: &mut Random) {
+fn time_steps(random: &mut Random) -> Result<(), String> {
     let words: Vec<i32> = (0..COUNT).map(|_| random.word()).collect();
-    for (name, band) in bands() {
-        race(&format!("step, {name}"), raw::fonddrys_section_step as StepFn, rust_step, |step| {
-            run_steps(step, band, &words)
-        });
+    for (name, [a, b, g]) in bands() {
+        race(&format!("step, {name}"), &WITH_RUST, COUNT, |form| {
+            let mut section = [a, b, g, 0, 0, 0, 0];
+            run_each(&words, |&x| (form.section_step)(&mut section, x))
+        })?;
     }
+    Ok(())
 }
 
-fn time_nearest(random: &mut Random) {
-    let section_sums: Vec<(i64, u32)> = (0..COUNT).map(|_| ((random.draw() as i64) >> 16, 22)).collect();
-    let any_shift: Vec<(i64, u32)> = (0..COUNT).map(|_| (random.any_size(), random.below(64) as u32)).collect();
-    for (name, numbers) in [("nearest, shift 22", section_sums), ("nearest, shifts 0 to 63", any_shift)] {
-        race(name, raw::fonddrys_nearest as NearestFn, rust_nearest, |nearest| run_nearest(nearest, &numbers));
+fn time_nearest(random: &mut Random) -> Result<(), String> {
+    let section_sums = (0..COUNT).map(|_| ((random.draw() as i64) >> 16, 22)).collect();
+    let any_shift = (0..COUNT).map(|_| (random.any_size(), random.below(64) as u32)).collect();
+    let rows: [(&str, Vec<(i64, u32)>); 2] =
+        [("nearest, shift 22", section_sums), ("nearest, shifts 0 to 63", any_shift)];
+    for (name, numbers) in rows {
+        race(name, &WITH_RUST, COUNT, |form| run_each(&numbers, |&(v, k)| (form.nearest)(v, k)))?;
     }
+    Ok(())
 }
 
-/// Orders for every side and band, a few of them refused. A unit is read from
-/// its numbers and tested for each.
-fn time_orders(random: &mut Random) {
-    const ORDERS: usize = COUNT / 20;
-    let mut place = || (random.below(3) as u32, random.below(10) as u32);
-    let places: Vec<(u32, u32)> = (0..ORDERS).map(|_| place()).collect();
-    let mut given = |make: &dyn Fn(u32, u32, u64) -> Order| -> Vec<Order> {
-        let drawn = places.iter().map(|&(side, band)| (side, band, random.draw()));
-        drawn.map(|(side, band, draw)| make(side, band, draw)).collect()
+/// Orders for every side and band, a few of them refused. A unit is read from its numbers and tested for each.
+fn time_orders(random: &mut Random) -> Result<(), String> {
+    let mut orders = |make: fn(u32, u32, u64) -> Order| -> Vec<Order> {
+        let mut draw = || make(random.below(3) as u32, random.below(10) as u32, random.draw());
+        (0..ORDERS).map(|_| draw()).collect()
     };
-    let positions = given(&|side, band, draw| Order::position(side, band, (draw % 33) as u8));
-    let factors = given(&|side, band, draw| {
-        let factor = (draw % 4_096) as f32 / 2_000.0 - 1.024;
-        Order::factor(side, band, factor)
-    });
+    let positions = orders(|side, band, draw| Order::position(side, band, (draw % 33) as u8));
+    let factors = orders(|side, band, draw| Order::factor(side, band, (draw % 4_096) as f32 / 2_000.0 - 1.024));
     for (name, orders) in [("order, position", positions), ("order, factor", factors)] {
-        race(name, ffi::order as OrderFn, orders::fast::order, |order| run_orders(order, &orders));
+        race(name, &WITH_RUST, ORDERS, |form| {
+            let mut unit = cleared(&house_set());
+            let (time, checksum) = run_each(&orders, |order| (form.order)(&mut unit, order).into());
+            (time, unit.iter().fold(checksum, |sum, &n| fold(sum, n.into())))
+        })?;
     }
+    Ok(())
+}
+
+/// A list of any words in one call, with a house band and an extreme one; the times are for a word.
+fn time_previews(random: &mut Random) -> Result<(), String> {
+    let words: Vec<i32> = (0..WORDS).map(|_| random.word()).collect();
+    for (name, band) in bands() {
+        let run = |form: &Form| {
+            let mut results = vec![0; words.len()];
+            let calls = || (0..PREVIEWS).all(|_| (form.preview)(band, &words, &mut results) == ACCEPTED);
+            let (time, accepted) = timed(calls);
+            assert!(accepted);
+            (time, results.iter().fold(0, |sum, &y| fold(sum, y.into())))
+        };
+        race(&format!("preview and section, {name}"), &WITH_SECTION, PREVIEWS * WORDS, run)?;
+        race(&format!("preview, {name}"), &WITH_RUST, PREVIEWS * WORDS, run)?;
+    }
+    Ok(())
+}
+
+/// Each unit in turn written to its own sheet.
+fn run_writes(form: &Form, units: &[Numbers]) -> (f64, u64) {
+    let mut sheets = vec![[0; SHEET]; units.len()];
+    let mut write_all = || units.iter().zip(&mut sheets).all(|(unit, sheet)| (form.sheet_write)(unit, sheet) == SHEET);
+    let (time, written) = timed(|| (0..SHEETS / units.len()).all(|_| write_all()));
+    assert!(written);
+    (time, sheets.iter().flatten().fold(0, |sum, &byte| fold(sum, byte.into())))
+}
+
+/// Each sheet in turn read into its own unit.
+fn run_reads(form: &Form, sheets: &[[u8; SHEET]]) -> (f64, u64) {
+    let mut units = vec![[0; 118]; sheets.len()];
+    let mut read_all = || units.iter_mut().zip(sheets).all(|(unit, sheet)| (form.sheet_read)(unit, sheet) == ACCEPTED);
+    let (time, read) = timed(|| (0..SHEETS / sheets.len()).all(|_| read_all()));
+    assert!(read);
+    (time, units.iter().flatten().fold(0, |sum, &number| fold(sum, number.into())))
+}
+
+/// Many random units, a few of them, with which both forms are faster, and the cleared house unit. True where every
+/// limit is kept.
+fn time_sheets(random: &mut Random) -> Result<bool, String> {
+    let sets = Sets::all();
+    let units: Vec<Numbers> = (0..1_024).map(|turn| random_fit(&sets.draw(turn, random), random)).collect();
+    let house = [cleared(&house_set())];
+    let mut all_kept = true;
+    for (name, units) in
+        [("of 1,024 units", &units[..]), ("of 64 units", &units[..64]), ("of the cleared house unit", &house[..])]
+    {
+        let mut sheets = vec![[0; SHEET]; units.len()];
+        units.iter().zip(&mut sheets).for_each(|(unit, sheet)| assert_eq!((FAST.sheet_write)(unit, sheet), SHEET));
+        let limit = format!("sheet {name}, ratio over {MOST_SHEET:.2}");
+        let written = || race(&format!("sheet {name} written"), &WITH_RUST, SHEETS, |form| run_writes(form, units));
+        let read = || race(&format!("sheet {name} read"), &WITH_RUST, SHEETS, |form| run_reads(form, &sheets));
+        all_kept &= kept(&limit, || Ok(written()? <= MOST_SHEET))?;
+        all_kept &= kept(&limit, || Ok(read()? <= MOST_SHEET))?;
+    }
+    Ok(all_kept)
+}
+
+fn everything() -> Result<bool, String> {
+    println!("seed {SEED:#x}, best of {ROUNDS} runs each, of blocks of {}, in turns", blocks::ROUNDS);
+    let random = &mut Random::new(SEED);
+    time_steps(random)?;
+    time_nearest(random)?;
+    time_orders(random)?;
+    time_previews(random)?;
+    let blocks = blocks::time(random)?;
+    Ok(time_sheets(random)? && blocks)
+}
+
+fn main() -> ExitCode {
+    status(everything())
 }

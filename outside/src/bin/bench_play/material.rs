@@ -15,17 +15,12 @@ pub const SEED: u64 = 0xF0DD_00E0;
 pub const RATE: usize = 44_100;
 pub const FRAMES: usize = 4 * 60 * RATE;
 
-/// A folder with the sheet, the sound as a file beside it and in memory.
+/// The play program, a folder with the sheet, and the sound as a file beside it and in memory.
 pub struct Material {
+    pub play: PathBuf,
     pub folder: Temporary,
     pub unit: Numbers,
     pub noise: Vec<u8>,
-}
-
-fn noise() -> Vec<u8> {
-    let mut random = Random::new(SEED);
-    let draws = (0..FRAMES / 2).map(|_| random.draw().to_le_bytes());
-    draws.flatten().collect()
 }
 
 /// The house unit after orders to the volume and to every band.
@@ -47,11 +42,12 @@ pub fn sheet_of(unit: &Numbers) -> Vec<u8> {
 }
 
 impl Material {
-    pub fn new() -> std::io::Result<Material> {
-        let material = Material { folder: Temporary::new("bench_play")?, unit: unit(), noise: noise() };
+    pub fn new(play: PathBuf) -> std::io::Result<Material> {
+        let mut random = Random::new(SEED);
+        let noise = (0..FRAMES / 2).flat_map(|_| random.draw().to_le_bytes()).collect();
+        let material = Material { play, folder: Temporary::new("bench_play")?, unit: unit(), noise };
         fs::write(material.noise_path(), &material.noise)?;
-        let sheet = sheet_of(&material.unit);
-        fs::write(material.folder.path().join("strip.sht"), sheet)?;
+        fs::write(material.folder.path().join("strip.sht"), sheet_of(&material.unit))?;
         Ok(material)
     }
 
@@ -62,26 +58,5 @@ impl Material {
     /// The sheet that the play program wrote.
     pub fn new_sheet(&self) -> Vec<u8> {
         fs::read(self.folder.path().join("strip.new")).unwrap_or_default()
-    }
-}
-
-/// Sound as it comes, brought to one number.
-#[derive(Default, PartialEq)]
-pub struct Checksum {
-    sum: u64,
-    count: usize,
-}
-
-impl Checksum {
-    pub fn add(&mut self, bytes: &[u8]) {
-        for &byte in bytes {
-            let mixed = (self.sum ^ u64::from(byte)).wrapping_mul(0x9E37_79B9_7F4A_7C15);
-            self.sum = mixed.rotate_left(29);
-        }
-        self.count += bytes.len();
-    }
-
-    pub fn count(&self) -> usize {
-        self.count
     }
 }
