@@ -102,6 +102,10 @@ const NOT_BEGUN: [(&[&str], bool, &str, &str); 15] = [
 /// Nothing is played and nothing changes, whatever the input is.
 fn not_begun(test: &mut Test, material: &Material) -> Result<(), Difference> {
     let tail = &material.bytes[..4_001];
+    // A link to a folder is as good as one.
+    let before = with(&material.sheet, vec![(NEW_NAME, link(ELSEWHERE)), (ELSEWHERE, Entry::Folder)]);
+    let run = Run::of(PLAY, Input::File(tail));
+    test.expect("strip.new a link to a folder", &before, run, &Seen::nothing_but(NEW_A_FOLDER, &before))?;
     for (folders, has_sheet, closed, line) in NOT_BEGUN {
         let sheet = if has_sheet { material.sheet.clone() } else { Contents::new() };
         for begin in without_and_with_old(&sheet) {
