@@ -54,22 +54,29 @@ module _ (c : lts.After-accepted (order-at-reads.Asked, order-at-reads.Learnt, a
   answer : (t : Bool) → c .accepted .result ≡ t → isAccepted (orderedOne (turn .loop .ordered .unit) order .verdict) ≡ t
   answer t e = sym (ap (λ (o : Ordered). isAccepted (o .verdict)) (c .before .order-at .ensures)) ∙ sym (c .accepted .ensures) ∙ e
 
+  abbrev rest : List DeskOrder
+  rest = ordersIn (drop (at + orderSize) numbers)
+
+  -- refused, it ends the list
+  ends : c .accepted .result ≡ false → c .before .order-at .result ≡ orderedAll (turn .before .before .args .unit) (ordersIn numbers)
+  ends e = c .before .order-at .ensures ∙ sym (from-here ∙ all-refused (turn .loop .ordered .unit) order rest (answer false e))
+
+  -- accepted, the others go to the unit after it
+  goes-on : c .accepted .result ≡ true → orderedAll (turn .before .before .args .unit) (ordersIn numbers) ≡ orderedAll (c .before .order-at .result .unit) rest
+  goes-on e =
+      from-here
+      ∙ all-accepted (turn .loop .ordered .unit) order rest (answer true e)
+      ∙ ap (λ (o : Ordered). orderedAll (o .unit) rest) (sym (c .before .order-at .ensures))
+
 returns : tie.Need-returns Inv-loop μ-loop
-returns c =
-    let a = c .before in
-    a .before .order-at .ensures
-    ∙ sym (from-here a ∙ all-refused (turn a .loop .ordered .unit) (order a) (ordersIn (drop (at a + orderSize) (numbers a))) (answer a false (not-true (a .accepted .result) (c .if1 .taken))))
+returns c = ends (c .before) (not-true (c .before .accepted .result) (c .if1 .taken))
 
 loop-again : tie.Need-loop-again Inv-loop μ-loop
-loop-again c =
-    let a = c .before in
-    let yes = not-false (a .accepted .result) (c .if1 .left) in (
-      omega arith,
-      accepted-only (a .before .order-at .result .verdict) (sym (a .accepted .ensures) ∙ yes),
-      from-here a
-          ∙ all-accepted (turn a .loop .ordered .unit) (order a) (ordersIn (drop (at a + orderSize) (numbers a))) (answer a true yes)
-          ∙ ap (λ (o : Ordered). orderedAll (o .unit) (ordersIn (drop (at a + orderSize) (numbers a)))) (sym (a .before .order-at .ensures)),
-    )
+loop-again c = (
+  omega arith,
+  accepted-only (c .before .before .order-at .result .verdict) (sym (c .before .accepted .ensures) ∙ not-false (c .before .accepted .result) (c .if1 .left)),
+  goes-on (c .before) (not-false (c .before .accepted .result) (c .if1 .left)),
+)
 
 returns-2 : tie.Need-returns-2 Inv-loop μ-loop
 returns-2 c =
