@@ -9,7 +9,6 @@ use lib.Seq.{drop-cons}
 use Rattle.refusals.specs.Numbers.{isAccepted}
 use Rattle.unit.specs.declared.Unit.{Unit}
 use Rattle.unit.specs.Fit.{Fit}
-use Rattle.orders.specs.declared.Ordered.{Ordered}
 use Rattle.orders.proofs.Laws.{order-fit}
 use Rattle.order_lists.specs.declared.DeskOrder.{DeskOrder}
 use Rattle.order_lists.specs.Lists.{orderSize, areOrders, ordersIn, orderedOne, orderedAll}

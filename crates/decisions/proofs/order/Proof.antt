@@ -1,5 +1,5 @@
 -- `decisions::order` meets its contract: the sheet's refusal, or that of an order, or the sheet after the orders.
-use mathlib.Core.Path.{_≡_, sym, ap, _∙_}
+use mathlib.Core.Path.{_≡_, sym, _∙_}
 use mathlib.Core.Bool.{true}
 use mathlib.Core.List.{List}
 use denote.Ref.{now}
