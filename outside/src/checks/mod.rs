@@ -26,6 +26,7 @@ pub mod preview_refusals;
 pub mod previews;
 pub mod refusals;
 pub mod report;
+pub mod run;
 pub mod same_block;
 pub mod same_order;
 pub mod same_preview;
@@ -45,7 +46,6 @@ pub mod steps;
 pub mod tally;
 pub mod unit_figures;
 pub mod units;
-pub mod words;
 
 pub use self::tally::Tally;
 use crate::reference::{exact, unpack, Section};

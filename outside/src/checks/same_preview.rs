@@ -2,12 +2,12 @@
 //! the preview held against the same subject's section.
 
 use super::bands::Band;
+use super::run::{briefly, same_left, Checked, Run};
 use super::tally::Steps;
-use super::{same, Difference, Tally};
+use super::Tally;
 use crate::preview::{exact, RESULTS_TOO_SHORT};
 use crate::random::Random;
-use crate::reference::{exact::sum, unpack, Section, ACCEPTED, WORD_MAX, WORD_MIN};
-use crate::reference::{REFUSED_A, REFUSED_B, REFUSED_G};
+use crate::reference::{exact::sum, unpack, Section, ACCEPTED, REFUSED_A, REFUSED_B, REFUSED_G, WORD_MAX, WORD_MIN};
 use crate::subject::Subject;
 
 /// What the previews met.
@@ -32,9 +32,7 @@ impl Previews {
         self.words += other.words;
         self.steps.add(&other.steps);
         self.zeros_from_below += other.zeros_from_below;
-        for (sum, count) in self.refused.iter_mut().zip(other.refused) {
-            *sum += count;
-        }
+        self.refused.iter_mut().zip(other.refused).for_each(|(sum, count)| *sum += count);
     }
 
     /// What a comparison must reach, by name.
@@ -83,58 +81,34 @@ impl Previews {
 /// A results buffer of so many entries, many of them no words.
 pub fn buffer(room: usize, random: &mut Random) -> Vec<i32> {
     const KNOWN: [i32; 6] = [i32::MIN, i32::MAX, WORD_MIN - 1, WORD_MAX + 1, 0, -1];
-    let mut entry = || match random.below(3) {
+    let entry = |_| match random.below(3) {
         0 => random.pick(&KNOWN),
         1 => random.word(),
         _ => random.any_i32(),
     };
-    (0..room).map(|_| entry()).collect()
+    (0..room).map(entry).collect()
+}
+
+/// A preview in words.
+fn what(band: Band, words: &[i32], room: usize) -> String {
+    format!("preview with A, B, G = {band:?} of words, {}, into {room}", briefly(words))
 }
 
 /// Previews a list with the exact reference and with the subject into copies of
 /// the lent buffer. Compares the answer and every entry, those past the results
 /// too; accepted results are compared with the subject's section as well.
-pub fn same_preview(
-    subject: &dyn Subject,
-    band: Band,
-    words: &[i32],
-    lent: &[i32],
-    tally: &mut Tally,
-) -> Result<(), Difference> {
+pub fn same_preview(subject: &dyn Subject, band: Band, words: &[i32], lent: &[i32], tally: &mut Tally) -> Checked {
     let (mut expected, mut got) = (lent.to_vec(), lent.to_vec());
     let met = &mut tally.previews;
-    let refusal = exact::preview(band, words, &mut expected, |before, x, answer| {
-        met.count_step(before, x, answer);
-    });
+    let refusal = exact::preview(band, words, &mut expected, |before, x, answer| met.count_step(before, x, answer));
     let answer = subject.preview(band, words, &mut got);
-    if refusal != answer || expected != got {
-        return Err(spell(band, words, [refusal, answer], [&expected, &got]));
-    }
+    same_left([refusal, answer], [&expected, &got], || what(band, words, lent.len()))?;
     tally.answers += 1;
     tally.previews.count_call(words, refusal);
     match refusal {
         ACCEPTED => same_as_section(subject, band, words, &got, tally),
         _ => Ok(()),
     }
-}
-
-/// Previews a list with the subject: the number must be this one, and all
-/// entries from this one on must be those that were lent.
-pub fn same_number(
-    subject: &dyn Subject,
-    band: Band,
-    words: &[i32],
-    lent: &[i32],
-    (number, filled): (u32, usize),
-    tally: &mut Tally,
-) -> Result<(), Difference> {
-    let mut after = lent.to_vec();
-    let answer = subject.preview(band, words, &mut after);
-    let kept = after[filled..] == lent[filled..];
-    same(tally, (number, true), (answer, kept), || {
-        let what = what(band, words, lent.len());
-        format!("{what}, its number and whether entries from {filled} on are kept")
-    })
 }
 
 /// Steps the subject's own section over the words from a cleared start: each
@@ -145,37 +119,36 @@ pub fn same_as_section(
     words: &[i32],
     results: &[i32],
     tally: &mut Tally,
-) -> Result<(), Difference> {
+) -> Checked {
     let mut section = [a, b, g, 0, 0, 0, 0];
     for (place, (&x, &result)) in words.iter().zip(results).enumerate() {
         let before = section;
         let (status, y) = unpack(subject.section_step(&mut section, x));
         if status > 1 || y != result {
-            return Err(format!(
-                "place {place} of a list: the preview gives {result}, the section's step \
-                 of {before:?} with x = {x} gives {y}"
-            ));
+            let step = format!("the section's step of {before:?} with x = {x} gives {y}");
+            return Err(format!("place {place} of a list: the preview gives {result}, {step}"));
         }
     }
     tally.answers += 1;
     Ok(())
 }
 
-/// A preview in words.
-fn what(band: Band, words: &[i32], room: usize) -> String {
-    format!(
-        "preview with A, B, G = {band:?} of {} words beginning {:?} into {room}",
-        words.len(),
-        &words[..words.len().min(12)],
-    )
-}
-
-/// The inputs of a difference and the first entry that differs.
-fn spell(band: Band, words: &[i32], [refusal, answer]: [u32; 2], [right, wrong]: [&[i32]; 2]) -> Difference {
-    let what = what(band, words, right.len());
-    let mut text = format!("{what}: expected refusal {refusal}, got {answer}");
-    if let Some(n) = (0..right.len()).find(|&n| right[n] != wrong[n]) {
-        text += &format!("; entry {n} expected {}, got {}", right[n], wrong[n]);
+impl Run<'_> {
+    /// One list into a buffer of so many entries.
+    pub fn preview(&mut self, band: Band, words: &[i32], room: usize) -> Checked<Vec<i32>> {
+        let lent = buffer(room, &mut self.random);
+        same_preview(self.subject, band, words, &lent, &mut self.tally)?;
+        Ok(lent)
     }
-    text
+
+    /// One list into a buffer of so many entries, with its number as document 01
+    /// states it. All entries from the given one on must be those that were lent.
+    pub fn stated_preview(&mut self, band: Band, words: &[i32], room: usize, stated: (u32, usize)) -> Checked {
+        let lent = self.preview(band, words, room)?;
+        let (number, filled) = stated;
+        let mut after = lent.clone();
+        let answer = self.subject.preview(band, words, &mut after);
+        let kept = after[filled..] == lent[filled..];
+        self.same((number, true), (answer, kept), || format!("{}, entries kept", what(band, words, room)))
+    }
 }
