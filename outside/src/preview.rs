@@ -1,17 +1,15 @@
 //! The floating preview of a section. Quoted sentences are document 01's.
 //!
-//! Two forms stand side by side, as for the section. `exact` is the plain
-//! meaning: the exact section, stepped over the list. `fast` is what one would
-//! write for use, in f64.
+//! Two forms stand side by side, as for the section. `exact` is the plain meaning: the exact section, stepped over
+//! the list. `fast` is what one would write for use, in f64.
 
 use crate::reference::{band_refusal, ACCEPTED, NO_WORD};
 
 /// "6 (results buffer shorter than the words)".
 pub const RESULTS_TOO_SHORT: u32 = 6;
 
-/// "The preview's user: 8 to 10, then 6 (results buffer shorter than the
-/// words), then 15 a number that is no word." Whether all are words is judged
-/// by the given function.
+/// "The preview's user: 8 to 10, then 6 (results buffer shorter than the words), then 15 a number that is no word."
+/// Whether all are words is judged by the given function.
 fn refusal_by([a, b, g]: [i32; 3], words: &[i32], room: usize, all_words: impl Fn(&[i32]) -> bool) -> u32 {
     match band_refusal(a, b, g) {
         ACCEPTED if room < words.len() => RESULTS_TOO_SHORT,
@@ -29,10 +27,9 @@ pub mod exact {
         words.iter().copied().all(is_word)
     }
 
-    /// "For an accepted band and any list of words from a cleared start its
-    /// results equal the section's". After a refusal "The buffer is unchanged;
-    /// after an accepted call its entries past the results keep their
-    /// contents." Each step is shown: the section before it, x and the answer.
+    /// "For an accepted band and any list of words from a cleared start its results equal the section's". After a
+    /// refusal "The buffer is unchanged; after an accepted call its entries past the results keep their contents."
+    /// Each step is shown: the section before it, x and the answer.
     pub fn preview(
         band: [i32; 3],
         words: &[i32],
@@ -60,13 +57,12 @@ pub mod fast {
     use super::refusal_by;
     use crate::reference::{is_word, ACCEPTED, WORD_MAX, WORD_MIN};
 
-    /// 1.5 × 2^52. An f64 of that size has no fraction, so a number that this
-    /// is added to and taken from again is rounded to nearest, halves to even.
+    /// 1.5 × 2^52. An f64 of that size has no fraction, so a number that this is added to and taken from again is
+    /// rounded to nearest, halves to even.
     const WHOLE: f64 = 6_755_399_441_055_744.0;
 
-    /// The coefficients over 2^22, the delayed words, and G × y1, which is worked
-    /// as soon as y1 is known. All products and sums are exact: multiples of
-    /// 2^-22 below 2^26.
+    /// The coefficients over 2^22, the delayed words, and G × y1, which is worked as soon as y1 is known. All
+    /// products and sums are exact: multiples of 2^-22 below 2^26.
     #[derive(Default)]
     struct Preview {
         a: f64,

@@ -1,5 +1,4 @@
-//! Which bands are refused, the house set, and the bands the section is
-//! stepped with.
+//! Which bands are refused, the house set, and the bands the section is stepped with.
 
 use super::run::{Checked, Run};
 use super::{same, Outcome, Tally};
@@ -26,8 +25,7 @@ fn with_the_ends(numbers: &[i32]) -> Vec<i32> {
     [&[i32::MIN, i32::MIN + 1], numbers, &[i32::MAX - 1, i32::MAX]].concat()
 }
 
-/// Every G of the list and those at the edge that goes with this B, each with
-/// every A.
+/// Every G of the list and those at the edge that goes with this B, each with every A.
 fn every_band_beside(b: i32) -> Vec<Band> {
     let edge = 4_194_304 + i64::from(b);
     let beside = (-2..=2).flat_map(|d| [edge + d, -edge + d]);
@@ -99,8 +97,7 @@ pub fn random_accepted(random: &mut Random) -> Band {
     [a, b, random.between(-largest_g(b), largest_g(b))]
 }
 
-/// An accepted band whose poles lie close to the unit circle, with an A of any
-/// size: its results decay slowly.
+/// An accepted band whose poles lie close to the unit circle, with an A of any size: its results decay slowly.
 pub fn slow_accepted(random: &mut Random) -> Band {
     let a = random.between(0, 8_388_607) >> random.below(23);
     let b = 4_194_303 - (random.between(0, 4_095) >> random.below(12));

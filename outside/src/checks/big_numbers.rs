@@ -1,5 +1,5 @@
-//! The arithmetic of the exact sound by itself: small numbers against i128,
-//! large ones by what they leave when divided, and figures worked by hand.
+//! The arithmetic of the exact sound by itself: small numbers against i128, large ones by what they leave when
+//! divided, and figures worked by hand.
 
 use super::{same, Difference, Outcome, Tally};
 use crate::exact_sound::big::Big;
@@ -113,8 +113,7 @@ fn fractions(random: &mut Random, tally: &mut Tally) -> Result<(), Difference> {
     same(tally, true, close, inputs)
 }
 
-/// H after so many frames: with B = 0 the sum of |G / 2^22|^k, and one with a
-/// B by hand: 1 + |3/2| + |9/4 - 1/2|.
+/// H after so many frames: with B = 0 the sum of |G / 2^22|^k, and one with a B by hand: 1 + |3/2| + |9/4 - 1/2|.
 fn responses(tally: &mut Tally) -> Result<(), Difference> {
     let set = |b, g| std::array::from_fn(|n| [1, b, g][n % 3]);
     let figures = [
@@ -135,9 +134,8 @@ fn responses(tally: &mut Tally) -> Result<(), Difference> {
     Ok(())
 }
 
-/// "V = 419, gains 0, s = 32,767": the exact output is 419 × 256 × 32,767 /
-/// 2^31. With the 31 Hz band's gain at 839 too, it has 839 × 6,606 × 256 ×
-/// 32,767 / 2^45 more in the mix.
+/// "V = 419, gains 0, s = 32,767": the exact output is 419 × 256 × 32,767 / 2^31. With the 31 Hz band's gain at 839
+/// too, it has 839 × 6,606 × 256 × 32,767 / 2^45 more in the mix.
 fn first_frame(tally: &mut Tally) -> Result<(), Difference> {
     let mut sound = ExactSound::new(&house_set());
     sound.order(&Order::position(2, VOLUME_BAND, 31));

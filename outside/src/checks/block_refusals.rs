@@ -1,5 +1,5 @@
-//! Blocks of wrong lengths: "5 input bytes no multiple of four; 6 output
-//! shorter than input. Unit and output unchanged."
+//! Blocks of wrong lengths: "5 input bytes no multiple of four; 6 output shorter than input. Unit and output
+//! unchanged."
 
 use super::run::{Checked, Run};
 use super::same_block::marks;
@@ -10,9 +10,8 @@ use crate::unit::{cleared, Numbers, OUTPUT_TOO_SHORT, PART_OF_A_FRAME};
 
 pub const BLOCK_REFUSALS_SEED: u64 = 0xF0DD_0017;
 
-/// One block: compared with the reference, its number as document 01 states
-/// it, "The first that applies, in numerical order", and after a refusal unit
-/// and output unchanged.
+/// One block: compared with the reference, its number as document 01 states it, "The first that applies, in
+/// numerical order", and after a refusal unit and output unchanged.
 fn block(run: &mut Run, numbers: &Numbers, length: usize, room: usize) -> Checked {
     let input = vec![0x5A; length];
     run.block(&mut numbers.clone(), &input, room)?;

@@ -33,8 +33,7 @@ fn long_sound(run: &mut Run, numbers: &mut Numbers) -> Checked {
     Ok(())
 }
 
-/// A sound and the silence behind it, with every gain at this end and the
-/// volume at rest.
+/// A sound and the silence behind it, with every gain at this end and the volume at rest.
 fn loud(run: &mut Run, set: &[i32; 30], [gain, volume]: [i32; 2], sound: Sound) -> Checked {
     let mut numbers = cleared(set);
     numbers[..2].fill(volume);
@@ -43,8 +42,7 @@ fn loud(run: &mut Run, set: &[i32; 30], [gain, volume]: [i32; 2], sound: Sound) 
     block(run, &mut numbers, Sound::Silence, 500)
 }
 
-/// Every sound with all gains high, all low and anywhere. At the volume
-/// 700,000 the largest mix isn't limited.
+/// Every sound with all gains high, all low and anywhere. At the volume 700,000 the largest mix isn't limited.
 fn every_sound(run: &mut Run, turn: u64) -> Checked {
     for sound in SOUNDS {
         let set = run.sets.draw(turn, &mut run.random);

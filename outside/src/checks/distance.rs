@@ -1,5 +1,5 @@
-//! The distance from the exact sound: each list is played by the subject alone,
-//! and its outputs are held against a reckoning that takes nothing from it.
+//! The distance from the exact sound: each list is played by the subject alone, and its outputs are held against a
+//! reckoning that takes nothing from it.
 
 use super::distance_lists::lists;
 use super::same_block::marks;
@@ -35,8 +35,7 @@ pub fn played(subject: &dyn Subject, list: &List) -> Vec<Vec<u8>> {
 /// A list and its outputs.
 type Played = (List, Vec<Vec<u8>>);
 
-/// Judges the next list that nobody has taken, until none is left or one lies
-/// beyond the bound.
+/// Judges the next list that nobody has taken, until none is left or one lies beyond the bound.
 fn judge_in_turn(every: &[Played], next: &AtomicUsize) -> Result<Distances, Difference> {
     let mut distances = Distances::default();
     while let Some((list, outputs)) = every.get(next.fetch_add(1, Ordering::Relaxed)) {

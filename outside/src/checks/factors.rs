@@ -18,8 +18,7 @@ const PLACES: [(u32, u32); 7] = [(0, 0), (1, 9), (2, 5), (2, 10), (0, 10), (3, 0
 /// Factors for every side and band: accepted, outside and not finite.
 const EVERYWHERE: [f32; 8] = [0.0, -0.0, 0.25, -0.25, -1.0, 1.0, f32::INFINITY, f32::NAN];
 
-/// Bits of infinity and the largest numbers, and of what is no number, with several
-/// payloads.
+/// Bits of infinity and the largest numbers, and of what is no number, with several payloads.
 const LARGEST: [u32; 3] = [0x7F7F_FFFE, 0x7F7F_FFFF, 0x7F80_0000];
 const NO_NUMBERS: [u32; 7] =
     [0x7F80_0001, 0x7FA0_0000, 0x7FBF_FFFF, 0x7FC0_0000, 0x7FC1_2345, 0x7FFF_FFFE, 0x7FFF_FFFF];

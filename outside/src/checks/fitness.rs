@@ -1,5 +1,4 @@
-//! Which units are fit, and blocks on unfit ones: "an unfit one is 14, and unit
-//! and output are unchanged."
+//! Which units are fit, and blocks on unfit ones: "an unfit one is 14, and unit and output are unchanged."
 
 use super::refusals::wrong_numbers;
 use super::run::{Checked, Run};
@@ -13,8 +12,7 @@ use crate::unit::{cleared, exact, Numbers, BANDS, UNFIT};
 
 pub const FITNESS_SEED: u64 = 0xF0DD_0013;
 
-/// Lengths of input and output: right ones, and those that are 5, 6 or both
-/// for a fit unit.
+/// Lengths of input and output: right ones, and those that are 5, 6 or both for a fit unit.
 const LENGTHS: [(usize, usize); 6] = [(0, 0), (4, 4), (8, 11), (3, 8), (8, 7), (7, 2)];
 
 /// The B that goes with a coefficient's place.
@@ -62,8 +60,7 @@ pub fn edge_numbers(numbers: &Numbers, place: usize) -> Vec<i32> {
     }
 }
 
-/// A fit unit with one number unfit or several. A wrong B can make a wrong G
-/// beside it right, never itself.
+/// A fit unit with one number unfit or several. A wrong B can make a wrong G beside it right, never itself.
 pub fn spoilt(numbers: &Numbers, random: &mut Random) -> Numbers {
     let mut spoilt = *numbers;
     for _ in 0..=random.below(5) {

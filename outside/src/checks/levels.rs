@@ -1,5 +1,4 @@
-//! A level moved once: "by 839 and the volume by 419, or by the whole distance
-//! where that is less".
+//! A level moved once: "by 839 and the volume by 419, or by the whole distance where that is less".
 
 use super::run::{Checked, Run};
 use super::Outcome;
@@ -21,8 +20,8 @@ fn level_corners() -> Vec<i32> {
     corners
 }
 
-/// One move, compared, and its meaning checked: it doesn't pass the target, is
-/// no longer than the slope, and is shorter only where it arrives.
+/// One move, compared, and its meaning checked: it doesn't pass the target, is no longer than the slope, and is
+/// shorter only where it arrives.
 fn one(run: &mut Run, present: i32, target: i32, slope: u32) -> Checked {
     let got = run.subject.level_moved(present, target, slope);
     let inputs = || format!("level at {present} with target {target}, slope {slope}");

@@ -38,7 +38,7 @@ pub mod sheet_lengths;
 pub mod sheet_lines;
 pub mod sheet_lists;
 pub mod sheet_makers;
-pub mod sheet_places;
+pub use crate::unit::sheet::places as sheet_places;
 pub mod sheet_texts;
 pub mod sheets;
 pub mod sounds;

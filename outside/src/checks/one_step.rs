@@ -1,5 +1,4 @@
-//! Whether the distance notices a sample one step away: right outputs are
-//! changed in a single sample at a time.
+//! Whether the distance notices a sample one step away: right outputs are changed in a single sample at a time.
 
 use super::distance::played;
 use super::makers::Maker;
@@ -34,8 +33,7 @@ fn is_found(list: &List, outputs: &[Vec<u8>], [block, at]: [usize; 2], step: i16
     judge(list, &moved).is_err()
 }
 
-/// Every sample must be found when moved away from the exact sound, which is
-/// one step up or one step down.
+/// Every sample must be found when moved away from the exact sound, which is one step up or one step down.
 pub fn found_everywhere() -> Outcome {
     let list = list();
     let outputs = played(&Fast, &list);

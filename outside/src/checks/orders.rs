@@ -10,8 +10,7 @@ use crate::unit::{cleared, Numbers, UNFIT};
 
 pub const ORDERS_SEED: u64 = 0xF0DD_0018;
 
-/// Sides and bands that there are, the next ones, and larger ones that equal
-/// one of them modulo 2^8, 2^16 or 2^31.
+/// Sides and bands that there are, the next ones, and larger ones that equal one of them modulo 2^8, 2^16 or 2^31.
 const SIDES: [u32; 15] =
     [0, 1, 2, 3, 4, 255, 256, 257, 258, 65_536, 65_538, 1 << 31, (1 << 31) + 2, u32::MAX - 1, u32::MAX];
 const BANDS: [u32; 20] = [0, 1, 2, 3, 4, 5, 6, 7, 8, 9, 10, 11, 12, 255, 256, 265, 266, 65_536, 65_545, 65_546];
@@ -22,8 +21,7 @@ pub fn every_side_and_band() -> impl Iterator<Item = (u32, u32)> {
     SIDES.into_iter().flat_map(|side| BANDS.into_iter().chain(LARGE_BANDS).map(move |band| (side, band)))
 }
 
-/// One order: compared with the reference, and its number as document 01
-/// states it.
+/// One order: compared with the reference, and its number as document 01 states it.
 fn stated(run: &mut Run, numbers: &Numbers, order: &Order, number: u32) -> Checked {
     let answer = run.order(&mut numbers.clone(), order)?;
     run.same(number, answer, || format!("{order:?}"))

@@ -1,6 +1,5 @@
-//! Lists and results buffers of every small length and of larger ones: "6
-//! (results buffer shorter than the words)"; "after an accepted call its entries
-//! past the results keep their contents."
+//! Lists and results buffers of every small length and of larger ones: "6 (results buffer shorter than the words)";
+//! "after an accepted call its entries past the results keep their contents."
 
 use super::bands::{extreme_accepted, half_accepted, house_bands, random_accepted, Band};
 use super::run::{Checked, Run};

@@ -1,5 +1,5 @@
-//! Previews that are refused: "8 to 10, then 6 (results buffer shorter than the
-//! words), then 15 a number that is no word. The buffer is unchanged".
+//! Previews that are refused: "8 to 10, then 6 (results buffer shorter than the words), then 15 a number that is no
+//! word. The buffer is unchanged".
 
 use super::bands::{corner_bands, random_accepted, Band};
 use super::refusals::{number_for, spoil, wrong_numbers};
@@ -32,8 +32,7 @@ fn words(run: &mut Run, length: usize) -> Vec<i32> {
     sound.list(length, &mut run.random)
 }
 
-/// A call with all of this wrong, by the wrong numbers of this turn: 8 to 10 ahead
-/// of 6 ahead of 15.
+/// A call with all of this wrong, by the wrong numbers of this turn: 8 to 10 ahead of 6 ahead of 15.
 fn spoilt(run: &mut Run, fit: Band, length: usize, wrong: u32, turn: usize) -> Checked {
     let band = spoil(&fit, wrong & BAND, |_| turn);
     let mut words = words(run, length);
@@ -61,8 +60,7 @@ fn together(run: &mut Run, fit: Band) -> Checked {
     Ok(())
 }
 
-/// A wrong number at each place of lists of every small length, beside the
-/// ends of a word; then several.
+/// A wrong number at each place of lists of every small length, beside the ends of a word; then several.
 fn each_place(run: &mut Run, fit: Band) -> Checked {
     for length in 1..=40 {
         let right = Sound::Ends.list(length, &mut run.random);

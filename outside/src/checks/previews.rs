@@ -1,5 +1,5 @@
-//! Long lists previewed, with bands of every kind: held against the exact
-//! reference, and against the same subject's section and nothing else.
+//! Long lists previewed, with bands of every kind: held against the exact reference, and against the same subject's
+//! section and nothing else.
 
 use super::bands::{extreme_accepted, half_accepted, house_bands, random_accepted, slow_accepted, Band};
 use super::run::{Checked, Run};
@@ -26,8 +26,7 @@ fn with_the_exact(run: &mut Run, band: Band, words: &[i32]) -> Checked {
     run.preview(band, words, room).map(|_| ())
 }
 
-/// With the subject's own section, the buffer just long enough: "its results
-/// equal the section's".
+/// With the subject's own section, the buffer just long enough: "its results equal the section's".
 fn with_the_section(run: &mut Run, band: Band, words: &[i32]) -> Checked {
     let mut results = buffer(words.len(), &mut run.random);
     let answer = run.subject.preview(band, words, &mut results);

@@ -19,8 +19,8 @@ const FIT_CALLS: [Call; 5] = [
     [4_194_304, 2_000_000, 3_000_000, -700_000, 800_000, -900_000, 1_000_000, 256_000],
 ];
 
-/// Numbers outside the range of one place of a call, by one and by far. Those
-/// of G are outside beside this accepted B.
+/// Numbers outside the range of one place of a call, by one and by far. Those of G are outside beside this accepted
+/// B.
 pub fn wrong_numbers(b: i32, place: usize) -> Vec<i32> {
     let edge = 4_194_304 + b;
     let mut wrong = match place {
@@ -33,8 +33,7 @@ pub fn wrong_numbers(b: i32, place: usize) -> Vec<i32> {
     wrong
 }
 
-/// The number that a call with these wrong places must give: 8 to 10 by the
-/// band, then 15.
+/// The number that a call with these wrong places must give: 8 to 10 by the band, then 15.
 pub fn number_for(places: u32) -> u32 {
     match places {
         _ if places & 1 != 0 => REFUSED_A,
@@ -44,8 +43,7 @@ pub fn number_for(places: u32) -> u32 {
     }
 }
 
-/// Accepted numbers that begin A, B, G, with the wrong number of this turn in
-/// each of these places.
+/// Accepted numbers that begin A, B, G, with the wrong number of this turn in each of these places.
 pub fn spoil<const N: usize>(fit: &[i32; N], places: u32, mut turn: impl FnMut(usize) -> usize) -> [i32; N] {
     let mut spoilt = *fit;
     for place in (0..N).filter(|place| places & (1 << place) != 0) {
@@ -55,8 +53,8 @@ pub fn spoil<const N: usize>(fit: &[i32; N], places: u32, mut turn: impl FnMut(u
     spoilt
 }
 
-/// One refused call: compared with the reference, and its answer and the
-/// unchanged section as document 01 states them.
+/// One refused call: compared with the reference, and its answer and the unchanged section as document 01 states
+/// them.
 fn refused(run: &mut Run, call: Call, number: u32) -> Checked {
     let [a, b, g, x1, x2, y1, y2, x] = call;
     let before: Section = [a, b, g, x1, x2, y1, y2];

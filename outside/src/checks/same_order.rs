@@ -54,8 +54,8 @@ impl Orders {
     }
 }
 
-/// Carries out an order with the exact reference, and with the subject on a copy. Compares the answer and all
-/// 118 numbers, and gives the answer.
+/// Carries out an order with the exact reference, and with the subject on a copy. Compares the answer and all 118
+/// numbers, and gives the answer.
 pub fn same_order(subject: &dyn Subject, numbers: &mut Numbers, order: &Order, tally: &mut Tally) -> Checked<u32> {
     let before = *numbers;
     let mut got = before;

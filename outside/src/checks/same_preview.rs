@@ -1,5 +1,5 @@
-//! A list previewed by the exact reference and by a subject, and compared; and
-//! the preview held against the same subject's section.
+//! A list previewed by the exact reference and by a subject, and compared; and the preview held against the same
+//! subject's section.
 
 use super::bands::Band;
 use super::run::{briefly, same_left, Checked, Run};
@@ -94,9 +94,9 @@ fn what(band: Band, words: &[i32], room: usize) -> String {
     format!("preview with A, B, G = {band:?} of words, {}, into {room}", briefly(words))
 }
 
-/// Previews a list with the exact reference and with the subject into copies of
-/// the lent buffer. Compares the answer and every entry, those past the results
-/// too; accepted results are compared with the subject's section as well.
+/// Previews a list with the exact reference and with the subject into copies of the lent buffer. Compares the
+/// answer and every entry, those past the results too; accepted results are compared with the subject's section as
+/// well.
 pub fn same_preview(subject: &dyn Subject, band: Band, words: &[i32], lent: &[i32], tally: &mut Tally) -> Checked {
     let (mut expected, mut got) = (lent.to_vec(), lent.to_vec());
     let met = &mut tally.previews;
@@ -111,8 +111,7 @@ pub fn same_preview(subject: &dyn Subject, band: Band, words: &[i32], lent: &[i3
     }
 }
 
-/// Steps the subject's own section over the words from a cleared start: each
-/// result of the preview must be its y.
+/// Steps the subject's own section over the words from a cleared start: each result of the preview must be its y.
 pub fn same_as_section(
     subject: &dyn Subject,
     [a, b, g]: Band,
@@ -141,8 +140,8 @@ impl Run<'_> {
         Ok(lent)
     }
 
-    /// One list into a buffer of so many entries, with its number as document 01
-    /// states it. All entries from the given one on must be those that were lent.
+    /// One list into a buffer of so many entries, with its number as document 01 states it. All entries from the
+    /// given one on must be those that were lent.
     pub fn stated_preview(&mut self, band: Band, words: &[i32], room: usize, stated: (u32, usize)) -> Checked {
         let lent = self.preview(band, words, room)?;
         let (number, filled) = stated;

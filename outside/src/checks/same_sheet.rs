@@ -77,9 +77,8 @@ fn spell(bytes: &[u8]) -> String {
     format!("sheet of {} bytes \"{}\"", bytes.len(), bytes.escape_ascii())
 }
 
-/// Writes a sheet with this form of the reference and with the subject into
-/// copies of the lent buffer. Compares the answer and every byte, and gives the
-/// buffer.
+/// Writes a sheet with this form of the reference and with the subject into copies of the lent buffer. Compares the
+/// answer and every byte, and gives the buffer.
 pub fn same_write(
     subject: &dyn Subject,
     reference: Writer,
@@ -97,9 +96,8 @@ pub fn same_write(
     Ok(got)
 }
 
-/// Writes the sheet of a fit unit as `same_write` does, and reads it back with
-/// the subject into the given unit, which must then equal the first. The bytes
-/// behind the sheet must be those that were lent.
+/// Writes the sheet of a fit unit as `same_write` does, and reads it back with the subject into the given unit,
+/// which must then equal the first. The bytes behind the sheet must be those that were lent.
 pub fn same_back(
     subject: &dyn Subject,
     reference: Writer,
@@ -117,9 +115,8 @@ pub fn same_back(
     same(tally, (ACCEPTED, *numbers), (answer, read), || format!("{} read back", spell(sheet)))
 }
 
-/// Reads a sheet with the exact reference and with the subject into copies of
-/// the given unit. Compares the answer and all 118 numbers, which a refusal
-/// leaves as they were; an accepted sheet is written again to the byte. Gives
+/// Reads a sheet with the exact reference and with the subject into copies of the given unit. Compares the answer
+/// and all 118 numbers, which a refusal leaves as they were; an accepted sheet is written again to the byte. Gives
 /// the answer.
 pub fn same_read(subject: &dyn Subject, given: &Numbers, bytes: &[u8], tally: &mut Tally) -> Checked<u32> {
     let (mut expected, mut got) = (*given, *given);
@@ -168,8 +165,7 @@ impl<'a> SheetRun<'a> {
         self.same(number, answer, bytes)
     }
 
-    /// Reads into this unit with the subject alone: the answer and the numbers must
-    /// be these.
+    /// Reads into this unit with the subject alone: the answer and the numbers must be these.
     pub fn leaves(&mut self, bytes: &[u8], given: &Numbers, expected: (u32, Numbers)) -> Checked {
         let mut after = *given;
         let answer = self.subject.sheet_read(&mut after, bytes);

@@ -1,5 +1,5 @@
-//! Sheets with bytes changed anywhere: one byte, two, several fields, letters
-//! and line ends, and bytes put in or left out.
+//! Sheets with bytes changed anywhere: one byte, two, several fields, letters and line ends, and bytes put in or
+//! left out.
 
 use super::run::Checked;
 use super::same_sheet::SheetRun;
@@ -80,8 +80,7 @@ fn several_parts(run: &mut SheetRun, right: &[u8]) -> Checked {
     read(run, right, &sheet)
 }
 
-/// A byte put in and the last one dropped, a byte left out and one put
-/// behind, two lines exchanged.
+/// A byte put in and the last one dropped, a byte left out and one put behind, two lines exchanged.
 fn shifted(run: &mut SheetRun, right: &[u8]) -> Checked {
     let (place, byte) = (any_place(run), run.maker.random.pick(BYTES));
     let mut longer = right.to_vec();

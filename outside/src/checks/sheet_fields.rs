@@ -1,5 +1,5 @@
-//! Each field of a sheet by itself: badly written in every way, and with
-//! numbers at the ends of their ranges and past them.
+//! Each field of a sheet by itself: badly written in every way, and with numbers at the ends of their ranges and
+//! past them.
 
 use super::fitness::{edge_numbers, with};
 use super::run::Checked;
@@ -33,11 +33,10 @@ fn badly(run: &mut SheetRun, numbers: &Numbers) -> Checked {
     Ok(())
 }
 
-/// Each number at the ends of its range, and outside: 14, or "8 to 10" in its
-/// place.
+/// Each number at the ends of its range, and outside: 14, or "8 to 10" in its place.
 fn ranges(run: &mut SheetRun, numbers: &Numbers) -> Checked {
     let right = sheet_of(numbers);
-    for (place, field) in fields().into_iter().enumerate() {
+    for (place, field) in fields().enumerate() {
         let mut sheet = right.clone();
         for number in edge_numbers(numbers, place) {
             sheet[field.clone()].copy_from_slice(&well_written(number));

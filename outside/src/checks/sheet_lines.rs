@@ -1,6 +1,5 @@
-//! Every line with a wrong letter, wrong fields and a wrong line end, in all
-//! ways together: the first from the left gives the refusal, but "a C line
-//! tests 8 to 10 after its three fields, in place of 14 and ahead of its line
+//! Every line with a wrong letter, wrong fields and a wrong line end, in all ways together: the first from the left
+//! gives the refusal, but "a C line tests 8 to 10 after its three fields, in place of 14 and ahead of its line
 //! end."
 
 use super::same_sheet::SheetRun;
@@ -58,8 +57,7 @@ struct Wrong {
 }
 
 impl Wrong {
-    /// All combinations: two ways for the letter, two for the end and three for
-    /// each field.
+    /// All combinations: two ways for the letter, two for the end and three for each field.
     fn every(line: &Line) -> impl Iterator<Item = Wrong> {
         let count = line.count as u32;
         (0..4 * 3_usize.pow(count)).map(move |combination| {

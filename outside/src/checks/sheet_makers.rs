@@ -1,5 +1,4 @@
-//! Fit units with numbers of every length, their sheets, and the units that a
-//! reading is given.
+//! Fit units with numbers of every length, their sheets, and the units that a reading is given.
 
 use super::fitness::spoilt;
 use super::units::{kind, Kind, Sets};

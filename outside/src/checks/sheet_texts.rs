@@ -1,5 +1,4 @@
-//! What stands in damaged fields: text that is badly written, and numbers
-//! outside their ranges.
+//! What stands in damaged fields: text that is badly written, and numbers outside their ranges.
 
 use super::fitness::unfit_numbers;
 use crate::random::Random;
@@ -9,8 +8,8 @@ use std::ops::RangeInclusive;
 
 pub type Field = [u8; FIELD];
 
-/// "No leading zeros, no plus, minus only before a number that isn't 0"; blanks
-/// stand in front of a number and nowhere else.
+/// "No leading zeros, no plus, minus only before a number that isn't 0"; blanks stand in front of a number and
+/// nowhere else.
 const BADLY_WRITTEN: [&Field; 56] = [
     b"         ",
     b"        -",
@@ -70,8 +69,7 @@ const BADLY_WRITTEN: [&Field; 56] = [
     b"  1,024,0",
 ];
 
-/// Bytes beside the digits, digits with the eighth bit set, and others that are
-/// digits or blanks somewhere.
+/// Bytes beside the digits, digits with the eighth bit set, and others that are digits or blanks somewhere.
 fn no_digits() -> Vec<u8> {
     let mut bytes = vec![0x2F, 0x3A, 0xAF, 0xBA, 0xA0, 0x1F, 0x21, 0x85, 0x0B, 0x7F, 0xFF];
     bytes.extend(0xB0..=0xB9);
@@ -117,8 +115,7 @@ pub fn well_written(number: i32) -> Field {
     text.try_into().expect("at most nine columns")
 }
 
-/// Numbers of nine columns at most that no accepted sheet could carry at this
-/// place.
+/// Numbers of nine columns at most that no accepted sheet could carry at this place.
 pub fn outside_numbers(numbers: &Numbers, place: usize) -> Vec<i32> {
     let mut outside = unfit_numbers(numbers, place);
     outside.extend(WIDE);

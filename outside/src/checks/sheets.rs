@@ -1,6 +1,5 @@
-//! Sheets of fit units, written and read back, and buffers that stay as they
-//! are: "from a shorter buffer, or for an unfit unit (below), it hands back an
-//! empty part and writes nothing. Bytes behind the sheet keep their contents."
+//! Sheets of fit units, written and read back, and buffers that stay as they are: "from a shorter buffer, or for an
+//! unfit unit (below), it hands back an empty part and writes nothing. Bytes behind the sheet keep their contents."
 
 use super::fitness::{spoilt, unfit_numbers, with};
 use super::run::Checked;
@@ -13,8 +12,7 @@ use crate::unit::Numbers;
 pub const SHEETS_SEED: u64 = 0xF0DD_001E;
 pub const MANY_SEED: u64 = 0xF0DD_001F;
 
-/// Units held against the exact form, and against the fast one, which takes
-/// less time: a million in all.
+/// Units held against the exact form, and against the fast one, which takes less time: a million in all.
 const UNITS: u64 = 100_000;
 const MANY: u64 = 900_000;
 

@@ -1,19 +1,16 @@
-//! The sounds that blocks are played with, sections are stepped with and previews
-//! are given.
+//! The sounds that blocks are played with, sections are stepped with and previews are given.
 
 use crate::random::Random;
 use crate::reference::{WORD_MAX, WORD_MIN};
 
-/// What a list of words or a block of samples holds. Both sides of a block hold
-/// the same kind, each its own.
+/// What a list of words or a block of samples holds. Both sides of a block hold the same kind, each its own.
 #[derive(Clone, Copy)]
 pub enum Sound {
     /// Any numbers.
     Noise,
     /// Words as samples enter, "x = 256 × s".
     Samples,
-    /// The two ends in turn, each held for so many places; the right is a place
-    /// behind the left.
+    /// The two ends in turn, each held for so many places; the right is a place behind the left.
     Square(usize),
     /// The two ends at random.
     Ends,
@@ -66,8 +63,8 @@ pub const WORD_SOUNDS: [Sound; 12] = [
 ];
 
 impl Sound {
-    /// The number at a place of a list of this length, on a side: between these
-    /// ends, and drawn as `any` where it can be any.
+    /// The number at a place of a list of this length, on a side: between these ends, and drawn as `any` where it
+    /// can be any.
     fn number(
         self,
         [side, place, length]: [usize; 3],

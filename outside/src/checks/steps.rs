@@ -1,5 +1,4 @@
-//! Steps of a section: long lists of words, and the corners of a word in every
-//! place.
+//! Steps of a section: long lists of words, and the corners of a word in every place.
 
 use super::bands::{extreme_accepted, half_accepted, house_bands, random_accepted, Band};
 use super::run::{Checked, Run};

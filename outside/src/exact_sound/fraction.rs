@@ -72,8 +72,7 @@ impl Fraction {
         }
     }
 
-    /// About the number it stands for, which isn't negative. No sample is judged
-    /// by it.
+    /// About the number it stands for, which isn't negative. No sample is judged by it.
     pub fn approximately(&self) -> f64 {
         self.numerator.approximately_over(22 * self.power)
     }

@@ -1,6 +1,5 @@
-//! The distance of what a unit played from the exact sound. In every frame a
-//! side none of whose sections has limited is at most
-//! 1/2 + V / 2^32 + V × (sum of |g| × H) / 2^55 away.
+//! The distance of what a unit played from the exact sound. In every frame a side none of whose sections has
+//! limited is at most 1/2 + V / 2^32 + V × (sum of |g| × H) / 2^55 away.
 
 use super::fraction::Fraction;
 use super::limiting::Limiting;
@@ -16,15 +15,13 @@ pub struct Distances {
     pub limited: u64,
     /// Frames held to the bound.
     pub judged: u64,
-    /// Frames with a section limited up to then, and those of them that lie
-    /// beyond the bound.
+    /// Frames with a section limited up to then, and those of them that lie beyond the bound.
     pub skipped: u64,
     pub skipped_beyond: u64,
-    /// Judged frames farther away than 1/2 + V / 2^32, so that the part of the
-    /// sections is needed.
+    /// Judged frames farther away than 1/2 + V / 2^32, so that the part of the sections is needed.
     pub need_sections: u64,
-    /// The largest distance as a part of the bound, and the largest where the
-    /// part of the sections is more than the rest of the bound.
+    /// The largest distance as a part of the bound, and the largest where the part of the sections is more than the
+    /// rest of the bound.
     pub largest: f64,
     pub largest_of_sections: f64,
 }
@@ -111,8 +108,7 @@ impl Judge {
         Some(Measured { distance, outer, sections, bound })
     }
 
-    /// Counts a sample of a side that has not limited, or says that it lies
-    /// beyond the bound.
+    /// Counts a sample of a side that has not limited, or says that it lies beyond the bound.
     fn judge(&mut self, side: usize, sample: i16) -> Result<(), String> {
         self.distances.judged += 1;
         let Some(measured) = self.measured(side, sample) else {

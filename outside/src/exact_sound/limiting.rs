@@ -1,6 +1,5 @@
-//! Whether a section of a side has limited: "worked from the list by the
-//! rounding and limiting under Words and the section, and not read from the
-//! flag."
+//! Whether a section of a side has limited: "worked from the list by the rounding and limiting under Words and the
+//! section, and not read from the flag."
 
 use crate::reference::{exact, unpack, Section};
 

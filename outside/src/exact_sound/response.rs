@@ -1,5 +1,4 @@
-//! The impulse responses of a band set: "h(0) = 1, h(1) = G / 2^22, h(k) =
-//! (G × h(k-1) - B × h(k-2)) / 2^22."
+//! The impulse responses of a band set: "h(0) = 1, h(1) = G / 2^22, h(k) = (G × h(k-1) - B × h(k-2)) / 2^22."
 
 use super::fraction::Fraction;
 
@@ -60,8 +59,7 @@ impl Responses {
         self.responses.iter_mut().for_each(Response::grow);
     }
 
-    /// The sum of weight × H over all bands, where H is the sum of as many
-    /// absolute values as there were frames.
+    /// The sum of weight × H over all bands, where H is the sum of as many absolute values as there were frames.
     pub fn weighted(&self, weights: &[i64; 10]) -> Fraction {
         let mut terms: Vec<(i64, &Fraction)> = Vec::new();
         terms.extend(self.responses.iter().map(|response| (0, &response.sum)));

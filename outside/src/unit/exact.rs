@@ -24,8 +24,7 @@ pub struct Met {
     pub flags_raised: u64,
 }
 
-/// A level moved "towards its target by" the slope, "or by the whole distance
-/// where that is less".
+/// A level moved "towards its target by" the slope, "or by the whole distance where that is less".
 pub fn level_moved(present: i32, target: i32, slope: u32) -> i32 {
     let distance = i128::from(target) - i128::from(present);
     let step = distance.abs().min(i128::from(slope));
@@ -45,8 +44,7 @@ fn volume_is_fit(volume: Level) -> bool {
     range.contains(&volume.present) && range.contains(&volume.target)
 }
 
-/// "x1 and x2 are words and multiples of 256; a flag is 0 or 1." Results,
-/// gains and targets are words.
+/// "x1 and x2 are words and multiples of 256; a flag is 0 or 1." Results, gains and targets are words.
 fn side_is_fit(side: &Side) -> bool {
     let inputs = [side.x1, side.x2];
     inputs.iter().all(|&x| is_word(x) && x % 256 == 0)
@@ -69,8 +67,8 @@ fn rounded(v: i128, k: u32, halves: &mut Halves) -> i64 {
     nearest
 }
 
-/// One band of a side: its y, by "Words and the section". The flag is "1 from
-/// the first time one of its sections limits."
+/// One band of a side: its y, by "Words and the section". The flag is "1 from the first time one of its sections
+/// limits."
 fn section(band: &Band, side: &mut Side, place: usize, x: i32, met: &mut Met) -> i32 {
     let strip = &mut side.strips[place];
     let numbers = [band.a, band.b, band.g, side.x1, side.x2, strip.y1, strip.y2];
@@ -87,8 +85,7 @@ fn section(band: &Band, side: &mut Side, place: usize, x: i32, met: &mut Met) ->
     y
 }
 
-/// "Each side works its ten sections on x. T = 2^23 × x + sum of g × y, exact.
-/// m = T / 2^23 rounded, not limited".
+/// "Each side works its ten sections on x. T = 2^23 × x + sum of g × y, exact. m = T / 2^23 rounded, not limited".
 fn mix(bands: &[Band; 10], side: &mut Side, x: i32, met: &mut Met) -> i64 {
     let mut total = (1 << 23) * i128::from(x);
     for (place, band) in bands.iter().enumerate() {
@@ -122,8 +119,7 @@ fn move_levels(unit: &mut Unit) {
     }
 }
 
-/// One frame: "left then right", each sample entering "as x = 256 × s". "Both
-/// sides use the same V."
+/// One frame: "left then right", each sample entering "as x = 256 × s". "Both sides use the same V."
 fn frame(unit: &mut Unit, samples: [i16; 2], met: &mut Met) -> [i16; 2] {
     move_levels(unit);
     let mut played = [0; 2];
@@ -135,9 +131,8 @@ fn frame(unit: &mut Unit, samples: [i16; 2], met: &mut Met) -> [i16; 2] {
     played
 }
 
-/// "A block of frames is bytes: left then right, low byte first, four a frame;
-/// an empty block is accepted. Output bytes beyond the block keep their
-/// contents."
+/// "A block of frames is bytes: left then right, low byte first, four a frame; an empty block is accepted. Output
+/// bytes beyond the block keep their contents."
 pub fn block(numbers: &mut Numbers, input: &[u8], output: &mut [u8], met: &mut Met) -> u32 {
     let refusal = block_refusal(fit(numbers), input.len(), output.len());
     if refusal != ACCEPTED {

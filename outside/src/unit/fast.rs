@@ -1,5 +1,4 @@
-//! The same for use: i64, shifts, no division; the unit is held in i64 for the
-//! length of a block.
+//! The same for use: i64, shifts, no division; the unit is held in i64 for the length of a block.
 
 use super::{block_refusal, Numbers, BANDS, LEFT, RIGHT, SIDE_COUNT, STRIPS, VOLUME};
 use super::{GAIN_SLOPE, VOLUME_SLOPE};
@@ -20,8 +19,7 @@ struct Section {
     target: i64,
 }
 
-/// A side: its two earlier inputs, whether a section has limited, and its ten
-/// sections.
+/// A side: its two earlier inputs, whether a section has limited, and its ten sections.
 struct Side {
     x1: i64,
     x2: i64,
@@ -50,8 +48,8 @@ fn moved(present: i64, target: i64, slope: i64) -> i64 {
     }
 }
 
-/// v / 2^k rounded to nearest, halves to even. Just under a half is added to an
-/// even quotient and a half to an odd one; every v here is under 2^50 in size.
+/// v / 2^k rounded to nearest, halves to even. Just under a half is added to an even quotient and a half to an odd
+/// one; every v here is under 2^50 in size.
 #[inline(always)]
 fn rounded(v: i64, k: u32) -> i64 {
     let odd = (v >> k) & 1;
@@ -107,8 +105,7 @@ impl Side {
         }
     }
 
-    /// One sample of this side: its gains move, its sections step, and the mix
-    /// is brought to the volume.
+    /// One sample of this side: its gains move, its sections step, and the mix is brought to the volume.
     #[inline(always)]
     fn play(&mut self, s: i16, volume: i64) -> i16 {
         let x = 256 * i64::from(s);

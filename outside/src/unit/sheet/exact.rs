@@ -1,13 +1,12 @@
-//! The plain meaning of a sheet: a field is a number as it is formatted, and a
-//! sheet is read from its first byte on.
+//! The plain meaning of a sheet: a field is a number as it is formatted, and a sheet is read from its first byte
+//! on.
 
 use super::{BADLY_WRITTEN, FIELD, LETTER_OR_END, LINE_FEED, NOT_A_SHEET, OUTSIDE, SHEET};
 use crate::reference::{band_refusal, is_word, ACCEPTED};
 use crate::unit::{exact::fit, Level, Numbers, Unit};
 use std::fmt::Write;
 
-/// "each a letter, fields of nine columns with decimal numbers right-justified
-/// in blanks, and a line feed".
+/// "each a letter, fields of nine columns with decimal numbers right-justified in blanks, and a line feed".
 fn write_line(text: &mut String, letter: char, numbers: &[i32]) {
     text.push(letter);
     for number in numbers {
@@ -16,8 +15,7 @@ fn write_line(text: &mut String, letter: char, numbers: &[i32]) {
     text.push('\n');
 }
 
-/// "In order: V (volume, target); ten C (A, B, G); L (x1, x2, flag); ten S (y1,
-/// y2, gain, target); R as L; ten S."
+/// "In order: V (volume, target); ten C (A, B, G); L (x1, x2, flag); ten S (y1, y2, gain, target); R as L; ten S."
 fn text(unit: &Unit) -> String {
     let mut text = String::with_capacity(SHEET);
     let Level { present, target } = unit.volume;
@@ -35,9 +33,8 @@ fn text(unit: &Unit) -> String {
     text
 }
 
-/// Writes the sheet to the front of the buffer and gives its length; "from a
-/// shorter buffer, or for an unfit unit", 0, "and writes nothing. Bytes behind
-/// the sheet keep their contents."
+/// Writes the sheet to the front of the buffer and gives its length; "from a shorter buffer, or for an unfit unit",
+/// 0, "and writes nothing. Bytes behind the sheet keep their contents."
 pub fn write(numbers: &Numbers, buffer: &mut [u8]) -> usize {
     if buffer.len() < SHEET || !fit(numbers) {
         return 0;
@@ -47,8 +44,8 @@ pub fn write(numbers: &Numbers, buffer: &mut [u8]) -> usize {
     SHEET
 }
 
-/// "No leading zeros, no plus, minus only before a number that isn't 0": behind
-/// its blanks a field holds just what its number formats to.
+/// "No leading zeros, no plus, minus only before a number that isn't 0": behind its blanks a field holds just what
+/// its number formats to.
 fn parsed(field: &[u8]) -> Option<i32> {
     let text = std::str::from_utf8(field).ok()?.trim_start_matches(' ');
     let number: i32 = text.parse().ok()?;
@@ -98,8 +95,7 @@ impl Reading<'_> {
         self.byte(LINE_FEED)
     }
 
-    /// "a C line tests 8 to 10 after its three fields, in place of 14 and ahead
-    /// of its line end."
+    /// "a C line tests 8 to 10 after its three fields, in place of 14 and ahead of its line end."
     fn band(&mut self) -> Result<(), u32> {
         self.byte(b'C')?;
         let [a, b, g] = [self.field()?, self.field()?, self.field()?];
@@ -132,8 +128,7 @@ fn sheet(bytes: &[u8]) -> Result<Vec<i32>, u32> {
     Ok(reading.numbers)
 }
 
-/// Reads a sheet into the numbers. After a refusal "The given unit comes back,
-/// unexamined."
+/// Reads a sheet into the numbers. After a refusal "The given unit comes back, unexamined."
 pub fn read(numbers: &mut Numbers, bytes: &[u8]) -> u32 {
     match sheet(bytes) {
         Ok(read) => {
