@@ -51,28 +51,6 @@ impl Distances {
     }
 }
 
-/// Twice the distance of a sample and twice its bound, all × 2^54.
-struct Measured {
-    distance: Fraction,
-    /// 2^54 + V × 2^23.
-    outer: Fraction,
-    /// V × sum of |g| × H.
-    sections: Fraction,
-    /// Both of these.
-    bound: Fraction,
-}
-
-impl Measured {
-    fn is_beyond(&self) -> bool {
-        self.distance.compared_with(&self.bound).is_gt()
-    }
-
-    /// Only printed, and held against what the lists must come to.
-    fn part_of_bound(&self) -> f64 {
-        self.distance.approximately() / self.bound.approximately()
-    }
-}
-
 /// The reckonings of one list side by side.
 struct Judge {
     sound: ExactSound,
@@ -83,61 +61,38 @@ struct Judge {
 }
 
 impl Judge {
-    fn new(set: &[i32; 30]) -> Judge {
-        Judge {
-            sound: ExactSound::new(set),
-            responses: Responses::new(set),
-            limiting: Limiting::new(set),
-            frames: 0,
-            distances: Distances::default(),
-        }
-    }
-
-    /// None where the sample is the exact output.
-    fn measured(&self, side: usize, sample: i16) -> Option<Measured> {
+    /// Counts a sample that isn't the exact output. Beyond the bound it is a fault, unless its side has limited. Twice the
+    /// distance and twice the bound are reckoned, all × 2^54.
+    fn sample(&mut self, side: usize, sample: i16) -> Result<(), String> {
+        let distances = &mut self.distances;
+        let limited = self.limiting.has_limited(side);
+        distances.skipped += u64::from(limited);
+        distances.judged += u64::from(!limited);
         let (played, exact) = (Fraction::whole(sample.into()), self.sound.output(side));
         let distance = Fraction::sum(&[(2 * ONE, &played), (-2, &exact)]).size();
         if distance.is_zero() {
-            return None;
+            return Ok(());
         }
         let (volume, gains) = self.sound.levels(side);
-        let weights = gains.map(|gain| volume * gain.abs());
         let outer = Fraction::whole(ONE + (volume << 23));
-        let sections = self.responses.weighted(&weights);
+        let sections = self.responses.weighted(&gains.map(|gain| volume * gain.abs()));
         let bound = Fraction::sum(&[(1, &outer), (1, &sections)]);
-        Some(Measured { distance, outer, sections, bound })
-    }
-
-    /// Counts a sample of a side that has not limited, or says that it lies beyond the bound.
-    fn judge(&mut self, side: usize, sample: i16) -> Result<(), String> {
-        self.distances.judged += 1;
-        let Some(measured) = self.measured(side, sample) else {
+        let is_beyond = distance.compared_with(&bound).is_gt();
+        if limited {
+            distances.skipped_beyond += u64::from(is_beyond);
             return Ok(());
-        };
-        let part = measured.part_of_bound();
-        if measured.is_beyond() {
-            return Err(format!(
-                "frame {} of a list, side {side}: the sample {sample} is {part} times the bound \
-                 away from the exact sound",
-                self.frames
-            ));
         }
-        let (distances, outer) = (&mut self.distances, &measured.outer);
-        let needed = measured.distance.compared_with(outer).is_gt();
-        distances.need_sections += u64::from(needed);
+        let part = distance.approximately() / bound.approximately();
+        if is_beyond {
+            let place = format!("frame {} of a list, side {side}", self.frames);
+            return Err(format!("{place}: the sample {sample} is {part} times the bound away from the exact sound"));
+        }
+        distances.need_sections += u64::from(distance.compared_with(&outer).is_gt());
         distances.largest = distances.largest.max(part);
-        if measured.sections.compared_with(outer).is_gt() {
+        if sections.compared_with(&outer).is_gt() {
             distances.largest_of_sections = distances.largest_of_sections.max(part);
         }
         Ok(())
-    }
-
-    /// Counts a sample of a side that has limited.
-    fn leave_out(&mut self, side: usize, sample: i16) {
-        let measured = self.measured(side, sample);
-        let beyond = measured.is_some_and(|measured| measured.is_beyond());
-        self.distances.skipped += 1;
-        self.distances.skipped_beyond += u64::from(beyond);
     }
 
     fn frame(&mut self, samples: [i16; 2], played: [i16; 2]) -> Result<(), String> {
@@ -145,14 +100,7 @@ impl Judge {
         self.sound.frame(samples);
         self.responses.grow();
         self.limiting.frame(samples);
-        for (side, sample) in played.into_iter().enumerate() {
-            if self.limiting.has_limited(side) {
-                self.leave_out(side, sample);
-            } else {
-                self.judge(side, sample)?;
-            }
-        }
-        Ok(())
+        (0..2).try_for_each(|side| self.sample(side, played[side]))
     }
 }
 
@@ -163,16 +111,17 @@ fn samples(frame: &[u8]) -> [i16; 2] {
 
 /// Judges a list by the outputs that its blocks handed back, in turn.
 pub fn judge(list: &List, outputs: &[Vec<u8>]) -> Result<Distances, String> {
-    let mut judge = Judge::new(&list.set);
+    let set = &list.set;
+    let (sound, responses, limiting) = (ExactSound::new(set), Responses::new(set), Limiting::new(set));
+    let mut judge = Judge { sound, responses, limiting, frames: 0, distances: Distances::default() };
     let mut outputs = outputs.iter();
     for call in &list.calls {
-        let accepted = call.is_accepted();
         match call {
-            Call::Order(order) if accepted => judge.sound.order(order),
+            Call::Order(order) if call.is_accepted() => judge.sound.order(order),
             Call::Order(_) => {}
             Call::Block { input, .. } => {
                 let output = outputs.next().expect("an output for each block");
-                let frames = if accepted { input.len() / 4 } else { 0 };
+                let frames = if call.is_accepted() { input.len() / 4 } else { 0 };
                 let sounds = input.chunks_exact(4).zip(output.chunks_exact(4));
                 for (frame, played) in sounds.take(frames) {
                     judge.frame(samples(frame), samples(played))?;
@@ -181,7 +130,5 @@ pub fn judge(list: &List, outputs: &[Vec<u8>]) -> Result<Distances, String> {
         }
     }
     let limited = (0..2).any(|side| judge.limiting.has_limited(side));
-    judge.distances.lists = 1;
-    judge.distances.limited = limited.into();
-    Ok(judge.distances)
+    Ok(Distances { lists: 1, limited: limited.into(), ..judge.distances })
 }

@@ -11,10 +11,7 @@ pub struct Limiting {
 
 impl Limiting {
     pub fn new(set: &[i32; 30]) -> Limiting {
-        let side: [Section; 10] = std::array::from_fn(|band| {
-            let [a, b, g] = [0, 1, 2].map(|n| set[3 * band + n]);
-            [a, b, g, 0, 0, 0, 0]
-        });
+        let side = std::array::from_fn(|n| [set[3 * n], set[3 * n + 1], set[3 * n + 2], 0, 0, 0, 0]);
         Limiting { sides: [side; 2], limited: [false; 2] }
     }
 

@@ -16,6 +16,7 @@ use crate::unit::{Level, GAIN_SLOPE, VOLUME_SLOPE};
 const ONE: i64 = 1 << 54;
 
 /// "y1 and y2 for each band of a side, these as fractions", and its gain.
+#[derive(Default)]
 struct Strip {
     y1: Fraction,
     y2: Fraction,
@@ -23,6 +24,7 @@ struct Strip {
 }
 
 /// "x1 and x2 for each side".
+#[derive(Default)]
 struct Side {
     x1: i64,
     x2: i64,
@@ -36,19 +38,7 @@ pub struct ExactSound {
     sides: [Side; 2],
 }
 
-const ZERO: Level = Level { present: 0, target: 0 };
-
-impl Strip {
-    fn new() -> Strip {
-        Strip { y1: Fraction::whole(0), y2: Fraction::whole(0), gain: ZERO }
-    }
-}
-
 impl Side {
-    fn new() -> Side {
-        Side { x1: 0, x2: 0, strips: std::array::from_fn(|_| Strip::new()) }
-    }
-
     /// "each band's y = (A × (x - x2) + G × y1 - B × y2) / 2^22"; then "x1 passes to x2 and x to x1, and in each
     /// band y1 to y2 and y to y1."
     fn step(&mut self, set: &[i32; 30], x: i64) {
@@ -66,18 +56,15 @@ impl Side {
     /// 2^23 × m, where "m = x + (sum of g × y) / 2^23"; y has passed to y1.
     fn mix(&self) -> Fraction {
         let x = Fraction::whole(self.x1);
-        let mut terms = vec![(1 << 23, &x)];
-        for strip in &self.strips {
-            terms.push((strip.gain.present.into(), &strip.y1));
-        }
-        Fraction::sum(&terms)
+        let products = self.strips.iter().map(|strip| (strip.gain.present.into(), &strip.y1));
+        Fraction::sum(&products.chain([(1 << 23, &x)]).collect::<Vec<_>>())
     }
 }
 
 impl ExactSound {
     /// "All begin at zero."
     pub fn new(set: &[i32; 30]) -> ExactSound {
-        ExactSound { set: *set, volume: ZERO, sides: [Side::new(), Side::new()] }
+        ExactSound { set: *set, volume: Level::default(), sides: Default::default() }
     }
 
     /// "An accepted order sets targets by the rules under Levels."
@@ -100,9 +87,7 @@ impl ExactSound {
             level.present = level_moved(level.present, level.target, slope);
         };
         moved(&mut self.volume, VOLUME_SLOPE);
-        for strip in self.sides.iter_mut().flat_map(|side| &mut side.strips) {
-            moved(&mut strip.gain, GAIN_SLOPE);
-        }
+        self.sides.iter_mut().flat_map(|side| &mut side.strips).for_each(|strip| moved(&mut strip.gain, GAIN_SLOPE));
     }
 
     /// A frame of an accepted block: "on each side x = 256 × s".

@@ -14,13 +14,8 @@ struct Response {
 
 impl Response {
     fn new([b, g]: [i32; 2]) -> Response {
-        Response {
-            b: b.into(),
-            g: g.into(),
-            next: Fraction::whole(1),
-            last: Fraction::whole(0),
-            sum: Fraction::whole(0),
-        }
+        let [next, last, sum] = [1, 0, 0].map(Fraction::whole);
+        Response { b: b.into(), g: g.into(), next, last, sum }
     }
 
     /// Adds one absolute value more.
@@ -61,8 +56,7 @@ impl Responses {
 
     /// The sum of weight × H over all bands, where H is the sum of as many absolute values as there were frames.
     pub fn weighted(&self, weights: &[i64; 10]) -> Fraction {
-        let mut terms: Vec<(i64, &Fraction)> = Vec::new();
-        terms.extend(self.responses.iter().map(|response| (0, &response.sum)));
+        let mut terms: Vec<(i64, &Fraction)> = self.responses.iter().map(|response| (0, &response.sum)).collect();
         for (&place, weight) in self.places.iter().zip(weights) {
             terms[place].0 += weight;
         }

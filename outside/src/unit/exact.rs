@@ -1,6 +1,6 @@
 //! The plain meaning of a unit: named numbers, i128, floor division.
 
-use super::{block_refusal, Band, Level, Numbers, Side, Unit, GAIN_SLOPE, VOLUME_SLOPE};
+use super::{block_refusal, Band, Level, Numbers, Side, Strip, Unit, GAIN_SLOPE, VOLUME_SLOPE};
 use crate::reference::{band_refusal, exact, is_word, ACCEPTED, WORD_MAX, WORD_MIN};
 
 /// Roundings that lay at a half: the even number was above it or below.
@@ -31,28 +31,21 @@ pub fn level_moved(present: i32, target: i32, slope: u32) -> i32 {
     (i128::from(present) + distance.signum() * step) as i32
 }
 
-/// "A unit is unfit when no accepted sheet could carry its numbers."
+/// "A unit is unfit when no accepted sheet could carry its numbers." "the volume V is 0 to 8,388,607", and its target
+/// too.
 pub fn fit(numbers: &Numbers) -> bool {
-    let unit = Unit::from_numbers(numbers);
-    let accepted = |band: &Band| band_refusal(band.a, band.b, band.g) == ACCEPTED;
-    volume_is_fit(unit.volume) && unit.bands.iter().all(accepted) && unit.sides.iter().all(side_is_fit)
-}
-
-/// "the volume V is 0 to 8,388,607", and its target too.
-fn volume_is_fit(volume: Level) -> bool {
-    let range = 0..=8_388_607;
-    range.contains(&volume.present) && range.contains(&volume.target)
+    let Unit { volume, bands, sides } = Unit::from_numbers(numbers);
+    [volume.present, volume.target].iter().all(|number| (0..=8_388_607).contains(number))
+        && bands.iter().all(|band| band_refusal(band.a, band.b, band.g) == ACCEPTED)
+        && sides.iter().all(side_is_fit)
 }
 
 /// "x1 and x2 are words and multiples of 256; a flag is 0 or 1." Results, gains and targets are words.
 fn side_is_fit(side: &Side) -> bool {
-    let inputs = [side.x1, side.x2];
-    inputs.iter().all(|&x| is_word(x) && x % 256 == 0)
+    let words = |strip: &Strip| [strip.y1, strip.y2, strip.gain.present, strip.gain.target].into_iter().all(is_word);
+    [side.x1, side.x2].iter().all(|&x| is_word(x) && x % 256 == 0)
         && (side.flag == 0 || side.flag == 1)
-        && side.strips.iter().all(|strip| {
-            let Level { present, target } = strip.gain;
-            [strip.y1, strip.y2, present, target].into_iter().all(is_word)
-        })
+        && side.strips.iter().all(words)
 }
 
 /// Rounded to nearest, halves to even; a half is counted.
@@ -112,23 +105,17 @@ fn move_levels(unit: &mut Unit) {
         level.present = level_moved(level.present, level.target, slope);
     };
     moved(&mut unit.volume, VOLUME_SLOPE);
-    for side in &mut unit.sides {
-        for strip in &mut side.strips {
-            moved(&mut strip.gain, GAIN_SLOPE);
-        }
-    }
+    unit.sides.iter_mut().flat_map(|side| &mut side.strips).for_each(|strip| moved(&mut strip.gain, GAIN_SLOPE));
 }
 
 /// One frame: "left then right", each sample entering "as x = 256 × s". "Both sides use the same V."
 fn frame(unit: &mut Unit, samples: [i16; 2], met: &mut Met) -> [i16; 2] {
     move_levels(unit);
-    let mut played = [0; 2];
-    for place in 0..2 {
+    [0, 1].map(|place| {
         let x = 256 * i32::from(samples[place]);
         let m = mix(&unit.bands, &mut unit.sides[place], x, met);
-        played[place] = output(unit.volume.present, m, met);
-    }
-    played
+        output(unit.volume.present, m, met)
+    })
 }
 
 /// "A block of frames is bytes: left then right, low byte first, four a frame; an empty block is accepted. Output
@@ -139,11 +126,9 @@ pub fn block(numbers: &mut Numbers, input: &[u8], output: &mut [u8], met: &mut M
         return refusal;
     }
     let mut unit = Unit::from_numbers(numbers);
-    for place in (0..input.len()).step_by(4) {
-        let sample = |at: usize| i16::from_le_bytes([input[at], input[at + 1]]);
-        let [left, right] = frame(&mut unit, [sample(place), sample(place + 2)], met);
-        output[place..place + 2].copy_from_slice(&left.to_le_bytes());
-        output[place + 2..place + 4].copy_from_slice(&right.to_le_bytes());
+    for (bytes, played) in input.chunks_exact(4).zip(output.chunks_exact_mut(4)) {
+        let samples = [[bytes[0], bytes[1]], [bytes[2], bytes[3]]].map(i16::from_le_bytes);
+        played.copy_from_slice(frame(&mut unit, samples, met).map(i16::to_le_bytes).as_flattened());
     }
     *numbers = unit.to_numbers();
     ACCEPTED

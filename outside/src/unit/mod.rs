@@ -39,7 +39,7 @@ pub const GAIN_SLOPE: u32 = 839;
 pub const VOLUME_SLOPE: u32 = 419;
 
 /// A present number and its target.
-#[derive(Clone, Copy)]
+#[derive(Clone, Copy, Default)]
 pub struct Level {
     pub present: i32,
     pub target: i32,

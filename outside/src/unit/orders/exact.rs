@@ -58,8 +58,8 @@ pub fn order(numbers: &mut Numbers, order: &Order) -> u32 {
     if order.is_volume() {
         unit.volume.target = target(order);
     } else {
-        for (_, side) in (0..).zip(&mut unit.sides).filter(|(n, _)| order.names(*n)) {
-            side.strips[order.band as usize].gain.target = target(order);
+        for place in (0..2).filter(|&place| order.names(place)) {
+            unit.sides[place].strips[order.band as usize].gain.target = target(order);
         }
     }
     *numbers = unit.to_numbers();

@@ -35,18 +35,15 @@ pub struct Order {
 
 impl Order {
     pub fn position(side: u32, band: u32, position: u8) -> Order {
-        let setting = Setting::Position(position);
-        Order { side, band, setting }
+        Order { side, band, setting: Setting::Position(position) }
     }
 
     pub fn factor(side: u32, band: u32, factor: f32) -> Order {
-        let setting = Setting::Factor(factor);
-        Order { side, band, setting }
+        Order { side, band, setting: Setting::Factor(factor) }
     }
 
     pub fn mute(side: u32, band: u32) -> Order {
-        let setting = Setting::Mute;
-        Order { side, band, setting }
+        Order { side, band, setting: Setting::Mute }
     }
 
     /// True for an order to the volume.
