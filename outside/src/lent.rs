@@ -4,7 +4,7 @@ use crate::ffi::{self, raw};
 use crate::reference::{house_set, WORD_MAX, WORD_MIN};
 use crate::unit::orders::Order;
 use crate::unit::sheet::{fast, SHEET};
-use crate::unit::{cleared, Numbers};
+use crate::unit::{house_unit, Numbers};
 use std::hint::black_box;
 
 const FRONT: usize = 40;
@@ -14,7 +14,7 @@ const MARK_BYTE: u8 = 0xA5;
 /// True where every function that takes a pointer leaves what lies around its own numbers and bytes as it was, and what
 /// it only reads too. Units are fit and unfit.
 pub fn keeps_to_its_numbers() -> bool {
-    let units = [cleared(&house_set()), [-1; 118], [MARK; 118]];
+    let units = [house_unit(), [-1; 118], [MARK; 118]];
     house_keeps()
         && steps_keep()
         && loads_keep()
@@ -106,7 +106,7 @@ fn orders_keep(unit: &Numbers) -> bool {
 fn sheets_keep(unit: &Numbers) -> bool {
     let lengths = [0, 1, 20, SHEET - 1, SHEET, SHEET + 1, SHEET + 40, 2 * SHEET];
     let mut right = vec![0; 2 * SHEET];
-    fast::write(&cleared(&house_set()), &mut right);
+    fast::write(&house_unit(), &mut right);
     let mut wrong = right.clone();
     wrong[SHEET - 1] = 0;
     let each = lengths.iter().flat_map(|&length| [0, 1, 2, 3].map(|odd| (length, odd)));

@@ -1,9 +1,7 @@
 //! Rounding and limiting on their own.
 
-use super::run::{Checked, Run};
-use super::Outcome;
+use super::run::{Checked, Outcome, Run, Subject};
 use crate::reference::exact;
-use crate::subject::Subject;
 
 pub const NEAREST_SEED: u64 = 0xF0DD_0001;
 pub const LIMIT_SEED: u64 = 0xF0DD_0002;

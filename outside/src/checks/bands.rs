@@ -1,10 +1,9 @@
 //! Which bands are refused, the house set, and the bands the section is stepped with.
 
-use super::run::{Checked, Run};
-use super::{same, Outcome, Tally};
+use super::run::{Checked, Outcome, Run, Subject};
+use super::{same, Tally};
 use crate::random::Random;
 use crate::reference::{band_refusal, house_set, ACCEPTED};
-use crate::subject::Subject;
 
 pub const BANDS_SEED: u64 = 0xF0DD_0003;
 

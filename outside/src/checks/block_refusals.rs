@@ -1,12 +1,10 @@
 //! Blocks of wrong lengths: "5 input bytes no multiple of four; 6 output shorter than input. Unit and output
 //! unchanged."
 
-use super::run::{Checked, Run};
+use super::run::{Checked, Outcome, Run, Subject};
 use super::same_block::marks;
-use super::Outcome;
-use crate::reference::{house_set, ACCEPTED};
-use crate::subject::Subject;
-use crate::unit::{cleared, Numbers, OUTPUT_TOO_SHORT, PART_OF_A_FRAME};
+use crate::reference::ACCEPTED;
+use crate::unit::{house_unit, Numbers, OUTPUT_TOO_SHORT, PART_OF_A_FRAME};
 
 pub const BLOCK_REFUSALS_SEED: u64 = 0xF0DD_0017;
 
@@ -32,7 +30,7 @@ fn block(run: &mut Run, numbers: &Numbers, length: usize, room: usize) -> Checke
 
 pub fn lengths(subject: &dyn Subject) -> Outcome {
     let run = &mut Run::new(subject, BLOCK_REFUSALS_SEED);
-    let mut units = vec![cleared(&house_set())];
+    let mut units = vec![house_unit()];
     units.extend((0..10).map(|turn| run.fit_unit(turn)));
     for numbers in &units {
         for length in 0..=33 {

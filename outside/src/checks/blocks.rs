@@ -1,12 +1,10 @@
 //! Long blocks on fit units of every kind.
 
-use super::run::{Checked, Run};
+use super::run::{Checked, Outcome, Run, Subject};
 use super::sounds::{Sound, SOUNDS};
 use super::units::{half_unit, random_fit, strips};
-use super::Outcome;
-use crate::reference::{house_set, WORD_MAX, WORD_MIN};
-use crate::subject::Subject;
-use crate::unit::{cleared, Numbers};
+use crate::reference::{WORD_MAX, WORD_MIN};
+use crate::unit::{cleared, house_unit, Numbers};
 
 pub const BLOCKS_SEED: u64 = 0xF0DD_0014;
 pub const FRAMES_SEED: u64 = 0xF0DD_0015;
@@ -44,7 +42,7 @@ fn loud(run: &mut Run, set: &[i32; 30], [gain, volume]: [i32; 2], sound: Sound) 
 
 /// Every sound with all gains high, all low and anywhere. At the volume 700,000 the largest mix isn't limited.
 fn every_sound(run: &mut Run, turn: u64) -> Checked {
-    for sound in SOUNDS {
+    for &sound in SOUNDS {
         let set = run.sets.draw(turn, &mut run.random);
         for gain in [WORD_MAX, WORD_MIN] {
             for volume in [WORD_MAX, 700_000] {
@@ -61,7 +59,7 @@ fn every_sound(run: &mut Run, turn: u64) -> Checked {
 
 pub fn long(subject: &dyn Subject) -> Outcome {
     let run = &mut Run::new(subject, BLOCKS_SEED);
-    long_sound(run, &mut cleared(&house_set()))?;
+    long_sound(run, &mut house_unit())?;
     for turn in 0..10 {
         let mut numbers = run.fit_unit(turn);
         long_sound(run, &mut numbers)?;
@@ -69,7 +67,7 @@ pub fn long(subject: &dyn Subject) -> Outcome {
     }
     for turn in 0..500 {
         let mut numbers = run.fit_unit(turn);
-        let sound = run.random.pick(&SOUNDS);
+        let sound = run.random.pick(SOUNDS);
         block(run, &mut numbers, sound, 500)?;
         let mut halves = half_unit(&run.sets, &mut run.random);
         block(run, &mut halves, sound, 500)?;

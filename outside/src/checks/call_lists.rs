@@ -2,11 +2,9 @@
 //! the output.
 
 use super::makers::Maker;
-use super::run::{Checked, Run};
-use super::Outcome;
+use super::run::{Checked, Outcome, Run, Subject};
 use crate::calls::List;
 use crate::reference::ACCEPTED;
-use crate::subject::Subject;
 use crate::unit::cleared;
 
 pub const CALLS_SEED: u64 = 0xF0DD_001A;

@@ -1,10 +1,8 @@
 //! Blocks of every small size, and one sound cut into blocks in several ways.
 
-use super::run::{Checked, Run};
+use super::run::{Checked, Outcome, Run, Subject};
 use super::sounds::Sound;
-use super::Outcome;
 use crate::random::Random;
-use crate::subject::Subject;
 use crate::unit::Numbers;
 
 pub const CUTS_SEED: u64 = 0xF0DD_0016;

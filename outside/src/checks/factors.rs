@@ -2,13 +2,10 @@
 
 use super::fitness::spoilt;
 use super::orders::every_side_and_band;
-use super::run::{Checked, Run};
-use super::Outcome;
+use super::run::{Checked, Outcome, Run, Subject};
 use crate::random::Random;
-use crate::reference::house_set;
-use crate::subject::Subject;
 use crate::unit::orders::Order;
-use crate::unit::{cleared, Numbers};
+use crate::unit::{house_unit, Numbers};
 
 pub const FACTORS_SEED: u64 = 0xF0DD_0019;
 
@@ -72,7 +69,7 @@ pub fn factors(subject: &dyn Subject) -> Outcome {
     let run = &mut Run::new(subject, FACTORS_SEED);
     let edges = edges(&mut run.random);
     let fit = run.fit_unit(2);
-    for numbers in [cleared(&house_set()), fit, spoilt(&fit, &mut run.random)] {
+    for numbers in [house_unit(), fit, spoilt(&fit, &mut run.random)] {
         let at_edges = edges.iter().flat_map(|&edge| PLACES.map(|place| (place, edge)));
         let everywhere = every_side_and_band().flat_map(|place| EVERYWHERE.map(|factor| (place, factor)));
         for ((side, band), factor) in at_edges.chain(everywhere) {

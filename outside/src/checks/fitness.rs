@@ -1,14 +1,11 @@
 //! Which units are fit, and blocks on unfit ones: "an unfit one is 14, and unit and output are unchanged."
 
 use super::refusals::wrong_numbers;
-use super::run::{Checked, Run};
+use super::run::{Checked, Outcome, Run, Subject};
 use super::same_block::marks;
 use super::units::{kind, Kind};
-use super::Outcome;
 use crate::random::Random;
-use crate::reference::house_set;
-use crate::subject::Subject;
-use crate::unit::{cleared, exact, Numbers, BANDS, UNFIT};
+use crate::unit::{exact, house_unit, Numbers, BANDS, UNFIT};
 
 pub const FITNESS_SEED: u64 = 0xF0DD_0013;
 
@@ -105,8 +102,8 @@ fn each_number(run: &mut Run, numbers: &Numbers) -> Checked {
 
 pub fn units(subject: &dyn Subject) -> Outcome {
     let run = &mut Run::new(subject, FITNESS_SEED);
-    fit(run, &cleared(&house_set()), true)?;
-    each_number(run, &cleared(&house_set()))?;
+    fit(run, &house_unit(), true)?;
+    each_number(run, &house_unit())?;
     for turn in 0..10_000 {
         let numbers = run.fit_unit(turn);
         fit(run, &numbers, true)?;

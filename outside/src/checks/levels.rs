@@ -1,8 +1,6 @@
 //! A level moved once: "by 839 and the volume by 419, or by the whole distance where that is less".
 
-use super::run::{Checked, Run};
-use super::Outcome;
-use crate::subject::Subject;
+use super::run::{Checked, Outcome, Run, Subject};
 use crate::unit::exact;
 
 pub const LEVELS_SEED: u64 = 0xF0DD_0011;

@@ -1,11 +1,9 @@
 //! Loading a band set: the refusals 7 to 10 and the unit that comes of it, whatever the lent numbers held before.
 
 use super::refusals::wrong_numbers;
-use super::run::{Checked, Run};
-use super::Outcome;
+use super::run::{Checked, Outcome, Run, Subject};
 use crate::reference::{house_set, ACCEPTED, REFUSED_A};
-use crate::subject::Subject;
-use crate::unit::{self, cleared, Numbers, NOT_THIRTY};
+use crate::unit::{self, cleared, house_unit, Numbers, NOT_THIRTY};
 
 pub const LOADS_SEED: u64 = 0xF0DD_0012;
 
@@ -36,7 +34,7 @@ fn stated(run: &mut Run, set: &[i32], number: u32) -> Checked {
     let loaded = load(run, set)?;
     let held = match set.try_into() {
         Ok(thirty) if number == ACCEPTED => cleared(thirty),
-        _ => cleared(&house_set()),
+        _ => house_unit(),
     };
     run.same((number, held), loaded, || format!("loading {set:?}"))
 }

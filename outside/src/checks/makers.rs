@@ -88,7 +88,7 @@ impl Maker {
     pub fn sound(&mut self) -> Sound {
         match self.random.below(2) {
             0 => Sound::Soft(self.random.between(4, 15) as u32),
-            _ => self.random.pick(&SOUNDS),
+            _ => self.random.pick(SOUNDS),
         }
     }
 

@@ -1,12 +1,10 @@
 //! Orders to every side and band, with positions and mute.
 
 use super::fitness::spoilt;
-use super::run::{Checked, Run};
-use super::Outcome;
-use crate::reference::{house_set, ACCEPTED};
-use crate::subject::Subject;
+use super::run::{Checked, Outcome, Run, Subject};
+use crate::reference::ACCEPTED;
 use crate::unit::orders::{Order, NO_SIDE_AND_BAND, POSITION_OVER_31};
-use crate::unit::{cleared, Numbers, UNFIT};
+use crate::unit::{house_unit, Numbers, UNFIT};
 
 pub const ORDERS_SEED: u64 = 0xF0DD_0018;
 
@@ -61,7 +59,7 @@ pub fn places(subject: &dyn Subject) -> Outcome {
     let run = &mut Run::new(subject, ORDERS_SEED);
     let numbers = run.fit_unit(2);
     let unfit = spoilt(&numbers, &mut run.random);
-    for (numbers, fit) in [(&cleared(&house_set()), true), (&numbers, true), (&unfit, false)] {
+    for (numbers, fit) in [(&house_unit(), true), (&numbers, true), (&unfit, false)] {
         every_place(run, numbers, fit)?;
     }
     for turn in 0..1_000 {

@@ -2,12 +2,10 @@
 //! "after an accepted call its entries past the results keep their contents."
 
 use super::bands::{extreme_accepted, half_accepted, house_bands, random_accepted, Band};
-use super::run::{Checked, Run};
+use super::run::{Checked, Outcome, Run, Subject};
 use super::sounds::{Sound, WORD_SOUNDS};
-use super::Outcome;
 use crate::preview::RESULTS_TOO_SHORT;
 use crate::reference::{ACCEPTED, WORD_MAX, WORD_MIN};
-use crate::subject::Subject;
 
 pub const PREVIEW_LENGTHS_SEED: u64 = 0xF0DD_0026;
 
@@ -18,7 +16,7 @@ const BEHIND: [i32; 4] = [WORD_MAX + 1, i32::MIN, i32::MAX, WORD_MIN - 1];
 fn list(run: &mut Run, band: Band, length: usize, rooms: impl IntoIterator<Item = usize>) -> Checked {
     let sound = match run.random.below(3) {
         0 => Sound::Ends,
-        _ => run.random.pick(&WORD_SOUNDS),
+        _ => run.random.pick(WORD_SOUNDS),
     };
     let mut numbers = sound.list(length, &mut run.random);
     numbers.extend(BEHIND);

@@ -3,12 +3,10 @@
 
 use super::bands::{corner_bands, random_accepted, Band};
 use super::refusals::{number_for, spoil, wrong_numbers};
-use super::run::{Checked, Run};
+use super::run::{Checked, Outcome, Run, Subject};
 use super::sounds::{Sound, WORD_SOUNDS};
-use super::Outcome;
 use crate::preview::RESULTS_TOO_SHORT;
 use crate::reference::{NO_WORD, WORD_MAX, WORD_MIN};
-use crate::subject::Subject;
 
 pub const PREVIEW_REFUSALS_SEED: u64 = 0xF0DD_0027;
 
@@ -28,7 +26,7 @@ fn no_word(turn: usize) -> i32 {
 }
 
 fn words(run: &mut Run, length: usize) -> Vec<i32> {
-    let sound = run.random.pick(&WORD_SOUNDS);
+    let sound = run.random.pick(WORD_SOUNDS);
     sound.list(length, &mut run.random)
 }
 

@@ -2,12 +2,10 @@
 //! section and nothing else.
 
 use super::bands::{extreme_accepted, half_accepted, house_bands, random_accepted, slow_accepted, Band};
-use super::run::{Checked, Run};
+use super::run::{Checked, Outcome, Run, Subject};
 use super::same_preview::{buffer, same_as_section};
 use super::sounds::{Sound, WORD_SOUNDS};
-use super::Outcome;
 use crate::reference::ACCEPTED;
-use crate::subject::Subject;
 
 pub const PREVIEWS_SEED: u64 = 0xF0DD_0025;
 pub const PREVIEW_SECTION_SEED: u64 = 0xF0DD_0028;
@@ -44,7 +42,7 @@ impl Lists<'_> {
     /// Every sound and silence with each band.
     fn every_sound(&mut self, bands: &[Band], length: usize) -> Checked {
         for &band in bands {
-            for sound in WORD_SOUNDS.into_iter().chain([Sound::Silence]) {
+            for &sound in WORD_SOUNDS.iter().chain(&[Sound::Silence]) {
                 self.list(band, sound, length)?;
             }
         }
@@ -54,7 +52,7 @@ impl Lists<'_> {
     /// Any sound with random bands and with slow ones.
     fn random_bands(&mut self, length: usize) -> Checked {
         for _ in 0..4_000 {
-            let sound = self.run.random.pick(&WORD_SOUNDS);
+            let sound = self.run.random.pick(WORD_SOUNDS);
             for draw in [random_accepted, slow_accepted] {
                 let band = draw(&mut self.run.random);
                 self.list(band, sound, length)?;

@@ -1,9 +1,7 @@
 //! Steps that are refused: which number, the result 0, the section unchanged.
 
-use super::run::{Checked, Run};
-use super::Outcome;
+use super::run::{Checked, Outcome, Run, Subject};
 use crate::reference::{pack, Section, NO_WORD, REFUSED_A, REFUSED_B, REFUSED_G};
-use crate::subject::Subject;
 
 pub const REFUSALS_SEED: u64 = 0xF0DD_0007;
 

@@ -3,11 +3,12 @@
 use super::same_block::same_block;
 use super::same_order::same_order;
 use super::units::{random_fit, Sets};
+pub use super::Outcome;
 use super::{same, same_step, Difference, Tally};
 use crate::calls::Call;
 use crate::random::Random;
 use crate::reference::Section;
-use crate::subject::Subject;
+pub use crate::subject::Subject;
 use crate::unit::orders::Order;
 use crate::unit::Numbers;
 use std::fmt::Debug;

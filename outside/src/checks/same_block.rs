@@ -1,8 +1,7 @@
 //! A block played by the exact reference and by a subject, and compared.
 
-use super::run::{briefly, same_left, Checked};
+use super::run::{briefly, same_left, Checked, Subject};
 use super::Tally;
-use crate::subject::Subject;
 use crate::unit::{exact, Numbers, OUTPUT_TOO_SHORT, PART_OF_A_FRAME, UNFIT};
 
 /// A buffer of so many bytes, no two neighbours alike.

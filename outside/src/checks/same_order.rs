@@ -1,9 +1,8 @@
 //! An order carried out by the exact reference and by a subject, and compared.
 
-use super::run::{same_left, Checked};
+use super::run::{same_left, Checked, Subject};
 use super::Tally;
 use crate::reference::ACCEPTED;
-use crate::subject::Subject;
 use crate::unit::orders::{exact, Order, Setting, FACTOR_OUTSIDE};
 use crate::unit::Numbers;
 

@@ -2,13 +2,12 @@
 //! subject's section.
 
 use super::bands::Band;
-use super::run::{briefly, same_left, Checked, Run};
+use super::run::{briefly, same_left, Checked, Run, Subject};
 use super::tally::Steps;
 use super::Tally;
 use crate::preview::{exact, RESULTS_TOO_SHORT};
 use crate::random::Random;
 use crate::reference::{exact::sum, unpack, Section, ACCEPTED, REFUSED_A, REFUSED_B, REFUSED_G, WORD_MAX, WORD_MIN};
-use crate::subject::Subject;
 
 /// What the previews met.
 #[derive(Clone, Copy, Default)]
@@ -114,11 +113,12 @@ pub fn same_preview(subject: &dyn Subject, band: Band, words: &[i32], lent: &[i3
 /// Steps the subject's own section over the words from a cleared start: each result of the preview must be its y.
 pub fn same_as_section(
     subject: &dyn Subject,
-    [a, b, g]: Band,
+    band: Band,
     words: &[i32],
     results: &[i32],
     tally: &mut Tally,
 ) -> Checked {
+    let [a, b, g] = band;
     let mut section = [a, b, g, 0, 0, 0, 0];
     for (place, (&x, &result)) in words.iter().zip(results).enumerate() {
         let before = section;

@@ -1,11 +1,10 @@
 //! A sheet written or read by the reference and by a subject, and compared.
 
-use super::run::{same_left, Checked};
+use super::run::{same_left, Checked, Subject};
 use super::sheet_makers::SheetMaker;
 use super::sheet_texts::{badly_written, Field};
 use super::{same, Tally};
 use crate::reference::{ACCEPTED, REFUSED_A};
-use crate::subject::Subject;
 use crate::unit::sheet::{exact, SHEET};
 use crate::unit::Numbers;
 use std::fmt::Debug;

@@ -1,16 +1,14 @@
 //! Sheets with bytes changed anywhere: one byte, two, several fields, letters and line ends, and bytes put in or
 //! left out.
 
-use super::run::Checked;
+use super::run::{Checked, Outcome, Subject};
 use super::same_sheet::SheetRun;
 use super::sheet_figures::typed_sheets;
 use super::sheet_makers::sheet_of;
 use super::sheet_places::lines;
 use super::sheet_texts::any_field;
-use super::Outcome;
-use crate::reference::{house_set, ACCEPTED};
-use crate::subject::Subject;
-use crate::unit::cleared;
+use crate::reference::ACCEPTED;
+use crate::unit::house_unit;
 use crate::unit::sheet::SHEET;
 
 pub const DAMAGE_SEED: u64 = 0xF0DD_0022;
@@ -111,7 +109,7 @@ pub fn anywhere(subject: &dyn Subject) -> Outcome {
             shifted(run, &sheet)?;
         }
     }
-    let mut right = vec![sheet_of(&cleared(&house_set()))];
+    let mut right = vec![sheet_of(&house_unit())];
     right.extend(typed_sheets());
     right.extend((1..13).map(|turn| run.maker.sheet(turn)));
     for sheet in right {

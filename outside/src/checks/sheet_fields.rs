@@ -2,17 +2,15 @@
 //! past them.
 
 use super::fitness::{edge_numbers, with};
-use super::run::Checked;
+use super::run::{Checked, Outcome, Subject};
 use super::same_sheet::SheetRun;
 use super::sheet_makers::sheet_of;
 use super::sheet_places::{fields, lines};
 use super::sheet_texts::{outside_numbers, well_written};
 use super::units::{kind, Kind};
-use super::Outcome;
-use crate::reference::{house_set, ACCEPTED, REFUSED_A, REFUSED_B, REFUSED_G};
-use crate::subject::Subject;
+use crate::reference::{ACCEPTED, REFUSED_A, REFUSED_B, REFUSED_G};
 use crate::unit::sheet::{BADLY_WRITTEN, OUTSIDE};
-use crate::unit::{cleared, Numbers};
+use crate::unit::{house_unit, Numbers};
 
 pub const FIELDS_SEED: u64 = 0xF0DD_0020;
 
@@ -87,7 +85,7 @@ pub fn each(subject: &dyn Subject) -> Outcome {
         g_beside_b(run, &numbers)?;
     }
     let (ends, mixed) = (run.maker.unit(3), run.maker.unit(5));
-    for numbers in [cleared(&house_set()), ends, mixed] {
+    for numbers in [house_unit(), ends, mixed] {
         badly(run, &numbers)?;
     }
     Ok(run.tally)

@@ -1,13 +1,10 @@
 //! Bytes that are no sheet for their count: "11 not 1,128 bytes", ahead of what they hold. "The given unit comes
 //! back, unexamined."
 
-use super::run::Checked;
+use super::run::{Checked, Outcome, Subject};
 use super::same_sheet::SheetRun;
 use super::sheet_makers::sheet_of;
-use super::Outcome;
-use crate::reference::house_set;
-use crate::subject::Subject;
-use crate::unit::cleared;
+use crate::unit::house_unit;
 use crate::unit::sheet::{NOT_A_SHEET, SHEET};
 
 pub const LENGTHS_SEED: u64 = 0xF0DD_0023;
@@ -46,7 +43,7 @@ fn sheet(run: &mut SheetRun, sheet: &[u8]) -> Checked {
 
 pub fn wrong(subject: &dyn Subject) -> Outcome {
     let run = &mut SheetRun::new(subject, LENGTHS_SEED);
-    sheet(run, &sheet_of(&cleared(&house_set())))?;
+    sheet(run, &sheet_of(&house_unit()))?;
     for turn in 0..6 {
         let right = run.maker.sheet(turn);
         sheet(run, &right)?;

@@ -2,11 +2,9 @@
 //! continues that list".
 
 use super::makers::Maker;
-use super::run::{Checked, Run};
+use super::run::{Checked, Outcome, Run, Subject};
 use super::same_sheet::same_back;
-use super::Outcome;
 use crate::calls::List;
-use crate::subject::Subject;
 use crate::unit::cleared;
 use crate::unit::sheet::{exact, SHEET};
 

@@ -3,9 +3,9 @@
 use super::fitness::spoilt;
 use super::units::{kind, Kind, Sets};
 use crate::random::Random;
-use crate::reference::{house_set, WORD_MAX, WORD_MIN};
+use crate::reference::{WORD_MAX, WORD_MIN};
 use crate::unit::sheet::{exact, SHEET};
-use crate::unit::{cleared, Numbers};
+use crate::unit::{cleared, house_unit, Numbers};
 
 /// A number of any count of digits, brought into this range; often the least or the most of that count.
 fn any_length([low, high]: [i32; 2], random: &mut Random) -> i32 {
@@ -61,7 +61,7 @@ impl SheetMaker {
         let anything = [(); 118].map(|()| maker.random.any_i32());
         maker.given.extend(fit);
         maker.given.extend(unfit);
-        maker.given.extend([anything, cleared(&house_set())]);
+        maker.given.extend([anything, house_unit()]);
         maker.bytes = (0..20_000).map(|_| maker.random.draw() as u8).collect();
         maker
     }

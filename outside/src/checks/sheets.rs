@@ -2,10 +2,9 @@
 //! unfit unit (below), it hands back an empty part and writes nothing. Bytes behind the sheet keep their contents."
 
 use super::fitness::{spoilt, unfit_numbers, with};
-use super::run::Checked;
+use super::run::{Checked, Outcome, Subject};
+use super::same;
 use super::same_sheet::{same_back, same_write, SheetRun, Writer};
-use super::{same, Outcome};
-use crate::subject::Subject;
 use crate::unit::sheet::{exact, fast, SHEET};
 use crate::unit::Numbers;
 

@@ -31,36 +31,16 @@ pub enum Sound {
 use Sound::{Ends, Faint, Impulse, Noise, OneSide, Samples, Silence, Square, ThenSilence};
 
 /// The sounds of blocks, and those of lists of words.
-pub const SOUNDS: [Sound; 14] = [
-    Noise,
-    Square(1),
-    Square(2),
-    Square(7),
-    Square(50),
-    Square(711),
-    Ends,
-    Faint,
-    Silence,
-    ThenSilence,
-    Impulse(i16::MAX as i32),
-    Impulse(i16::MIN as i32),
-    OneSide(0),
-    OneSide(1),
-];
-pub const WORD_SOUNDS: [Sound; 12] = [
-    Noise,
-    Samples,
-    Square(1),
-    Square(2),
-    Square(7),
-    Square(50),
-    Square(711),
-    Ends,
-    Faint,
-    ThenSilence,
-    Impulse(WORD_MAX),
-    Impulse(WORD_MIN),
-];
+pub const SOUNDS: &[Sound] = [
+    [Noise, Square(1), Square(2), Square(7), Square(50), Square(711), Ends],
+    [Faint, Silence, ThenSilence, Impulse(i16::MAX as i32), Impulse(i16::MIN as i32), OneSide(0), OneSide(1)],
+]
+.as_flattened();
+pub const WORD_SOUNDS: &[Sound] = [
+    [Noise, Samples, Square(1), Square(2), Square(7), Square(50)],
+    [Square(711), Ends, Faint, ThenSilence, Impulse(WORD_MAX), Impulse(WORD_MIN)],
+]
+.as_flattened();
 
 impl Sound {
     /// The number at a place of a list of this length, on a side: between these ends, and drawn as `any` where it

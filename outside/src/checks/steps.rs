@@ -1,12 +1,11 @@
 //! Steps of a section: long lists of words, and the corners of a word in every place.
 
 use super::bands::{extreme_accepted, half_accepted, house_bands, random_accepted, Band};
-use super::run::{Checked, Run};
+use super::run::{Checked, Outcome, Run, Subject};
 use super::sounds::{Sound, WORD_SOUNDS};
-use super::{same_step, Outcome, Tally};
+use super::{same_step, Tally};
 use crate::random::Random;
 use crate::reference::{Section, WORD_MAX, WORD_MIN};
-use crate::subject::Subject;
 
 pub const LISTS_SEED: u64 = 0xF0DD_0005;
 
@@ -31,7 +30,7 @@ fn list(run: &mut Run, [a, b, g]: Band, [x1, x2, y1, y2]: [i32; 4], sound: Sound
 /// Every sound through each band, cleared and from a random start.
 fn every_sound(run: &mut Run, bands: &[Band], length: usize) -> Checked {
     for &band in bands {
-        for sound in WORD_SOUNDS {
+        for &sound in WORD_SOUNDS {
             list(run, band, CLEARED, sound, length)?;
             let start = start(&mut run.random);
             list(run, band, start, sound, length)?;
@@ -51,7 +50,7 @@ pub fn lists(subject: &dyn Subject) -> Outcome {
     every_sound(run, &half_accepted(), 500)?;
     for _ in 0..1_000 {
         let band = random_accepted(&mut run.random);
-        let (sound, start) = (run.random.pick(&WORD_SOUNDS), start(&mut run.random));
+        let (sound, start) = (run.random.pick(WORD_SOUNDS), start(&mut run.random));
         list(run, band, start, sound, 1_000)?;
     }
     for _ in 0..1_000_000 {

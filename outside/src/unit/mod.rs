@@ -116,6 +116,11 @@ pub fn cleared(set: &[i32; 30]) -> Numbers {
     numbers
 }
 
+/// "the cleared house unit".
+pub fn house_unit() -> Numbers {
+    cleared(&house_set())
+}
+
 /// "7 a set that isn't thirty numbers, A, B, G of each band in turn; then band by band 8 (A), 9 (B), 10 (G)."
 pub fn set_refusal(set: &[i32]) -> u32 {
     if set.len() != 30 {
@@ -132,7 +137,7 @@ pub fn load(numbers: &mut Numbers, set: &[i32]) -> u32 {
     let refusal = set_refusal(set);
     *numbers = match set.try_into() {
         Ok(thirty) if refusal == ACCEPTED => cleared(thirty),
-        _ => cleared(&house_set()),
+        _ => house_unit(),
     };
     refusal
 }
