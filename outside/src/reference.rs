@@ -37,20 +37,13 @@ pub const TABLE_1: [[&str; 3]; 10] = [
 /// "The house set is Table 1 of source document 002, each figure × 2^23 to the nearest whole number": A, B, G of
 /// each band in turn.
 pub fn house_set() -> [i32; 30] {
-    let mut words = [0; 30];
-    for (word, figure) in words.iter_mut().zip(TABLE_1.iter().flatten()) {
-        *word = figure_to_word(figure);
-    }
-    words
+    std::array::from_fn(|n| figure_to_word(TABLE_1[n / 3][n % 3]))
 }
 
 /// A decimal figure × 2^23 to the nearest whole number, in whole numbers only. No figure of the table lies halfway
 /// between two.
 pub fn figure_to_word(figure: &str) -> i32 {
-    let (negative, size) = match figure.strip_prefix('-') {
-        Some(rest) => (true, rest),
-        None => (false, figure),
-    };
+    let size = figure.trim_start_matches('-');
     let decimals = size.strip_prefix("0.").expect("a figure begins 0.");
     let digits: i128 = decimals.parse().expect("decimal digits");
     let one = 10_i128.pow(decimals.len() as u32);
@@ -58,7 +51,7 @@ pub fn figure_to_word(figure: &str) -> i32 {
     let (below, over) = (scaled / one, scaled % one);
     assert!(2 * over != one, "{figure} lies halfway between two words");
     let nearest = if 2 * over > one { below + 1 } else { below };
-    (if negative { -nearest } else { nearest }) as i32
+    (if figure.starts_with('-') { -nearest } else { nearest }) as i32
 }
 
 /// True for a word.
@@ -191,10 +184,7 @@ pub mod fast {
         let rounded = round_sum(inputs + results);
         let limited = rounded.clamp(i64::from(WORD_MIN), i64::from(WORD_MAX));
         let y = limited as i32;
-        section[3] = x;
-        section[4] = x1;
-        section[5] = y;
-        section[6] = y1;
+        section[3..].copy_from_slice(&[x, x1, y, y1]);
         pack(ACCEPTED, limited != rounded, y)
     }
 }

@@ -62,6 +62,8 @@ const INPUT: Range = |number| is_word(number) && number % 256 == 0;
 const FLAG: Range = |number| number == 0 || number == 1;
 /// Results, gains and targets.
 const WORD: Range = is_word;
+/// "a C line tests 8 to 10 after its three fields, in place of 14".
+const LATER: Range = |_| true;
 
 /// What is left of a sheet, and the numbers read so far.
 struct Reading<'a> {
@@ -76,35 +78,34 @@ impl Reading<'_> {
         (*byte == wanted).then_some(()).ok_or(LETTER_OR_END)
     }
 
-    fn field(&mut self) -> Result<i32, u32> {
-        let (field, rest) = self.rest.split_at(FIELD);
-        self.rest = rest;
-        parsed(field).ok_or(BADLY_WRITTEN)
-    }
-
-    /// A line whose numbers have these ranges.
-    fn line(&mut self, letter: u8, ranges: &[Range]) -> Result<(), u32> {
+    /// A letter, and the fields of numbers that have these ranges.
+    fn fields(&mut self, letter: u8, ranges: &[Range]) -> Result<(), u32> {
         self.byte(letter)?;
         for inside in ranges {
-            let number = self.field()?;
+            let (field, rest) = self.rest.split_at(FIELD);
+            self.rest = rest;
+            let number = parsed(field).ok_or(BADLY_WRITTEN)?;
             if !inside(number) {
                 return Err(OUTSIDE);
             }
             self.numbers.push(number);
         }
+        Ok(())
+    }
+
+    fn line(&mut self, letter: u8, ranges: &[Range]) -> Result<(), u32> {
+        self.fields(letter, ranges)?;
         self.byte(LINE_FEED)
     }
 
-    /// "a C line tests 8 to 10 after its three fields, in place of 14 and ahead of its line end."
+    /// A C line, with 8 to 10 "ahead of its line end."
     fn band(&mut self) -> Result<(), u32> {
-        self.byte(b'C')?;
-        let [a, b, g] = [self.field()?, self.field()?, self.field()?];
-        let refusal = band_refusal(a, b, g);
-        if refusal != ACCEPTED {
-            return Err(refusal);
+        self.fields(b'C', &[LATER; 3])?;
+        let band = self.numbers.last_chunk::<3>().expect("three numbers");
+        match band_refusal(band[0], band[1], band[2]) {
+            ACCEPTED => self.byte(LINE_FEED),
+            refusal => Err(refusal),
         }
-        self.numbers.extend([a, b, g]);
-        self.byte(LINE_FEED)
     }
 }
 
@@ -113,17 +114,12 @@ fn sheet(bytes: &[u8]) -> Result<Vec<i32>, u32> {
     if bytes.len() != SHEET {
         return Err(NOT_A_SHEET);
     }
-    let (rest, numbers) = (bytes, Vec::with_capacity(118));
-    let mut reading = Reading { rest, numbers };
+    let mut reading = Reading { rest: bytes, numbers: Vec::with_capacity(118) };
     reading.line(b'V', &[VOLUME; 2])?;
-    for _ in 0..10 {
-        reading.band()?;
-    }
+    (0..10).try_for_each(|_| reading.band())?;
     for letter in [b'L', b'R'] {
         reading.line(letter, &[INPUT, INPUT, FLAG])?;
-        for _ in 0..10 {
-            reading.line(b'S', &[WORD; 4])?;
-        }
+        (0..10).try_for_each(|_| reading.line(b'S', &[WORD; 4]))?;
     }
     Ok(reading.numbers)
 }
