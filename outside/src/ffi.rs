@@ -90,8 +90,8 @@ pub fn block(unit: &mut Numbers, input: &[u8], output: &mut [u8]) -> u32 {
 
 pub fn order(unit: &mut Numbers, order: &Order) -> u32 {
     let Order { side, band, .. } = *order;
-    // SAFETY: the unit is 118 numbers that nobody else holds; the rest are numbers, and each function is defined
-    // for all of them.
+    // SAFETY: the unit is 118 numbers that nobody else holds; the rest are numbers, and each function is defined for
+    // all of them.
     unsafe {
         match order.setting {
             Setting::Position(position) => raw::fonddrys_order_position(unit, side, band, position),
@@ -113,7 +113,7 @@ pub fn sheet_read(unit: &mut Numbers, bytes: &[u8]) -> u32 {
 
 pub fn preview([a, b, g]: [i32; 3], words: &[i32], results: &mut [i32]) -> u32 {
     let (from, to) = (words.as_ptr(), results.as_mut_ptr());
-    // SAFETY: the words are only read, the results are lent to the library alone, and each pointer comes with its
-    // own length.
+    // SAFETY: the words are only read, the results are lent to the library alone, and each pointer comes with its own
+    // length.
     unsafe { raw::fonddrys_preview(a, b, g, from, words.len(), to, results.len()) }
 }

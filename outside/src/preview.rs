@@ -1,7 +1,7 @@
 //! The floating preview of a section. Quoted sentences are document 01's.
 //!
-//! Two forms stand side by side, as for the section. `exact` is the plain meaning: the exact section, stepped over
-//! the list. `fast` is what one would write for use, in f64.
+//! Two forms stand side by side, as for the section. `exact` is the plain meaning: the exact section, stepped over the
+//! list. `fast` is what one would write for use, in f64.
 
 use crate::reference::{band_refusal, is_word, ACCEPTED, NO_WORD};
 
@@ -24,8 +24,8 @@ pub mod exact {
     use crate::reference::{exact, unpack, Section, ACCEPTED};
 
     /// "For an accepted band and any list of words from a cleared start its results equal the section's". After a
-    /// refusal "The buffer is unchanged; after an accepted call its entries past the results keep their contents."
-    /// Each step is shown: the section before it, x and the answer.
+    /// refusal "The buffer is unchanged; after an accepted call its entries past the results keep their contents." Each
+    /// step is shown: the section before it, x and the answer.
     pub fn preview(
         band: [i32; 3],
         words: &[i32],
@@ -48,7 +48,7 @@ pub mod exact {
     }
 }
 
-/// The same for use: "coefficients and delayed words as f64".
+/// What one would write for use: "coefficients and delayed words as f64".
 pub mod fast {
     use super::refusal;
     use crate::reference::{ACCEPTED, WORD_MAX, WORD_MIN};
@@ -57,8 +57,8 @@ pub mod fast {
     /// rounded to nearest, halves to even.
     const WHOLE: f64 = 6_755_399_441_055_744.0;
 
-    /// The coefficients over 2^22, the delayed words, and G × y1, which is worked as soon as y1 is known. All
-    /// products and sums are exact: multiples of 2^-22 below 2^26.
+    /// The coefficients over 2^22, the delayed words, and G × y1, which is worked as soon as y1 is known. All products
+    /// and sums are exact: multiples of 2^-22 below 2^26.
     #[derive(Default)]
     struct Preview {
         a: f64,

@@ -1,9 +1,8 @@
-//! The section, the rounding, the limiting, the refusals and the house set, written from document 01. Quoted
-//! sentences are that document's.
+//! The section, the rounding, the limiting, the refusals and the house set, written from document 01. Quoted sentences
+//! are that document's.
 //!
-//! Two forms stand side by side. `exact` is the plain meaning, in i128 with floor division. `fast` is what one
-//! would write for use, in i64 with shifts. The comparison holds them against each other as well as against the
-//! library.
+//! Two forms stand side by side. `exact` is the plain meaning, in i128 with floor division. `fast` is what one would
+//! write for use, in i64 with shifts. The comparison holds them against each other as well as against the library.
 
 /// "A word is a whole number from -8,388,608 to 8,388,607 (24 bits, unit 2^-23)."
 pub const WORD_MIN: i32 = -8_388_608;
@@ -34,8 +33,8 @@ pub const TABLE_1: [[&str; 3]; 10] = [
     ["0.159603", "0.1800994", "-0.4435172"],
 ];
 
-/// "The house set is Table 1 of source document 002, each figure × 2^23 to the nearest whole number": A, B, G of
-/// each band in turn.
+/// "The house set is Table 1 of source document 002, each figure × 2^23 to the nearest whole number": A, B, G of each
+/// band in turn.
 pub fn house_set() -> [i32; 30] {
     std::array::from_fn(|n| figure_to_word(TABLE_1[n / 3][n % 3]))
 }
@@ -129,8 +128,8 @@ pub mod exact {
     }
 
     /// One step of a section. "y is S / 2^22 rounded, then limited to a word. The section has limited in this step
-    /// exactly when the rounded number was no word. The limited y is the one remembered." After a refusal "the
-    /// result is 0 and the section is unchanged."
+    /// exactly when the rounded number was no word. The limited y is the one remembered." After a refusal "the result
+    /// is 0 and the section is unchanged."
     pub fn step(section: &mut Section, x: i32) -> i64 {
         let refusal = step_refusal(section, x);
         if refusal != ACCEPTED {
@@ -145,7 +144,7 @@ pub mod exact {
     }
 }
 
-/// The same for use: i64, shifts, no division.
+/// What one would write for use: i64, shifts, no division.
 pub mod fast {
     use super::{pack, step_refusal, Section, ACCEPTED, WORD_MAX, WORD_MIN};
 

@@ -97,8 +97,8 @@ pub fn used() -> Used {
     Used::of(&usage)
 }
 
-/// Waits for the end of a child: the status as the system packs it, which is 0 for an exit status of 0, and the
-/// time it used. The child is gone afterwards.
+/// Waits for the end of a child: the status as the system packs it, which is 0 for an exit status of 0, and the time it
+/// used. The child is gone afterwards.
 pub fn wait_for(process: u32) -> io::Result<(i32, Used)> {
     let (mut status, mut usage) = (0, raw::Rusage::default());
     // SAFETY: fills what is this function's own.

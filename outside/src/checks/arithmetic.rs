@@ -24,8 +24,7 @@ fn number_corners() -> Vec<i64> {
     corners
 }
 
-/// One rounding, compared, and its meaning checked: the distance is at most a half, and at a half the result is
-/// even.
+/// One rounding, compared, and its meaning checked: the distance is at most a half, and at a half the result is even.
 fn round(run: &mut Run, v: i64, k: u32) -> Checked {
     let got = run.subject.nearest(v, k);
     run.same(exact::nearest(v, k), got, || format!("nearest of v = {v}, k = {k}"))?;

@@ -1,5 +1,5 @@
-//! The arithmetic of the exact sound by itself: small numbers against i128, large ones by what they leave when
-//! divided, and figures worked by hand.
+//! The arithmetic of the exact sound by itself: small numbers against i128, large ones by what they leave when divided,
+//! and figures worked by hand.
 
 use super::run::{Checked, Outcome};
 use super::{same, Tally};
@@ -70,7 +70,7 @@ fn small(random: &mut Random, tally: &mut Tally) -> Checked {
     same(tally, expected < 0, sum.is_negative(), inputs)
 }
 
-/// The same in large numbers: what is left of the sum, and the way back.
+/// a + c × b × 2^shift in large numbers: what is left of the sum, and the way back.
 fn large(random: &mut Random, tally: &mut Tally) -> Checked {
     let [a, b] = [(); 2].map(|()| any_big(random, 30));
     let coefficient = random.any_size() >> 1;

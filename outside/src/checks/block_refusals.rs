@@ -8,8 +8,8 @@ use crate::unit::{house_unit, Numbers, OUTPUT_TOO_SHORT, PART_OF_A_FRAME};
 
 pub const BLOCK_REFUSALS_SEED: u64 = 0xF0DD_0017;
 
-/// One block: compared with the reference, its number as document 01 states it, "The first that applies, in
-/// numerical order", and after a refusal unit and output unchanged.
+/// One block: compared with the reference, its number as document 01 states it, "The first that applies, in numerical
+/// order", and after a refusal unit and output unchanged.
 fn block(run: &mut Run, numbers: &Numbers, length: usize, room: usize) -> Checked {
     let input = vec![0x5A; length];
     run.block(&mut numbers.clone(), &input, room)?;

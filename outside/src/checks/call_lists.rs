@@ -1,5 +1,5 @@
-//! Lists of orders and blocks from cleared units. Each call compares the answer, all 118 numbers and every byte of
-//! the output.
+//! Lists of orders and blocks from cleared units. Each call compares the answer, all 118 numbers and every byte of the
+//! output.
 
 use super::makers::Maker;
 use super::run::{Checked, Outcome, Run, Subject};

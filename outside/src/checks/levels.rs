@@ -18,8 +18,8 @@ fn level_corners() -> Vec<i32> {
     corners
 }
 
-/// One move, compared, and its meaning checked: it doesn't pass the target, is no longer than the slope, and is
-/// shorter only where it arrives.
+/// One move, compared, and its meaning checked: it doesn't pass the target, is no longer than the slope, and is shorter
+/// only where it arrives.
 fn one(run: &mut Run, present: i32, target: i32, slope: u32) -> Checked {
     let got = run.subject.level_moved(present, target, slope);
     let inputs = || format!("level at {present} with target {target}, slope {slope}");

@@ -9,8 +9,8 @@ pub const LOADS_SEED: u64 = 0xF0DD_0012;
 
 const WRONG_LENGTHS: [usize; 14] = [0, 1, 2, 3, 10, 27, 28, 29, 31, 32, 33, 60, 118, 300];
 
-/// One loading compared with the reference: the answer and all numbers, whatever they were before. The unit that
-/// comes of it is fit.
+/// One loading compared with the reference: the answer and all numbers, whatever they were before. The unit that comes
+/// of it is fit.
 fn load(run: &mut Run, set: &[i32]) -> Checked<(u32, Numbers)> {
     let before = match run.random.below(4) {
         0 => [i32::MIN; 118],
@@ -28,8 +28,8 @@ fn load(run: &mut Run, set: &[i32]) -> Checked<(u32, Numbers)> {
     Ok((answer, got))
 }
 
-/// One loading with the number that document 01 gives for it: "a cleared unit", or "The answer holds the cleared
-/// house unit."
+/// One loading with the number that document 01 gives for it: "a cleared unit", or "The answer holds the cleared house
+/// unit."
 fn stated(run: &mut Run, set: &[i32], number: u32) -> Checked {
     let loaded = load(run, set)?;
     let held = match set.try_into() {

@@ -67,8 +67,8 @@ impl Maker {
         }
     }
 
-    /// A block of this sound with a few bytes of room behind it; one in eight is cut short, one in eight has too
-    /// little room.
+    /// A block of this sound with a few bytes of room behind it; one in eight is cut short, one in eight has too little
+    /// room.
     pub fn block(&mut self, sound: Sound, frames: usize) -> Call {
         let mut input = sound.block(frames, &mut self.random);
         let random = &mut self.random;

@@ -7,6 +7,7 @@ pub mod big_numbers;
 pub mod block_refusals;
 pub mod blocks;
 pub mod call_lists;
+pub mod counts;
 pub mod cuts;
 pub mod distance;
 pub mod distance_lists;

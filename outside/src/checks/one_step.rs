@@ -3,7 +3,7 @@
 use super::distance::played;
 use super::makers::Maker;
 use super::sounds::Sound;
-use super::{Difference, Outcome, Tally};
+use super::{Outcome, Tally};
 use crate::calls::{Call, List};
 use crate::exact_sound::judge::judge;
 use crate::reference::house_set;
@@ -43,14 +43,10 @@ pub fn found_everywhere() -> Outcome {
         for at in (0..output.len()).step_by(2) {
             let place = [block, at];
             if ![1, -1].iter().any(|&step| is_found(&list, &outputs, place, step)) {
-                return Err(not_found(place));
+                return Err(format!("a sample one step away isn't found: byte {at} of block {block}"));
             }
             tally.answers += 1;
         }
     }
     Ok(tally)
-}
-
-fn not_found([block, at]: [usize; 2]) -> Difference {
-    format!("a sample one step away isn't found: byte {at} of block {block}")
 }

@@ -17,8 +17,7 @@ const FIT_CALLS: [Call; 5] = [
     [4_194_304, 2_000_000, 3_000_000, -700_000, 800_000, -900_000, 1_000_000, 256_000],
 ];
 
-/// Numbers outside the range of one place of a call, by one and by far. Those of G are outside beside this accepted
-/// B.
+/// Numbers outside the range of one place of a call, by one and by far. Those of G are outside beside this accepted B.
 pub fn wrong_numbers(b: i32, place: usize) -> Vec<i32> {
     let edge = 4_194_304 + b;
     let mut wrong = match place {
@@ -51,8 +50,7 @@ pub fn spoil<const N: usize>(fit: &[i32; N], places: u32, mut turn: impl FnMut(u
     spoilt
 }
 
-/// One refused call: compared with the reference, and its answer and the unchanged section as document 01 states
-/// them.
+/// One refused call: compared with the reference, and its answer and the unchanged section as document 01 states them.
 fn refused(run: &mut Run, call: Call, number: u32) -> Checked {
     let [a, b, g, x1, x2, y1, y2, x] = call;
     let before: Section = [a, b, g, x1, x2, y1, y2];

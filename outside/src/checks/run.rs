@@ -59,8 +59,8 @@ impl<'a> Run<'a> {
     }
 }
 
-/// Compares the answers of the reference and of the subject, and what both left in a list lent to them. A
-/// difference names the inputs, both answers and the first place of the list that differs.
+/// Compares the answers of the reference and of the subject, and what both left in a list lent to them. A difference
+/// names the inputs, both answers and the first place of the list that differs.
 pub fn same_left<A: PartialEq + Debug, T: PartialEq + Debug>(
     [expected, got]: [A; 2],
     [right, wrong]: [&[T]; 2],

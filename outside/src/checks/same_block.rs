@@ -9,8 +9,8 @@ pub fn marks(room: usize) -> Vec<u8> {
     (0..room).map(|n| (n * 151 + 97) as u8).collect()
 }
 
-/// Plays a block with the exact reference, and with the subject on copies, into a buffer of `room` bytes. Compares
-/// the answer, all 118 numbers and every byte of the buffer, and gives the buffer.
+/// Plays a block with the exact reference, and with the subject on copies, into a buffer of `room` bytes. Compares the
+/// answer, all 118 numbers and every byte of the buffer, and gives the buffer.
 pub fn same_block(
     subject: &dyn Subject,
     numbers: &mut Numbers,

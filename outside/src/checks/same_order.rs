@@ -1,54 +1,42 @@
 //! An order carried out by the exact reference and by a subject, and compared.
 
+use super::counts::counts;
 use super::run::{same_left, Checked, Subject};
 use super::Tally;
 use crate::reference::ACCEPTED;
-use crate::unit::orders::{exact, Order, Setting, FACTOR_OUTSIDE};
-use crate::unit::Numbers;
-
-/// What a comparison of orders must reach. Accepted orders stand at 0, and those refused with 1 to 4 at that
-/// number.
-const REACHED: [&str; 8] = [
-    "accepted orders",
-    "orders refused with 1",
-    "orders refused with 2",
-    "orders refused with 3",
-    "orders refused with 4",
-    "orders refused with 14",
-    "halves of factors rounded up",
-    "halves of factors rounded down",
-];
-const OF_14: usize = 5;
-const HALVES_UP: usize = 6;
-const HALVES_DOWN: usize = 7;
+use crate::unit::orders::{exact, Order, Setting};
+use crate::unit::{exact::Halves, Numbers};
 
 /// What the orders met.
 #[derive(Clone, Copy, Default)]
 pub struct Orders {
-    counts: [u64; 8],
+    /// Orders by their refusal; accepted ones at 0.
+    refused: [u64; 15],
+    /// Accepted factors where f × 2^23 lay at a half.
+    halves: Halves,
+}
+
+counts! { Orders:
+    "accepted orders" => (refused[0]),
+    "orders refused with 1" => (refused[1]),
+    "orders refused with 2" => (refused[2]),
+    "orders refused with 3" => (refused[3]),
+    "orders refused with 4" => (refused[4]),
+    "orders refused with 14" => (refused[14]),
+    "halves of factors rounded up" => (halves.up),
+    "halves of factors rounded down" => (halves.down),
 }
 
 impl Orders {
-    pub fn add(&mut self, other: &Orders) {
-        self.counts.iter_mut().zip(other.counts).for_each(|(sum, count)| *sum += count);
-    }
-
-    /// What a comparison must reach, by name.
-    pub fn reached(&self) -> [(&'static str, u64); 8] {
-        std::array::from_fn(|n| (REACHED[n], self.counts[n]))
-    }
-
     /// f × 2^23 and the floor of it are exact in f64.
     fn count(&mut self, order: &Order, refusal: u32) {
-        let place = if refusal <= FACTOR_OUTSIDE { refusal as usize } else { OF_14 };
-        self.counts[place] += 1;
+        self.refused[refusal as usize] += 1;
         if let (ACCEPTED, Setting::Factor(f)) = (refusal, order.setting) {
             let number = f64::from(f) * 8_388_608.0;
-            let below = number.floor();
-            if number - below == 0.5 {
-                let up = below as i64 & 1 == 1;
-                self.counts[if up { HALVES_UP } else { HALVES_DOWN }] += 1;
-            }
+            let half = number - number.floor() == 0.5;
+            let odd = number.floor() as i64 & 1 == 1;
+            self.halves.up += u64::from(half && odd);
+            self.halves.down += u64::from(half && !odd);
         }
     }
 }

@@ -2,71 +2,50 @@
 //! subject's section.
 
 use super::bands::Band;
+use super::counts::counts;
 use super::run::{briefly, same_left, Checked, Run, Subject};
 use super::tally::Steps;
 use super::Tally;
-use crate::preview::{exact, RESULTS_TOO_SHORT};
+use crate::preview::exact;
 use crate::random::Random;
-use crate::reference::{exact::sum, unpack, Section, ACCEPTED, REFUSED_A, REFUSED_B, REFUSED_G, WORD_MAX, WORD_MIN};
+use crate::reference::{exact::sum, unpack, Section, ACCEPTED, WORD_MAX, WORD_MIN};
 
 /// What the previews met.
 #[derive(Clone, Copy, Default)]
 pub struct Previews {
-    /// Accepted lists, the empty ones among them, and the words of all.
-    pub accepted: u64,
-    pub empty: u64,
+    /// Accepted lists of no words, and the words of all accepted lists.
+    empty: u64,
     pub words: u64,
     /// What the words met.
-    pub steps: Steps,
+    steps: Steps,
     /// Words with S below zero and the result 0: minus zero, in floats.
-    pub zeros_from_below: u64,
-    /// Lists refused with 6, 8, 9, 10 and 15.
-    pub refused: [u64; 5],
+    zeros_from_below: u64,
+    /// Lists by their refusal; accepted ones at 0.
+    refused: [u64; 16],
+}
+
+counts! { Previews:
+    "accepted previews" => (refused[0]),
+    "accepted previews of nothing" => (empty),
+    "words previewed" => (words),
+    "previews limited at the upper end" => (steps.high),
+    "previews limited at the lower end" => (steps.low),
+    "halves of previews rounded up" => (steps.halves.up),
+    "halves of previews rounded down" => (steps.halves.down),
+    "previews rounded up to zero" => (zeros_from_below),
+    "previews refused with 6" => (refused[6]),
+    "previews refused with 8" => (refused[8]),
+    "previews refused with 9" => (refused[9]),
+    "previews refused with 10" => (refused[10]),
+    "previews refused with 15" => (refused[15]),
 }
 
 impl Previews {
-    pub fn add(&mut self, other: &Previews) {
-        self.accepted += other.accepted;
-        self.empty += other.empty;
-        self.words += other.words;
-        self.steps.add(&other.steps);
-        self.zeros_from_below += other.zeros_from_below;
-        self.refused.iter_mut().zip(other.refused).for_each(|(sum, count)| *sum += count);
-    }
-
-    /// What a comparison must reach, by name.
-    pub fn reached(&self) -> [(&'static str, u64); 13] {
-        let steps = &self.steps;
-        let [of_6, of_8, of_9, of_10, of_15] = self.refused;
-        [
-            ("accepted previews", self.accepted),
-            ("accepted previews of nothing", self.empty),
-            ("words previewed", self.words),
-            ("previews limited at the upper end", steps.high),
-            ("previews limited at the lower end", steps.low),
-            ("halves of previews rounded up", steps.halves.up),
-            ("halves of previews rounded down", steps.halves.down),
-            ("previews rounded up to zero", self.zeros_from_below),
-            ("previews refused with 6", of_6),
-            ("previews refused with 8", of_8),
-            ("previews refused with 9", of_9),
-            ("previews refused with 10", of_10),
-            ("previews refused with 15", of_15),
-        ]
-    }
-
     fn count_call(&mut self, words: &[i32], refusal: u32) {
-        match refusal {
-            ACCEPTED => {
-                self.accepted += 1;
-                self.empty += u64::from(words.is_empty());
-                self.words += words.len() as u64;
-            }
-            RESULTS_TOO_SHORT => self.refused[0] += 1,
-            REFUSED_A => self.refused[1] += 1,
-            REFUSED_B => self.refused[2] += 1,
-            REFUSED_G => self.refused[3] += 1,
-            _ => self.refused[4] += 1,
+        self.refused[refusal as usize] += 1;
+        if refusal == ACCEPTED {
+            self.empty += u64::from(words.is_empty());
+            self.words += words.len() as u64;
         }
     }
 
@@ -93,9 +72,8 @@ fn what(band: Band, words: &[i32], room: usize) -> String {
     format!("preview with A, B, G = {band:?} of words, {}, into {room}", briefly(words))
 }
 
-/// Previews a list with the exact reference and with the subject into copies of the lent buffer. Compares the
-/// answer and every entry, those past the results too; accepted results are compared with the subject's section as
-/// well.
+/// Previews a list with the exact reference and with the subject into copies of the lent buffer. Compares the answer
+/// and every entry, those past the results too; accepted results are compared with the subject's section as well.
 pub fn same_preview(subject: &dyn Subject, band: Band, words: &[i32], lent: &[i32], tally: &mut Tally) -> Checked {
     let (mut expected, mut got) = (lent.to_vec(), lent.to_vec());
     let met = &mut tally.previews;
@@ -140,8 +118,8 @@ impl Run<'_> {
         Ok(lent)
     }
 
-    /// One list into a buffer of so many entries, with its number as document 01 states it. All entries from the
-    /// given one on must be those that were lent.
+    /// One list into a buffer of so many entries, with its number as document 01 states it. All entries from the given
+    /// one on must be those that were lent.
     pub fn stated_preview(&mut self, band: Band, words: &[i32], room: usize, stated: (u32, usize)) -> Checked {
         let lent = self.preview(band, words, room)?;
         let (number, filled) = stated;

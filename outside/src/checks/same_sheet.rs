@@ -1,10 +1,11 @@
 //! A sheet written or read by the reference and by a subject, and compared.
 
+use super::counts::counts;
 use super::run::{same_left, Checked, Subject};
 use super::sheet_makers::SheetMaker;
 use super::sheet_texts::{badly_written, Field};
 use super::{same, Tally};
-use crate::reference::{ACCEPTED, REFUSED_A};
+use crate::reference::ACCEPTED;
 use crate::unit::sheet::{exact, SHEET};
 use crate::unit::Numbers;
 use std::fmt::Debug;
@@ -12,46 +13,32 @@ use std::fmt::Debug;
 /// What the sheets met.
 #[derive(Clone, Copy, Default)]
 pub struct Sheets {
-    pub written: u64,
+    written: u64,
     /// Not written for a short buffer, and for an unfit unit.
-    pub too_short: u64,
-    pub unfit: u64,
-    pub accepted: u64,
+    too_short: u64,
+    unfit: u64,
     /// Sheets that were accepted with a byte changed or several.
     pub accepted_changed: u64,
-    /// Sheets refused with 8 to 14.
-    pub refused: [u64; 7],
+    /// Sheets by their refusal; accepted ones at 0.
+    refused: [u64; 15],
+}
+
+counts! { Sheets:
+    "sheets written" => (written),
+    "sheets not written for a short buffer" => (too_short),
+    "sheets not written for an unfit unit" => (unfit),
+    "accepted sheets" => (refused[0]),
+    "accepted sheets with bytes changed" => (accepted_changed),
+    "sheets refused with 8" => (refused[8]),
+    "sheets refused with 9" => (refused[9]),
+    "sheets refused with 10" => (refused[10]),
+    "sheets refused with 11" => (refused[11]),
+    "sheets refused with 12" => (refused[12]),
+    "sheets refused with 13" => (refused[13]),
+    "sheets refused with 14" => (refused[14]),
 }
 
 impl Sheets {
-    pub fn add(&mut self, other: &Sheets) {
-        self.written += other.written;
-        self.too_short += other.too_short;
-        self.unfit += other.unfit;
-        self.accepted += other.accepted;
-        self.accepted_changed += other.accepted_changed;
-        self.refused.iter_mut().zip(other.refused).for_each(|(sum, count)| *sum += count);
-    }
-
-    /// What a comparison must reach, by name.
-    pub fn reached(&self) -> [(&'static str, u64); 12] {
-        let [of_8, of_9, of_10, of_11, of_12, of_13, of_14] = self.refused;
-        [
-            ("sheets written", self.written),
-            ("sheets not written for a short buffer", self.too_short),
-            ("sheets not written for an unfit unit", self.unfit),
-            ("accepted sheets", self.accepted),
-            ("accepted sheets with bytes changed", self.accepted_changed),
-            ("sheets refused with 8", of_8),
-            ("sheets refused with 9", of_9),
-            ("sheets refused with 10", of_10),
-            ("sheets refused with 11", of_11),
-            ("sheets refused with 12", of_12),
-            ("sheets refused with 13", of_13),
-            ("sheets refused with 14", of_14),
-        ]
-    }
-
     fn count_written(&mut self, written: usize, room: usize) {
         match written {
             SHEET => self.written += 1,
@@ -61,10 +48,7 @@ impl Sheets {
     }
 
     fn count_read(&mut self, refusal: u32) {
-        match refusal {
-            ACCEPTED => self.accepted += 1,
-            _ => self.refused[(refusal - REFUSED_A) as usize] += 1,
-        }
+        self.refused[refusal as usize] += 1;
     }
 }
 
@@ -95,8 +79,8 @@ pub fn same_write(
     Ok(got)
 }
 
-/// Writes the sheet of a fit unit as `same_write` does, and reads it back with the subject into the given unit,
-/// which must then equal the first. The bytes behind the sheet must be those that were lent.
+/// Writes the sheet of a fit unit as `same_write` does, and reads it back with the subject into the given unit, which
+/// must then equal the first. The bytes behind the sheet must be those that were lent.
 pub fn same_back(
     subject: &dyn Subject,
     reference: Writer,
@@ -114,9 +98,9 @@ pub fn same_back(
     same(tally, (ACCEPTED, *numbers), (answer, read), || format!("{} read back", spell(sheet)))
 }
 
-/// Reads a sheet with the exact reference and with the subject into copies of the given unit. Compares the answer
-/// and all 118 numbers, which a refusal leaves as they were; an accepted sheet is written again to the byte. Gives
-/// the answer.
+/// Reads a sheet with the exact reference and with the subject into copies of the given unit. Compares the answer and
+/// all 118 numbers, which a refusal leaves as they were; an accepted sheet is written again to the byte. Gives the
+/// answer.
 pub fn same_read(subject: &dyn Subject, given: &Numbers, bytes: &[u8], tally: &mut Tally) -> Checked<u32> {
     let (mut expected, mut got) = (*given, *given);
     let refusal = exact::read(&mut expected, bytes);

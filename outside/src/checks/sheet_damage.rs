@@ -1,5 +1,5 @@
-//! Sheets with bytes changed anywhere: one byte, two, several fields, letters and line ends, and bytes put in or
-//! left out.
+//! Sheets with bytes changed anywhere: one byte, two, several fields, letters and line ends, and bytes put in or left
+//! out.
 
 use super::run::{Checked, Outcome, Subject};
 use super::same_sheet::SheetRun;

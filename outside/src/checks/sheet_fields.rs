@@ -1,5 +1,5 @@
-//! Each field of a sheet by itself: badly written in every way, and with numbers at the ends of their ranges and
-//! past them.
+//! Each field of a sheet by itself: badly written in every way, and with numbers at the ends of their ranges and past
+//! them.
 
 use super::fitness::{edge_numbers, with};
 use super::run::{Checked, Outcome, Subject};

@@ -1,5 +1,5 @@
-//! Bytes that are no sheet for their count: "11 not 1,128 bytes", ahead of what they hold. "The given unit comes
-//! back, unexamined."
+//! Bytes that are no sheet for their count: "11 not 1,128 bytes", ahead of what they hold. "The given unit comes back,
+//! unexamined."
 
 use super::run::{Checked, Outcome, Subject};
 use super::same_sheet::SheetRun;
@@ -18,8 +18,8 @@ fn refused(run: &mut SheetRun, bytes: &[u8]) -> Checked {
     run.leaves(bytes, &[-1; 118], (NOT_A_SHEET, [-1; 118]))
 }
 
-/// A sheet cut short at every count, and with something behind it; right from its first byte on, and wrong. Then
-/// with other line ends.
+/// A sheet cut short at every count, and with something behind it; right from its first byte on, and wrong. Then with
+/// other line ends.
 fn sheet(run: &mut SheetRun, sheet: &[u8]) -> Checked {
     let wrong = [b"X", &sheet[1..]].concat();
     for bytes in [sheet, wrong.as_slice()] {

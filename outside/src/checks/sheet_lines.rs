@@ -1,6 +1,5 @@
 //! Every line with a wrong letter, wrong fields and a wrong line end, in all ways together: the first from the left
-//! gives the refusal, but "a C line tests 8 to 10 after its three fields, in place of 14 and ahead of its line
-//! end."
+//! gives the refusal, but "a C line tests 8 to 10 after its three fields, in place of 14 and ahead of its line end."
 
 use super::same_sheet::SheetRun;
 use super::sheet_makers::sheet_of;

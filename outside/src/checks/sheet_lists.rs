@@ -1,5 +1,5 @@
-//! Lists of calls carried on from sheets: "Reading back the sheet that a list wrote under these same rules
-//! continues that list".
+//! Lists of calls carried on from sheets: "Reading back the sheet that a list wrote under these same rules continues
+//! that list".
 
 use super::makers::Maker;
 use super::run::{Checked, Outcome, Run, Subject};

@@ -16,8 +16,8 @@ fn any_length([low, high]: [i32; 2], random: &mut Random) -> i32 {
     (sign * size).clamp(low, high)
 }
 
-/// A number of this range, by its style: 0 cleared, 1 of one digit, 2 of any count of digits, 3 at the ends of the range
-/// or beside them, 4 anywhere, 5 of any of these.
+/// A number of this range, by its style: 0 cleared, 1 of one digit, 2 of any count of digits, 3 at the ends of the
+/// range or beside them, 4 anywhere, 5 of any of these.
 fn number(style: u64, [low, high]: [i32; 2], random: &mut Random) -> i32 {
     match style {
         0 => 0,

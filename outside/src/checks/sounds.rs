@@ -43,8 +43,8 @@ pub const WORD_SOUNDS: &[Sound] = [
 .as_flattened();
 
 impl Sound {
-    /// The number at a place of a list of this length, on a side: between these ends, and drawn as `any` where it
-    /// can be any.
+    /// The number at a place of a list of this length, on a side: between these ends, and drawn as `any` where it can
+    /// be any.
     fn number(
         self,
         [side, place, length]: [usize; 3],

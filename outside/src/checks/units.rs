@@ -93,8 +93,8 @@ pub fn strips(numbers: &mut Numbers) -> impl Iterator<Item = &mut [i32]> {
     left.chain(right[STRIPS..].chunks_exact_mut(4))
 }
 
-/// A fit unit whose roundings often lie at a half: bands of multiples of 2^21, the volume at 2^22 or so, and gains
-/// of multiples of 2^22 or zero, at rest.
+/// A fit unit whose roundings often lie at a half: bands of multiples of 2^21, the volume at 2^22 or so, and gains of
+/// multiples of 2^22 or zero, at rest.
 pub fn half_unit(sets: &Sets, random: &mut Random) -> Numbers {
     let mut numbers = random_fit(&sets.draw(3, random), random);
     let volume = random.pick(&[1 << 21, 1 << 22, 3 << 21]);

@@ -1,7 +1,7 @@
 //! Whole numbers of any size and either sign.
 
-/// Two's complement in limbs of 64 bits, the lowest first; the top bit of the last limb is the sign. No limb at the
-/// end says only what the one before it says already, and zero has no limb.
+/// Two's complement in limbs of 64 bits, the lowest first; the top bit of the last limb is the sign. No limb at the end
+/// says only what the one before it says already, and zero has no limb.
 #[derive(Clone, Debug, Default, PartialEq, Eq)]
 pub struct Big {
     limbs: Vec<u64>,
@@ -45,8 +45,8 @@ impl Big {
         }
     }
 
-    /// Adds coefficient × other × 2^shift. The coefficient is at most 2^62 in size, so that every product and its
-    /// carry are under 2^127.
+    /// Adds coefficient × other × 2^shift. The coefficient is at most 2^62 in size, so that every product and its carry
+    /// are under 2^127.
     pub fn add_scaled(&mut self, coefficient: i64, other: &Big, shift: usize) {
         assert!(coefficient.unsigned_abs() <= 1 << 62);
         if coefficient == 0 || other.is_zero() {

@@ -1,5 +1,5 @@
-//! The distance of what a unit played from the exact sound. In every frame a side none of whose sections has
-//! limited is at most 1/2 + V / 2^32 + V × (sum of |g| × H) / 2^55 away.
+//! The distance of what a unit played from the exact sound. In every frame a side none of whose sections has limited is
+//! at most 1/2 + V / 2^32 + V × (sum of |g| × H) / 2^55 away.
 
 use super::fraction::Fraction;
 use super::limiting::Limiting;
@@ -61,8 +61,8 @@ struct Judge {
 }
 
 impl Judge {
-    /// Counts a sample that isn't the exact output. Beyond the bound it is a fault, unless its side has limited. Twice the
-    /// distance and twice the bound are reckoned, all × 2^54.
+    /// Counts a sample that isn't the exact output. Beyond the bound it is a fault, unless its side has limited. Twice
+    /// the distance and twice the bound are reckoned, all × 2^54.
     fn sample(&mut self, side: usize, sample: i16) -> Result<(), String> {
         let distances = &mut self.distances;
         let limited = self.limiting.has_limited(side);

@@ -1,5 +1,5 @@
-//! The exact sound: "It is fed the band set and each call of the list with its arguments, and takes nothing from
-//! the unit." Quoted sentences are document 01's.
+//! The exact sound: "It is fed the band set and each call of the list with its arguments, and takes nothing from the
+//! unit." Quoted sentences are document 01's.
 
 pub mod big;
 pub mod fraction;
@@ -39,8 +39,8 @@ pub struct ExactSound {
 }
 
 impl Side {
-    /// "each band's y = (A × (x - x2) + G × y1 - B × y2) / 2^22"; then "x1 passes to x2 and x to x1, and in each
-    /// band y1 to y2 and y to y1."
+    /// "each band's y = (A × (x - x2) + G × y1 - B × y2) / 2^22"; then "x1 passes to x2 and x to x1, and in each band
+    /// y1 to y2 and y to y1."
     fn step(&mut self, set: &[i32; 30], x: i64) {
         let difference = Fraction::whole(x - self.x2);
         for (strip, band) in self.strips.iter_mut().zip(set.chunks_exact(3)) {
@@ -98,8 +98,7 @@ impl ExactSound {
         }
     }
 
-    /// 2^54 × "The exact output", which "is V × m / 2^31, limited to -32,768 to 32,767", of a side in the latest
-    /// frame.
+    /// 2^54 × "The exact output", which "is V × m / 2^31, limited to -32,768 to 32,767", of a side in the latest frame.
     pub fn output(&self, side: usize) -> Fraction {
         let mix = self.sides[side].mix();
         let output = Fraction::sum(&[(self.volume.present.into(), &mix)]);

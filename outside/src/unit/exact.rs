@@ -118,8 +118,8 @@ fn frame(unit: &mut Unit, samples: [i16; 2], met: &mut Met) -> [i16; 2] {
     })
 }
 
-/// "A block of frames is bytes: left then right, low byte first, four a frame; an empty block is accepted. Output
-/// bytes beyond the block keep their contents."
+/// "A block of frames is bytes: left then right, low byte first, four a frame; an empty block is accepted. Output bytes
+/// beyond the block keep their contents."
 pub fn block(numbers: &mut Numbers, input: &[u8], output: &mut [u8], met: &mut Met) -> u32 {
     let refusal = block_refusal(fit(numbers), input.len(), output.len());
     if refusal != ACCEPTED {

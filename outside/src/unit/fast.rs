@@ -1,4 +1,4 @@
-//! The same for use: i64, shifts, no division; the unit is held in i64 for the length of a block.
+//! The unit for use: i64, shifts, no division; the unit is held in i64 for the length of a block.
 
 use super::{block_refusal, Numbers, BANDS, LEFT, RIGHT, SIDE_COUNT, STRIPS, VOLUME};
 use super::{GAIN_SLOPE, VOLUME_SLOPE};
@@ -41,8 +41,8 @@ fn moved(present: i64, target: i64, slope: i64) -> i64 {
     }
 }
 
-/// v / 2^k rounded to nearest, halves to even. Just under a half is added to an even quotient and a half to an odd
-/// one; every v here is under 2^50 in size.
+/// v / 2^k rounded to nearest, halves to even. Just under a half is added to an even quotient and a half to an odd one;
+/// every v here is under 2^50 in size.
 #[inline(always)]
 fn rounded(v: i64, k: u32) -> i64 {
     let odd = (v >> k) & 1;

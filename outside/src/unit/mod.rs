@@ -1,8 +1,8 @@
 //! The two-sided unit, written from document 01: its numbers, its refusals and the loading of a band set. Quoted
 //! sentences are that document's.
 //!
-//! The playing of a block, the orders and the sheet have two forms, as the section has. `exact` is the plain
-//! meaning; `fast` is what one would write for use.
+//! The playing of a block, the orders and the sheet have two forms, as the section has. `exact` is the plain meaning;
+//! `fast` is what one would write for use.
 
 pub mod exact;
 pub mod fast;
@@ -12,8 +12,8 @@ pub mod sheet;
 use crate::reference::{band_refusal, house_set, ACCEPTED};
 use std::array::from_fn;
 
-/// A unit as it crosses the C ABI, in the order of the strip sheet: "V (volume, target); ten C (A, B, G); L (x1,
-/// x2, flag); ten S (y1, y2, gain, target); R as L; ten S."
+/// A unit as it crosses the C ABI, in the order of the strip sheet: "V (volume, target); ten C (A, B, G); L (x1, x2,
+/// flag); ten S (y1, y2, gain, target); R as L; ten S."
 pub type Numbers = [i32; 118];
 
 /// Where the parts of a unit begin.

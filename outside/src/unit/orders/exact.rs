@@ -10,8 +10,8 @@ fn fields(f: f32) -> (bool, u32, u32) {
     (bits >> 31 == 1, (bits >> 23) & 0xFF, bits & 0x7F_FFFF)
 }
 
-/// "3 factor not finite; 4 factor outside its range": "-1 ≤ f < 1 for a band and 0 ≤ f < 1 for the volume; minus
-/// zero is zero."
+/// "3 factor not finite; 4 factor outside its range": "-1 ≤ f < 1 for a band and 0 ≤ f < 1 for the volume; minus zero
+/// is zero."
 fn factor_refusal(f: f32, volume: bool) -> u32 {
     let (negative, exponent, fraction) = fields(f);
     let zero = exponent == 0 && fraction == 0;

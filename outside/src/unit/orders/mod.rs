@@ -1,5 +1,5 @@
-//! Level orders: their refusals and the targets they set. Quoted sentences are document 01's. `exact` works a
-//! factor from its bits in whole numbers; `fast` works it in floating point.
+//! Level orders: their refusals and the targets they set. Quoted sentences are document 01's. `exact` works a factor
+//! from its bits in whole numbers; `fast` works it in floating point.
 
 pub mod exact;
 pub mod fast;
@@ -24,8 +24,8 @@ pub enum Setting {
     Mute,
 }
 
-/// "A level order names a side (0 left, 1 right, 2 both), a band (0 to 9, or 10 for the volume, with side 2 only)
-/// and a level."
+/// "A level order names a side (0 left, 1 right, 2 both), a band (0 to 9, or 10 for the volume, with side 2 only) and a
+/// level."
 #[derive(Clone, Copy, Debug)]
 pub struct Order {
     pub side: u32,
@@ -66,8 +66,8 @@ impl Order {
     }
 }
 
-/// The refusals of an order to a fit unit, "The first that applies, in numerical order"; the factor is judged by
-/// the given function.
+/// The refusals of an order to a fit unit, "The first that applies, in numerical order"; the factor is judged by the
+/// given function.
 fn refusal_by(order: &Order, factor: impl Fn(f32, bool) -> u32) -> u32 {
     if !order.has_place() {
         return NO_SIDE_AND_BAND;
@@ -88,8 +88,8 @@ fn target_by(order: &Order, factor: impl Fn(f32) -> i32) -> i32 {
     }
 }
 
-/// "Position p (0 to 31) sets a band's target to (p - 16) × 558,681 from 16 up and (p - 16) × 104,857 below; it
-/// sets the volume's to p × 270,600."
+/// "Position p (0 to 31) sets a band's target to (p - 16) × 558,681 from 16 up and (p - 16) × 104,857 below; it sets
+/// the volume's to p × 270,600."
 pub fn position_target(position: u8, volume: bool) -> i32 {
     let p = i32::from(position);
     match position {

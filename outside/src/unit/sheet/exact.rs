@@ -1,5 +1,4 @@
-//! The plain meaning of a sheet: a field is a number as it is formatted, and a sheet is read from its first byte
-//! on.
+//! The plain meaning of a sheet: a field is a number as it is formatted, and a sheet is read from its first byte on.
 
 use super::{BADLY_WRITTEN, FIELD, LETTER_OR_END, LINE_FEED, NOT_A_SHEET, OUTSIDE, SHEET};
 use crate::reference::{band_refusal, is_word, ACCEPTED};
@@ -33,8 +32,8 @@ fn text(unit: &Unit) -> String {
     text
 }
 
-/// Writes the sheet to the front of the buffer and gives its length; "from a shorter buffer, or for an unfit unit",
-/// 0, "and writes nothing. Bytes behind the sheet keep their contents."
+/// Writes the sheet to the front of the buffer and gives its length; "from a shorter buffer, or for an unfit unit", 0,
+/// "and writes nothing. Bytes behind the sheet keep their contents."
 pub fn write(numbers: &Numbers, buffer: &mut [u8]) -> usize {
     if buffer.len() < SHEET || !fit(numbers) {
         return 0;
@@ -44,8 +43,8 @@ pub fn write(numbers: &Numbers, buffer: &mut [u8]) -> usize {
     SHEET
 }
 
-/// "No leading zeros, no plus, minus only before a number that isn't 0": behind its blanks a field holds just what
-/// its number formats to.
+/// "No leading zeros, no plus, minus only before a number that isn't 0": behind its blanks a field holds just what its
+/// number formats to.
 fn parsed(field: &[u8]) -> Option<i32> {
     let text = std::str::from_utf8(field).ok()?.trim_start_matches(' ');
     let number: i32 = text.parse().ok()?;
