@@ -1,10 +1,14 @@
-//! Long blocks on fit units of every kind.
+//! Blocks on fit units of every kind: long ones, single frames, every small size, one sound cut in several ways, and
+//! blocks of wrong lengths: "5 input bytes no multiple of four; 6 output shorter than input. Unit and output
+//! unchanged."
 
 use super::run::{Checked, Outcome, Run, Subject};
+use super::same_block::marks;
 use super::sounds::{Sound, SOUNDS};
 use super::units::{half_unit, random_fit, strips};
-use crate::reference::{WORD_MAX, WORD_MIN};
-use crate::unit::{cleared, house_unit, Numbers};
+use crate::random::Random;
+use crate::reference::{ACCEPTED, WORD_MAX, WORD_MIN};
+use crate::unit::{cleared, house_unit, Numbers, OUTPUT_TOO_SHORT, PART_OF_A_FRAME};
 
 pub const BLOCKS_SEED: u64 = 0xF0DD_0014;
 pub const FRAMES_SEED: u64 = 0xF0DD_0015;
@@ -85,6 +89,94 @@ pub fn frames(subject: &dyn Subject) -> Outcome {
         if turn % 4 == 0 {
             let mut halves = half_unit(&run.sets, &mut run.random);
             block(run, &mut halves, sound, 1)?;
+        }
+    }
+    Ok(run.tally)
+}
+
+pub const CUTS_SEED: u64 = 0xF0DD_0016;
+
+/// Every size from 0 to 64 frames, with 0 to 7 bytes of room behind.
+fn sizes(run: &mut Run, start: &Numbers) -> Checked {
+    for frames in 0..=64 {
+        let input = Sound::Noise.block(frames, &mut run.random);
+        for behind in 0..8 {
+            run.block(&mut start.clone(), &input, input.len() + behind)?;
+        }
+    }
+    Ok(())
+}
+
+/// One sound whole, and cut where `next` says. Sound and unit must be alike.
+fn cut(run: &mut Run, start: &Numbers, sound: &[u8], next: impl Fn(&mut Random) -> usize) -> Checked {
+    let (mut whole, mut parts) = (*start, *start);
+    let expected = run.block(&mut whole, sound, sound.len())?;
+    let mut got = vec![0; sound.len()];
+    let mut begun = 0;
+    while begun < sound.len() {
+        let end = sound.len().min(begun + 4 * next(&mut run.random));
+        let answer = run.subject.block(&mut parts, &sound[begun..end], &mut got[begun..end]);
+        run.same(0, answer, || "a part".to_string())?;
+        begun = end;
+    }
+    run.same((whole, expected), (parts, got), || format!("a sound of {} bytes cut into blocks", sound.len()))
+}
+
+pub fn sizes_and_cuts(subject: &dyn Subject) -> Outcome {
+    let run = &mut Run::new(subject, CUTS_SEED);
+    for turn in 0..20 {
+        let start = run.fit_unit(turn);
+        sizes(run, &start)?;
+        let sound = Sound::Noise.block(3_000, &mut run.random);
+        for size in [1, 2, 3, 64, 441, 2_999, 3_000] {
+            cut(run, &start, &sound, |_| size)?;
+        }
+        // Empty blocks between the others too.
+        cut(run, &start, &sound, |random| random.below(40) as usize)?;
+    }
+    Ok(run.tally)
+}
+
+pub const BLOCK_REFUSALS_SEED: u64 = 0xF0DD_0017;
+
+/// One block: compared with the reference, its number as document 01 states it, "The first that applies, in numerical
+/// order", and after a refusal unit and output unchanged.
+fn stated(run: &mut Run, numbers: &Numbers, length: usize, room: usize) -> Checked {
+    let input = vec![0x5A; length];
+    run.block(&mut numbers.clone(), &input, room)?;
+    let number = match (length % 4, room < length) {
+        (1..=3, _) => PART_OF_A_FRAME,
+        (_, true) => OUTPUT_TOO_SHORT,
+        _ => ACCEPTED,
+    };
+    let (mut after, mut output) = (*numbers, marks(room));
+    let answer = run.subject.block(&mut after, &input, &mut output);
+    let what = || format!("block of {length} bytes into {room} on the unit {numbers:?}");
+    run.same(number, answer, what)?;
+    if number != ACCEPTED {
+        run.same((*numbers, marks(room)), (after, output), what)?;
+    }
+    Ok(())
+}
+
+pub fn lengths(subject: &dyn Subject) -> Outcome {
+    let run = &mut Run::new(subject, BLOCK_REFUSALS_SEED);
+    let mut units = vec![house_unit()];
+    units.extend((0..10).map(|turn| run.fit_unit(turn)));
+    for numbers in &units {
+        for length in 0..=33 {
+            for room in 0..=37 {
+                stated(run, numbers, length, room)?;
+            }
+        }
+        for length in 4_093..=4_100 {
+            for room in [0, 1, 3, 4, 4_092, length - 1, length, length + 1, 5_000] {
+                stated(run, numbers, length, room)?;
+            }
+        }
+        for _ in 0..300 {
+            let [length, room] = [(); 2].map(|()| run.random.below(3_000) as usize);
+            stated(run, numbers, length, room)?;
         }
     }
     Ok(run.tally)

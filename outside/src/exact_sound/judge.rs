@@ -2,10 +2,10 @@
 //! at most 1/2 + V / 2^32 + V × (sum of |g| × H) / 2^55 away.
 
 use super::fraction::Fraction;
-use super::limiting::Limiting;
 use super::response::Responses;
 use super::{ExactSound, ONE};
 use crate::calls::{Call, List};
+use crate::reference::{exact, unpack, Section};
 
 /// What the frames of lists were found to be. A frame counts once a side.
 #[derive(Clone, Copy, Default)]
@@ -51,6 +51,31 @@ impl Distances {
     }
 }
 
+/// The ten sections of both sides, stepped alone. Whether one has limited is "worked from the list by the rounding and
+/// limiting under Words and the section, and not read from the flag."
+struct Limiting {
+    sides: [[Section; 10]; 2],
+    /// Whether a section of a side has limited up to now.
+    limited: [bool; 2],
+}
+
+impl Limiting {
+    fn new(set: &[i32; 30]) -> Limiting {
+        let side = std::array::from_fn(|n| [set[3 * n], set[3 * n + 1], set[3 * n + 2], 0, 0, 0, 0]);
+        Limiting { sides: [side; 2], limited: [false; 2] }
+    }
+
+    /// A frame of an accepted block.
+    fn frame(&mut self, samples: [i16; 2]) {
+        for (place, sample) in samples.into_iter().enumerate() {
+            for section in &mut self.sides[place] {
+                let (status, _) = unpack(exact::step(section, 256 * i32::from(sample)));
+                self.limited[place] |= status == 1;
+            }
+        }
+    }
+}
+
 /// The reckonings of one list side by side.
 struct Judge {
     sound: ExactSound,
@@ -65,7 +90,7 @@ impl Judge {
     /// the distance and twice the bound are reckoned, all × 2^54.
     fn sample(&mut self, side: usize, sample: i16) -> Result<(), String> {
         let distances = &mut self.distances;
-        let limited = self.limiting.has_limited(side);
+        let limited = self.limiting.limited[side];
         distances.skipped += u64::from(limited);
         distances.judged += u64::from(!limited);
         let (played, exact) = (Fraction::whole(sample.into()), self.sound.output(side));
@@ -129,6 +154,6 @@ pub fn judge(list: &List, outputs: &[Vec<u8>]) -> Result<Distances, String> {
             }
         }
     }
-    let limited = (0..2).any(|side| judge.limiting.has_limited(side));
+    let limited = judge.limiting.limited.contains(&true);
     Ok(Distances { lists: 1, limited: limited.into(), ..judge.distances })
 }

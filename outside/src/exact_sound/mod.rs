@@ -4,7 +4,6 @@
 pub mod big;
 pub mod fraction;
 pub mod judge;
-pub mod limiting;
 pub mod response;
 
 use self::fraction::Fraction;
