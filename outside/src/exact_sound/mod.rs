@@ -7,7 +7,6 @@ pub mod judge;
 pub mod response;
 
 use self::fraction::Fraction;
-use crate::unit::exact::level_moved;
 use crate::unit::orders::{exact, Order};
 use crate::unit::{Level, GAIN_SLOPE, VOLUME_SLOPE};
 
@@ -73,36 +72,24 @@ impl ExactSound {
             self.volume.target = target;
             return;
         }
-        for (place, side) in self.sides.iter_mut().enumerate() {
-            if order.names(place) {
-                side.strips[order.band as usize].gain.target = target;
-            }
+        for place in (0..2).filter(|&place| order.names(place)) {
+            self.sides[place].strips[order.band as usize].gain.target = target;
         }
     }
 
-    /// "every gain and V first moves as under Levels."
-    fn move_levels(&mut self) {
-        let moved = |level: &mut Level, slope| {
-            level.present = level_moved(level.present, level.target, slope);
-        };
-        moved(&mut self.volume, VOLUME_SLOPE);
-        self.sides.iter_mut().flat_map(|side| &mut side.strips).for_each(|strip| moved(&mut strip.gain, GAIN_SLOPE));
-    }
-
-    /// A frame of an accepted block: "on each side x = 256 × s".
+    /// A frame of an accepted block: "every gain and V first moves as under Levels. Then on each side x = 256 × s".
     pub fn frame(&mut self, samples: [i16; 2]) {
-        self.move_levels();
+        self.volume.move_once(VOLUME_SLOPE);
         for (side, sample) in self.sides.iter_mut().zip(samples) {
+            side.strips.iter_mut().for_each(|strip| strip.gain.move_once(GAIN_SLOPE));
             side.step(&self.set, 256 * i64::from(sample));
         }
     }
 
     /// 2^54 × "The exact output", which "is V × m / 2^31, limited to -32,768 to 32,767", of a side in the latest frame.
     pub fn output(&self, side: usize) -> Fraction {
-        let mix = self.sides[side].mix();
-        let output = Fraction::sum(&[(self.volume.present.into(), &mix)]);
-        let [low, high] = [-32_768, 32_767].map(Fraction::whole);
-        let [low, high] = [low, high].map(|end| Fraction::sum(&[(ONE, &end)]));
+        let output = Fraction::sum(&[(self.volume.present.into(), &self.sides[side].mix())]);
+        let [low, high] = [-32_768, 32_767].map(|end| Fraction::sum(&[(ONE, &Fraction::whole(end))]));
         output.limited(&low, &high)
     }
 

@@ -31,6 +31,12 @@ pub fn level_moved(present: i32, target: i32, slope: u32) -> i32 {
     (i128::from(present) + distance.signum() * step) as i32
 }
 
+impl Level {
+    pub fn move_once(&mut self, slope: u32) {
+        self.present = level_moved(self.present, self.target, slope);
+    }
+}
+
 /// "A unit is unfit when no accepted sheet could carry its numbers." "the volume V is 0 to 8,388,607", and its target
 /// too.
 pub fn fit(numbers: &Numbers) -> bool {
@@ -101,11 +107,8 @@ fn output(volume: i32, m: i64, met: &mut Met) -> i16 {
 
 /// "In each frame, before sound is worked, every gain moves" and the volume.
 fn move_levels(unit: &mut Unit) {
-    let moved = |level: &mut Level, slope| {
-        level.present = level_moved(level.present, level.target, slope);
-    };
-    moved(&mut unit.volume, VOLUME_SLOPE);
-    unit.sides.iter_mut().flat_map(|side| &mut side.strips).for_each(|strip| moved(&mut strip.gain, GAIN_SLOPE));
+    unit.volume.move_once(VOLUME_SLOPE);
+    unit.sides.iter_mut().flat_map(|side| &mut side.strips).for_each(|strip| strip.gain.move_once(GAIN_SLOPE));
 }
 
 /// One frame: "left then right", each sample entering "as x = 256 × s". "Both sides use the same V."

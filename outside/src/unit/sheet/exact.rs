@@ -125,11 +125,5 @@ fn sheet(bytes: &[u8]) -> Result<Vec<i32>, u32> {
 
 /// Reads a sheet into the numbers. After a refusal "The given unit comes back, unexamined."
 pub fn read(numbers: &mut Numbers, bytes: &[u8]) -> u32 {
-    match sheet(bytes) {
-        Ok(read) => {
-            numbers.copy_from_slice(&read);
-            ACCEPTED
-        }
-        Err(refusal) => refusal,
-    }
+    sheet(bytes).map(|read| numbers.copy_from_slice(&read)).err().unwrap_or(ACCEPTED)
 }

@@ -128,11 +128,5 @@ fn read_sheet(bytes: &[u8]) -> Result<Numbers, u32> {
 
 /// Reads a sheet into the numbers, which a refusal leaves as they were.
 pub fn read(numbers: &mut Numbers, bytes: &[u8]) -> u32 {
-    match read_sheet(bytes) {
-        Ok(read) => {
-            *numbers = read;
-            ACCEPTED
-        }
-        Err(refusal) => refusal,
-    }
+    read_sheet(bytes).map(|read| *numbers = read).err().unwrap_or(ACCEPTED)
 }
