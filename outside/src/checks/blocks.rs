@@ -12,6 +12,8 @@ use crate::unit::{cleared, house_unit, Numbers, OUTPUT_TOO_SHORT, PART_OF_A_FRAM
 
 pub const BLOCKS_SEED: u64 = 0xF0DD_0014;
 pub const FRAMES_SEED: u64 = 0xF0DD_0015;
+pub const CUTS_SEED: u64 = 0xF0DD_0016;
+pub const BLOCK_REFUSALS_SEED: u64 = 0xF0DD_0017;
 
 /// One block with a few bytes of room behind it.
 fn block(run: &mut Run, numbers: &mut Numbers, sound: Sound, frames: usize) -> Checked {
@@ -94,8 +96,6 @@ pub fn frames(subject: &dyn Subject) -> Outcome {
     Ok(run.tally)
 }
 
-pub const CUTS_SEED: u64 = 0xF0DD_0016;
-
 /// Every size from 0 to 64 frames, with 0 to 7 bytes of room behind.
 fn sizes(run: &mut Run, start: &Numbers) -> Checked {
     for frames in 0..=64 {
@@ -136,8 +136,6 @@ pub fn sizes_and_cuts(subject: &dyn Subject) -> Outcome {
     }
     Ok(run.tally)
 }
-
-pub const BLOCK_REFUSALS_SEED: u64 = 0xF0DD_0017;
 
 /// One block: compared with the reference, its number as document 01 states it, "The first that applies, in numerical
 /// order", and after a refusal unit and output unchanged.

@@ -10,6 +10,7 @@ use crate::unit::cleared;
 use crate::unit::sheet::{exact, SHEET};
 
 pub const CALLS_SEED: u64 = 0xF0DD_001A;
+pub const SHEET_LISTS_SEED: u64 = 0xF0DD_0024;
 
 /// One list, from the loading of its band set on.
 fn play(run: &mut Run, list: &List) -> Checked {
@@ -35,8 +36,6 @@ pub fn lists(subject: &dyn Subject) -> Outcome {
     }
     Ok(run.tally)
 }
-
-pub const SHEET_LISTS_SEED: u64 = 0xF0DD_0024;
 
 /// One list: "Reading back the sheet that a list wrote under these same rules continues that list". Before each call
 /// and at the end the unit is written and read back.

@@ -13,6 +13,8 @@ use crate::subject::{Fast, Subject};
 use std::sync::atomic::{AtomicUsize, Ordering};
 use std::thread;
 
+pub const ONE_STEP_SEED: u64 = 0xF0DD_001D;
+
 const THREADS: usize = 2;
 
 /// The outputs that a subject's blocks handed back, refused ones too.
@@ -71,8 +73,6 @@ pub fn from_the_exact(subject: &dyn Subject) -> Outcome {
     let distances = judge_all(&every)?;
     Ok(Tally { answers: distances.judged, distances, ..Tally::default() })
 }
-
-pub const ONE_STEP_SEED: u64 = 0xF0DD_001D;
 
 /// Levels rising, and soft noise that limits nothing; the bound stays under 1.
 fn list() -> List {

@@ -10,6 +10,7 @@ use crate::preview::RESULTS_TOO_SHORT;
 use crate::reference::{ACCEPTED, WORD_MAX, WORD_MIN};
 
 pub const PREVIEWS_SEED: u64 = 0xF0DD_0025;
+pub const PREVIEW_LENGTHS_SEED: u64 = 0xF0DD_0026;
 pub const PREVIEW_SECTION_SEED: u64 = 0xF0DD_0028;
 
 const MILLION: usize = 1_000_000;
@@ -92,8 +93,6 @@ pub fn beside_section(subject: &dyn Subject) -> Outcome {
     }
     Ok(lists.run.tally)
 }
-
-pub const PREVIEW_LENGTHS_SEED: u64 = 0xF0DD_0026;
 
 /// What lies behind a list in memory: no words.
 const BEHIND: [i32; 4] = [WORD_MAX + 1, i32::MIN, i32::MAX, WORD_MIN - 1];

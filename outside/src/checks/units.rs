@@ -43,11 +43,7 @@ impl Sets {
     /// By turns the house set, any accepted bands, bands at the corners of the accepted ranges, bands of many exact
     /// halves, and all of these mixed.
     pub fn draw(&self, turn: u64, random: &mut Random) -> [i32; 30] {
-        let house = house_set();
-        if turn.is_multiple_of(5) {
-            return house;
-        }
-        let mut set = house;
+        let mut set = house_set();
         for band in set.chunks_exact_mut(3) {
             let which = if turn % 5 == 4 { random.below(4) } else { turn % 5 };
             let drawn = match which {
