@@ -72,8 +72,7 @@ pub fn level_moved(present: i32, target: i32, slope: u32) -> i32 {
 }
 
 pub fn load(unit: &mut Numbers, set: &[i32]) -> u32 {
-    // SAFETY: the unit is 118 numbers that nobody else holds; the set is read
-    // for its own length.
+    // SAFETY: the unit is 118 numbers that nobody else holds; the set is read for its own length.
     unsafe { raw::fonddrys_load(unit, set.as_ptr(), set.len()) }
 }
 
@@ -84,15 +83,15 @@ pub fn unit_fit(unit: &Numbers) -> u32 {
 
 pub fn block(unit: &mut Numbers, input: &[u8], output: &mut [u8]) -> u32 {
     let (from, to) = (input.as_ptr(), output.as_mut_ptr());
-    // SAFETY: the unit and the output are lent to the library alone, the input
-    // is only read, and each pointer comes with its own length.
+    // SAFETY: the unit and the output are lent to the library alone, the input is only read, and each pointer comes
+    // with its own length.
     unsafe { raw::fonddrys_block(unit, from, input.len(), to, output.len()) }
 }
 
 pub fn order(unit: &mut Numbers, order: &Order) -> u32 {
     let Order { side, band, .. } = *order;
-    // SAFETY: the unit is 118 numbers that nobody else holds; the rest are
-    // numbers, and each function is defined for all of them.
+    // SAFETY: the unit is 118 numbers that nobody else holds; the rest are numbers, and each function is defined for
+    // all of them.
     unsafe {
         match order.setting {
             Setting::Position(position) => raw::fonddrys_order_position(unit, side, band, position),
@@ -103,20 +102,18 @@ pub fn order(unit: &mut Numbers, order: &Order) -> u32 {
 }
 
 pub fn sheet_write(unit: &Numbers, buffer: &mut [u8]) -> usize {
-    // SAFETY: the unit is only read; the buffer is lent to the library alone,
-    // with its length.
+    // SAFETY: the unit is only read; the buffer is lent to the library alone, with its length.
     unsafe { raw::fonddrys_sheet_write(unit, buffer.as_mut_ptr(), buffer.len()) }
 }
 
 pub fn sheet_read(unit: &mut Numbers, bytes: &[u8]) -> u32 {
-    // SAFETY: the unit is 118 numbers that nobody else holds; the bytes are read
-    // for their own length.
+    // SAFETY: the unit is 118 numbers that nobody else holds; the bytes are read for their own length.
     unsafe { raw::fonddrys_sheet_read(unit, bytes.as_ptr(), bytes.len()) }
 }
 
 pub fn preview([a, b, g]: [i32; 3], words: &[i32], results: &mut [i32]) -> u32 {
     let (from, to) = (words.as_ptr(), results.as_mut_ptr());
-    // SAFETY: the words are only read, the results are lent to the library
-    // alone, and each pointer comes with its own length.
+    // SAFETY: the words are only read, the results are lent to the library alone, and each pointer comes with its own
+    // length.
     unsafe { raw::fonddrys_preview(a, b, g, from, words.len(), to, results.len()) }
 }

@@ -1,45 +1,38 @@
 //! The floating preview of a section. Quoted sentences are document 01's.
 //!
-//! Two forms stand side by side, as for the section. `exact` is the plain
-//! meaning: the exact section, stepped over the list. `fast` is what one would
-//! write for use, in f64.
+//! Two forms stand side by side, as for the section. `exact` is the plain meaning: the exact section, stepped over the
+//! list. `fast` is what one would write for use, in f64.
 
-use crate::reference::{band_refusal, ACCEPTED, NO_WORD};
+use crate::reference::{band_refusal, is_word, ACCEPTED, NO_WORD};
 
 /// "6 (results buffer shorter than the words)".
 pub const RESULTS_TOO_SHORT: u32 = 6;
 
-/// "The preview's user: 8 to 10, then 6 (results buffer shorter than the
-/// words), then 15 a number that is no word." Whether all are words is judged
-/// by the given function.
-fn refusal_by([a, b, g]: [i32; 3], words: &[i32], room: usize, all_words: impl Fn(&[i32]) -> bool) -> u32 {
+/// "The preview's user: 8 to 10, then 6 (results buffer shorter than the words), then 15 a number that is no word."
+fn refusal([a, b, g]: [i32; 3], words: &[i32], room: usize) -> u32 {
     match band_refusal(a, b, g) {
         ACCEPTED if room < words.len() => RESULTS_TOO_SHORT,
-        ACCEPTED if !all_words(words) => NO_WORD,
+        // None is left out after a wrong one, so several are tested at a time.
+        ACCEPTED if !words.iter().fold(true, |all, &word| all & is_word(word)) => NO_WORD,
         refusal => refusal,
     }
 }
 
 /// The plain meaning.
 pub mod exact {
-    use super::refusal_by;
-    use crate::reference::{exact, is_word, unpack, Section, ACCEPTED};
+    use super::refusal;
+    use crate::reference::{exact, unpack, Section, ACCEPTED};
 
-    fn all_words(words: &[i32]) -> bool {
-        words.iter().copied().all(is_word)
-    }
-
-    /// "For an accepted band and any list of words from a cleared start its
-    /// results equal the section's". After a refusal "The buffer is unchanged;
-    /// after an accepted call its entries past the results keep their
-    /// contents." Each step is shown: the section before it, x and the answer.
+    /// "For an accepted band and any list of words from a cleared start its results equal the section's". After a
+    /// refusal "The buffer is unchanged; after an accepted call its entries past the results keep their contents." Each
+    /// step is shown: the section before it, x and the answer.
     pub fn preview(
         band: [i32; 3],
         words: &[i32],
         results: &mut [i32],
         mut show: impl FnMut(&Section, i32, i64),
     ) -> u32 {
-        let refusal = refusal_by(band, words, results.len(), all_words);
+        let refusal = refusal(band, words, results.len());
         if refusal != ACCEPTED {
             return refusal;
         }
@@ -55,18 +48,17 @@ pub mod exact {
     }
 }
 
-/// The same for use: "coefficients and delayed words as f64".
+/// What one would write for use: "coefficients and delayed words as f64".
 pub mod fast {
-    use super::refusal_by;
-    use crate::reference::{is_word, ACCEPTED, WORD_MAX, WORD_MIN};
+    use super::refusal;
+    use crate::reference::{ACCEPTED, WORD_MAX, WORD_MIN};
 
-    /// 1.5 × 2^52. An f64 of that size has no fraction, so a number that this
-    /// is added to and taken from again is rounded to nearest, halves to even.
+    /// 1.5 × 2^52. An f64 of that size has no fraction, so a number that this is added to and taken from again is
+    /// rounded to nearest, halves to even.
     const WHOLE: f64 = 6_755_399_441_055_744.0;
 
-    /// The coefficients over 2^22, the delayed words, and G × y1, which is worked
-    /// as soon as y1 is known. All products and sums are exact: multiples of
-    /// 2^-22 below 2^26.
+    /// The coefficients over 2^22, the delayed words, and G × y1, which is worked as soon as y1 is known. All products
+    /// and sums are exact: multiples of 2^-22 below 2^26.
     #[derive(Default)]
     struct Preview {
         a: f64,
@@ -97,14 +89,9 @@ pub mod fast {
         }
     }
 
-    /// None is left out after a wrong one, so several are tested at a time.
-    fn all_words(words: &[i32]) -> bool {
-        words.iter().fold(true, |all, &word| all & is_word(word))
-    }
-
     /// Previews a list.
     pub fn preview(band: [i32; 3], words: &[i32], results: &mut [i32]) -> u32 {
-        let refusal = refusal_by(band, words, results.len(), all_words);
+        let refusal = refusal(band, words, results.len());
         if refusal != ACCEPTED {
             return refusal;
         }

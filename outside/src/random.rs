@@ -1,5 +1,4 @@
-//! A small deterministic generator (splitmix64). The same seed gives the same
-//! numbers on every machine.
+//! A small deterministic generator (splitmix64). The same seed gives the same numbers on every machine.
 
 use crate::reference::{WORD_MAX, WORD_MIN};
 

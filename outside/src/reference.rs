@@ -1,9 +1,8 @@
-//! The section, the rounding, the limiting, the refusals and the house set,
-//! written from document 01. Quoted sentences are that document's.
+//! The section, the rounding, the limiting, the refusals and the house set, written from document 01. Quoted sentences
+//! are that document's.
 //!
-//! Two forms stand side by side. `exact` is the plain meaning, in i128 with
-//! floor division. `fast` is what one would write for use, in i64 with shifts.
-//! The comparison holds them against each other as well as against the library.
+//! Two forms stand side by side. `exact` is the plain meaning, in i128 with floor division. `fast` is what one would
+//! write for use, in i64 with shifts. The comparison holds them against each other as well as against the library.
 
 /// "A word is a whole number from -8,388,608 to 8,388,607 (24 bits, unit 2^-23)."
 pub const WORD_MIN: i32 = -8_388_608;
@@ -12,17 +11,15 @@ pub const WORD_MAX: i32 = 8_388_607;
 /// A section as it crosses the C ABI: A, B, G, x1, x2, y1, y2.
 pub type Section = [i32; 7];
 
-/// Accepted, and the numbers of "The filter designer" and of "Whoever steps a
-/// section alone".
+/// Accepted, and the numbers of "The filter designer" and of "Whoever steps a section alone".
 pub const ACCEPTED: u32 = 0;
 pub const REFUSED_A: u32 = 8;
 pub const REFUSED_B: u32 = 9;
 pub const REFUSED_G: u32 = 10;
 pub const NO_WORD: u32 = 15;
 
-/// Table 1 of source document 002: alpha, beta, gamma for the centre
-/// frequencies 31, 62, 125, 250, 500, 1000, 2000, 4000, 8000, 16000 Hz. The
-/// listing's figures, which differ from these, are not used.
+/// Table 1 of source document 002: alpha, beta, gamma for the centre frequencies 31, 62, 125, 250, 500, 1000, 2000,
+/// 4000, 8000, 16000 Hz. The listing's figures, which differ from these, are not used.
 pub const TABLE_1: [[&str; 3]; 10] = [
     ["0.000787462865", "0.498425074", "0.998415336"],
     ["0.00157244917", "0.496855102", "0.996816209"],
@@ -36,23 +33,16 @@ pub const TABLE_1: [[&str; 3]; 10] = [
     ["0.159603", "0.1800994", "-0.4435172"],
 ];
 
-/// "The house set is Table 1 of source document 002, each figure × 2^23 to the
-/// nearest whole number": A, B, G of each band in turn.
+/// "The house set is Table 1 of source document 002, each figure × 2^23 to the nearest whole number": A, B, G of each
+/// band in turn.
 pub fn house_set() -> [i32; 30] {
-    let mut words = [0; 30];
-    for (word, figure) in words.iter_mut().zip(TABLE_1.iter().flatten()) {
-        *word = figure_to_word(figure);
-    }
-    words
+    std::array::from_fn(|n| figure_to_word(TABLE_1[n / 3][n % 3]))
 }
 
-/// A decimal figure × 2^23 to the nearest whole number, in whole numbers only.
-/// No figure of the table lies halfway between two.
+/// A decimal figure × 2^23 to the nearest whole number, in whole numbers only. No figure of the table lies halfway
+/// between two.
 pub fn figure_to_word(figure: &str) -> i32 {
-    let (negative, size) = match figure.strip_prefix('-') {
-        Some(rest) => (true, rest),
-        None => (false, figure),
-    };
+    let size = figure.trim_start_matches('-');
     let decimals = size.strip_prefix("0.").expect("a figure begins 0.");
     let digits: i128 = decimals.parse().expect("decimal digits");
     let one = 10_i128.pow(decimals.len() as u32);
@@ -60,7 +50,7 @@ pub fn figure_to_word(figure: &str) -> i32 {
     let (below, over) = (scaled / one, scaled % one);
     assert!(2 * over != one, "{figure} lies halfway between two words");
     let nearest = if 2 * over > one { below + 1 } else { below };
-    (if negative { -nearest } else { nearest }) as i32
+    (if figure.starts_with('-') { -nearest } else { nearest }) as i32
 }
 
 /// True for a word.
@@ -68,9 +58,8 @@ pub fn is_word(number: i32) -> bool {
     (WORD_MIN..=WORD_MAX).contains(&number)
 }
 
-/// "Accepted: A from 0 to 8,388,607; B from -4,194,303 to 4,194,303; |G| less
-/// than 4,194,304 + B". Refused with the first that applies of "8 (A), 9 (B),
-/// 10 (G)".
+/// "Accepted: A from 0 to 8,388,607; B from -4,194,303 to 4,194,303; |G| less than 4,194,304 + B". Refused with the
+/// first that applies of "8 (A), 9 (B), 10 (G)".
 pub fn band_refusal(a: i32, b: i32, g: i32) -> u32 {
     if !(0..=8_388_607).contains(&a) {
         REFUSED_A
@@ -83,8 +72,7 @@ pub fn band_refusal(a: i32, b: i32, g: i32) -> u32 {
     }
 }
 
-/// "Whoever steps a section alone: 8 to 10, then 15 where x or one of the four
-/// remembered numbers is no word".
+/// "Whoever steps a section alone: 8 to 10, then 15 where x or one of the four remembered numbers is no word".
 pub fn step_refusal(section: &Section, x: i32) -> u32 {
     let [a, b, g, x1, x2, y1, y2] = *section;
     let band = band_refusal(a, b, g);
@@ -114,8 +102,7 @@ pub mod exact {
 
     /// v / 2^k by "Rounding to nearest, halves to even".
     pub fn nearest(v: i64, k: u32) -> i64 {
-        // From k = 65 on, v / 2^k is at most a quarter in size and so rounds
-        // to 0, as it does at 100.
+        // From k = 65 on, v / 2^k is at most a quarter in size and so rounds to 0, as it does at 100.
         let unit = 1_i128 << k.min(100);
         let below = i128::from(v).div_euclid(unit);
         let over = i128::from(v).rem_euclid(unit);
@@ -140,10 +127,9 @@ pub mod exact {
         a * (i128::from(x) - x2) + g * y1 - b * y2
     }
 
-    /// One step of a section. "y is S / 2^22 rounded, then limited to a word.
-    /// The section has limited in this step exactly when the rounded number was
-    /// no word. The limited y is the one remembered." After a refusal "the
-    /// result is 0 and the section is unchanged."
+    /// One step of a section. "y is S / 2^22 rounded, then limited to a word. The section has limited in this step
+    /// exactly when the rounded number was no word. The limited y is the one remembered." After a refusal "the result
+    /// is 0 and the section is unchanged."
     pub fn step(section: &mut Section, x: i32) -> i64 {
         let refusal = step_refusal(section, x);
         if refusal != ACCEPTED {
@@ -158,7 +144,7 @@ pub mod exact {
     }
 }
 
-/// The same for use: i64, shifts, no division.
+/// What one would write for use: i64, shifts, no division.
 pub mod fast {
     use super::{pack, step_refusal, Section, ACCEPTED, WORD_MAX, WORD_MIN};
 
@@ -177,8 +163,8 @@ pub mod fast {
         }
     }
 
-    /// S / 2^22 rounded. S is under 2^48 in size, so the sum can't overflow:
-    /// just under a half is added to an even quotient and a half to an odd one.
+    /// S / 2^22 rounded. S is under 2^48 in size, so the sum can't overflow: just under a half is added to an even
+    /// quotient and a half to an odd one.
     fn round_sum(sum: i64) -> i64 {
         let odd = (sum >> 22) & 1;
         (sum + ((1 << 21) - 1) + odd) >> 22
@@ -197,10 +183,7 @@ pub mod fast {
         let rounded = round_sum(inputs + results);
         let limited = rounded.clamp(i64::from(WORD_MIN), i64::from(WORD_MAX));
         let y = limited as i32;
-        section[3] = x;
-        section[4] = x1;
-        section[5] = y;
-        section[6] = y1;
+        section[3..].copy_from_slice(&[x, x1, y, y1]);
         pack(ACCEPTED, limited != rounded, y)
     }
 }

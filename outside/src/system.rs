@@ -15,14 +15,10 @@ mod raw {
         pub microseconds: c_long,
     }
 
-    /// The times, and fourteen numbers that are not used here.
+    /// The user's time, the system's, and fourteen numbers that are not used here.
     #[repr(C)]
     #[derive(Clone, Copy, Default)]
-    pub struct Rusage {
-        pub user: Timeval,
-        pub system: Timeval,
-        pub others: [c_long; 14],
-    }
+    pub struct Rusage(pub [Timeval; 2], pub [c_long; 14]);
 
     extern "C" {
         pub fn fcntl(descriptor: c_int, command: c_int, ...) -> c_int;
@@ -77,11 +73,11 @@ pub struct Used {
 }
 
 impl Used {
-    fn of(usage: &raw::Rusage) -> Used {
-        let time = |time: raw::Timeval| {
-            Duration::from_secs(time.seconds as u64) + Duration::from_micros(time.microseconds as u64)
-        };
-        Used { user: time(usage.user), system: time(usage.system) }
+    fn of(raw::Rusage(times, _): raw::Rusage) -> Used {
+        let [user, system] = times.map(|raw::Timeval { seconds, microseconds }| {
+            Duration::from_secs(seconds as u64) + Duration::from_micros(microseconds as u64)
+        });
+        Used { user, system }
     }
 
     pub fn total(&self) -> Duration {
@@ -94,11 +90,11 @@ pub fn used() -> Used {
     let mut usage = raw::Rusage::default();
     // SAFETY: fills what is this function's own.
     unsafe { raw::getrusage(RUSAGE_SELF, &mut usage) };
-    Used::of(&usage)
+    Used::of(usage)
 }
 
-/// Waits for the end of a child: the status as the system packs it, which is 0
-/// for an exit status of 0, and the time it used. The child is gone afterwards.
+/// Waits for the end of a child: the status as the system packs it, which is 0 for an exit status of 0, and the time it
+/// used. The child is gone afterwards.
 pub fn wait_for(process: u32) -> io::Result<(i32, Used)> {
     let (mut status, mut usage) = (0, raw::Rusage::default());
     // SAFETY: fills what is this function's own.
@@ -106,5 +102,5 @@ pub fn wait_for(process: u32) -> io::Result<(i32, Used)> {
     if ended == -1 {
         return Err(io::Error::last_os_error());
     }
-    Ok((status, Used::of(&usage)))
+    Ok((status, Used::of(usage)))
 }

@@ -7,8 +7,7 @@ use outside::checks::groups::{
     Group, BLOCKS, CORNERS, CUTS, FITNESS, FRAMES, GROUPS, LISTS, MANY_SHEETS, REFUSED, REFUSED_BLOCKS,
 };
 use outside::checks::report::report;
-use outside::checks::{big_numbers, one_step};
-use outside::checks::{Difference, Tally};
+use outside::checks::{big_numbers, distance, Difference, Tally};
 use outside::exact_sound::judge::Distances;
 use outside::faults::{Wrong, RIGHT, WRONG};
 use outside::lent;
@@ -20,7 +19,7 @@ const NEAR: f64 = 0.9;
 fn main() -> ExitCode {
     let of_group = |group: &Group| Some((group.name, group.seed?));
     let mut seeds: Vec<(&str, u64)> = GROUPS.iter().chain([&MANY_SHEETS]).filter_map(of_group).collect();
-    seeds.extend([("big numbers", big_numbers::BIG_SEED), ("one step", one_step::ONE_STEP_SEED)]);
+    seeds.extend([("big numbers", big_numbers::BIG_SEED), ("one step", distance::ONE_STEP_SEED)]);
     report(&seeds, "All agree.", everything)
 }
 
@@ -85,7 +84,7 @@ fn every_wrong_one() -> Result<(), Difference> {
         (group.run)(&RIGHT).map_err(|difference| format!("nothing wrong, {}: {difference}", group.name))?;
     }
     WRONG.iter().try_for_each(find)?;
-    let found = one_step::found_everywhere()?.answers;
+    let found = distance::found_everywhere()?.answers;
     println!("  a sample one step away: found by distance at each of {found} places");
     Ok(())
 }

@@ -1,9 +1,7 @@
 //! Rounding and limiting on their own.
 
-use super::{same, Difference, Outcome, Tally};
-use crate::random::Random;
+use super::run::{Checked, Outcome, Run, Subject};
 use crate::reference::exact;
-use crate::subject::Subject;
 
 pub const NEAREST_SEED: u64 = 0xF0DD_0001;
 pub const LIMIT_SEED: u64 = 0xF0DD_0002;
@@ -26,11 +24,10 @@ fn number_corners() -> Vec<i64> {
     corners
 }
 
-/// One rounding, compared, and its meaning checked: the distance is at most a
-/// half, and at a half the result is even.
-fn same_nearest(subject: &dyn Subject, v: i64, k: u32, tally: &mut Tally) -> Result<(), Difference> {
-    let got = subject.nearest(v, k);
-    same(tally, exact::nearest(v, k), got, || format!("nearest of v = {v}, k = {k}"))?;
+/// One rounding, compared, and its meaning checked: the distance is at most a half, and at a half the result is even.
+fn round(run: &mut Run, v: i64, k: u32) -> Checked {
+    let got = run.subject.nearest(v, k);
+    run.same(exact::nearest(v, k), got, || format!("nearest of v = {v}, k = {k}"))?;
     if (1..=63).contains(&k) {
         let twice_away = 2 * ((i128::from(got) << k) - i128::from(v)).abs();
         let unit = 1_i128 << k;
@@ -42,72 +39,67 @@ fn same_nearest(subject: &dyn Subject, v: i64, k: u32, tally: &mut Tally) -> Res
 }
 
 /// Exact halves q + 1/2 and the numbers beside them.
-fn halves(subject: &dyn Subject, k: u32, random: &mut Random, tally: &mut Tally) -> Result<(), Difference> {
+fn halves(run: &mut Run, k: u32) -> Checked {
     let (lowest, highest) = (i64::MIN >> k, i64::MAX >> k);
     let mut quotients: Vec<i64> = (0..8).flat_map(|i| [lowest.saturating_add(i), highest.saturating_sub(i)]).collect();
     quotients.extend(-8..8);
-    quotients.extend((0..5_000).map(|_| random.any_size() >> k));
+    quotients.extend((0..5_000).map(|_| run.random.any_size() >> k));
+    quotients.retain(|quotient| (lowest..=highest).contains(quotient));
     for quotient in quotients {
-        if quotient < lowest || quotient > highest {
-            continue;
-        }
         let half = (quotient << k) + (1 << (k - 1));
         for v in [half - 1, half, half.saturating_add(1)] {
-            same_nearest(subject, v, k, tally)?;
+            round(run, v, k)?;
         }
     }
     Ok(())
 }
 
 pub fn nearest(subject: &dyn Subject) -> Outcome {
-    let mut tally = Tally::default();
-    let mut random = Random::new(NEAREST_SEED);
+    let run = &mut Run::new(subject, NEAREST_SEED);
     let corners = number_corners();
     for k in (0..=70).chain(LARGE_SHIFTS) {
         for &v in &corners {
-            same_nearest(subject, v, k, &mut tally)?;
+            round(run, v, k)?;
         }
         for _ in 0..25_000 {
-            same_nearest(subject, random.any_size(), k, &mut tally)?;
+            let v = run.random.any_size();
+            round(run, v, k)?;
         }
         if (1..=63).contains(&k) {
-            halves(subject, k, &mut random, &mut tally)?;
+            halves(run, k)?;
         }
     }
     for _ in 0..200_000 {
-        let k = random.draw() as u32 >> random.below(32);
-        same_nearest(subject, random.any_size(), k, &mut tally)?;
+        let k = run.random.draw() as u32 >> run.random.below(32);
+        let v = run.random.any_size();
+        round(run, v, k)?;
     }
-    Ok(tally)
-}
-
-fn same_limit(subject: &dyn Subject, [v, low, high]: [i64; 3], tally: &mut Tally) -> Result<(), Difference> {
-    let got = subject.limit(v, low, high);
-    same(tally, exact::limit(v, low, high), got, || format!("limit of v = {v}, low = {low}, high = {high}"))
+    Ok(run.tally)
 }
 
 pub fn limit(subject: &dyn Subject) -> Outcome {
-    let mut tally = Tally::default();
+    let run = &mut Run::new(subject, LIMIT_SEED);
+    let limited = |run: &mut Run, v, low, high| {
+        let got = run.subject.limit(v, low, high);
+        run.same(exact::limit(v, low, high), got, || format!("limit of v = {v}, low = {low}, high = {high}"))
+    };
     let mut corners = vec![0, i64::MIN, i64::MIN + 1, i64::MAX - 1, i64::MAX];
     for size in [1, 32_768, 8_388_608, 1 << 31, 1 << 32] {
-        for beside in [-1, 0, 1] {
-            corners.extend([size + beside, -size + beside]);
-        }
+        corners.extend([-1, 0, 1].iter().flat_map(|beside| [size + beside, -size + beside]));
     }
     for &v in &corners {
         for &low in &corners {
             for &high in &corners {
-                same_limit(subject, [v, low, high], &mut tally)?;
+                limited(run, v, low, high)?;
             }
         }
     }
-    let mut random = Random::new(LIMIT_SEED);
     for _ in 0..500_000 {
-        let [v, low, high] = [(); 3].map(|()| random.any_size());
-        same_limit(subject, [v, low, high], &mut tally)?;
-        let beside = random.below(3) as i64 - 1;
-        let near = random.pick(&[low, high]).saturating_add(beside);
-        same_limit(subject, [near, low, high], &mut tally)?;
+        let [v, low, high] = [(); 3].map(|()| run.random.any_size());
+        limited(run, v, low, high)?;
+        let beside = run.random.below(3) as i64 - 1;
+        let near = run.random.pick(&[low, high]).saturating_add(beside);
+        limited(run, near, low, high)?;
     }
-    Ok(tally)
+    Ok(run.tally)
 }

@@ -1,7 +1,8 @@
-//! The arithmetic of the exact sound by itself: small numbers against i128,
-//! large ones by what they leave when divided, and figures worked by hand.
+//! The arithmetic of the exact sound by itself: small numbers against i128, large ones by what they leave when divided,
+//! and figures worked by hand.
 
-use super::{same, Difference, Outcome, Tally};
+use super::run::{Checked, Outcome};
+use super::{same, Tally};
 use crate::exact_sound::big::Big;
 use crate::exact_sound::fraction::Fraction;
 use crate::exact_sound::response::Responses;
@@ -13,26 +14,22 @@ use crate::unit::orders::{Order, VOLUME_BAND};
 pub const BIG_SEED: u64 = 0xF0DD_001C;
 
 /// Divisors, each under 2^63.
-const DIVISORS: [u64; 4] = [(1 << 61) - 1, 1_000_000_007, 3, (1 << 62) - 57];
+const DIVISORS: [u128; 4] = [(1 << 61) - 1, 1_000_000_007, 3, (1 << 62) - 57];
 
 /// What a number leaves when divided, from 0 up.
-fn residue(number: &Big, divisor: u64) -> u64 {
-    let wide = u128::from(divisor);
+fn residue(number: &Big, divisor: u128) -> u128 {
     let (mut left, mut weight) = (0, 1);
     for &limb in number.limbs() {
-        left = (left + u128::from(limb) % wide * weight) % wide;
-        weight = (weight << 64) % wide;
+        left = (left + u128::from(limb) % divisor * weight) % divisor;
+        weight = (weight << 64) % divisor;
     }
-    if number.is_negative() {
-        left = (left + wide - weight) % wide;
-    }
-    left as u64
+    let sign = if number.is_negative() { divisor - weight } else { 0 };
+    (left + sign) % divisor
 }
 
 /// 2^shift as a number that is left.
-fn power_residue(shift: usize, divisor: u64) -> u64 {
-    let twice = |left: u64, _| (u128::from(left) * 2 % u128::from(divisor)) as u64;
-    (0..shift).fold(1, twice)
+fn power_residue(shift: usize, divisor: u128) -> u128 {
+    (0..shift).fold(1, |left, _| left * 2 % divisor)
 }
 
 /// A number of up to so many limbs, many of them all zeros or all ones.
@@ -59,7 +56,7 @@ fn wide(number: i128) -> Big {
 }
 
 /// a + c × b × 2^shift in numbers that fit into an i128.
-fn small(random: &mut Random, tally: &mut Tally) -> Result<(), Difference> {
+fn small(random: &mut Random, tally: &mut Tally) -> Checked {
     let [a, b] = [(); 2].map(|()| i128::from(random.any_size()) >> random.below(20));
     let coefficient = random.any_size() >> 22;
     let shift = random.below(20) as usize;
@@ -68,13 +65,13 @@ fn small(random: &mut Random, tally: &mut Tally) -> Result<(), Difference> {
     let expected = (a << 40) + ((i128::from(coefficient) * b) << shift);
     let inputs = || format!("{a} × 2^40 + {coefficient} × {b} × 2^{shift}");
     same(tally, Some(expected), narrow(&sum), inputs)?;
-    same(tally, wide(expected), sum.clone(), inputs)?;
+    same(tally, &wide(expected), &sum, inputs)?;
     same(tally, wide(expected.abs()), sum.size(), inputs)?;
     same(tally, expected < 0, sum.is_negative(), inputs)
 }
 
-/// The same in large numbers: what is left of the sum, and the way back.
-fn large(random: &mut Random, tally: &mut Tally) -> Result<(), Difference> {
+/// a + c × b × 2^shift in large numbers: what is left of the sum, and the way back.
+fn large(random: &mut Random, tally: &mut Tally) -> Checked {
     let [a, b] = [(); 2].map(|()| any_big(random, 30));
     let coefficient = random.any_size() >> 1;
     let shift = random.below(700) as usize;
@@ -82,25 +79,19 @@ fn large(random: &mut Random, tally: &mut Tally) -> Result<(), Difference> {
     sum.add_scaled(coefficient, &b, shift);
     let inputs = || format!("{a:?} + {coefficient} × {b:?} × 2^{shift}");
     for divisor in DIVISORS {
-        let wide = u128::from(divisor);
-        let factor = i128::from(coefficient).rem_euclid(wide as i128) as u128;
-        let scale = factor * u128::from(power_residue(shift, divisor)) % wide;
-        let product = scale * u128::from(residue(&b, divisor)) % wide;
-        let expected = (product + u128::from(residue(&a, divisor))) % wide;
-        same(tally, expected as u64, residue(&sum, divisor), inputs)?;
+        let factor = i128::from(coefficient).rem_euclid(divisor as i128) as u128;
+        let product = factor * power_residue(shift, divisor) % divisor * residue(&b, divisor) % divisor;
+        same(tally, (product + residue(&a, divisor)) % divisor, residue(&sum, divisor), inputs)?;
     }
     sum.add_scaled(-coefficient, &b, shift);
-    same(tally, a.clone(), sum, inputs)
+    same(tally, &a, &sum, inputs)
 }
 
 /// Sums, sizes and comparisons of fractions, against i128 over 2^44.
-fn fractions(random: &mut Random, tally: &mut Tally) -> Result<(), Difference> {
+fn fractions(random: &mut Random, tally: &mut Tally) -> Checked {
     let numbers = [(); 2].map(|()| random.any_size() >> 16);
     let powers = [(); 2].map(|()| random.below(3) as u32);
-    let [a, b] = [0, 1].map(|n| {
-        let whole = Fraction::whole(numbers[n]);
-        (0..powers[n]).fold(whole, |fraction, _| fraction.over_2_22())
-    });
+    let [a, b] = [0, 1].map(|n| (0..powers[n]).fold(Fraction::whole(numbers[n]), |sum, _| sum.over_2_22()));
     let [wide_a, wide_b] = [0, 1].map(|n| i128::from(numbers[n]) << (22 * (2 - powers[n])));
     let inputs = || format!("{numbers:?} over 2^22 to the powers {powers:?}");
     same(tally, wide_a.cmp(&wide_b), a.compared_with(&b), inputs)?;
@@ -113,18 +104,12 @@ fn fractions(random: &mut Random, tally: &mut Tally) -> Result<(), Difference> {
     same(tally, true, close, inputs)
 }
 
-/// H after so many frames: with B = 0 the sum of |G / 2^22|^k, and one with a
-/// B by hand: 1 + |3/2| + |9/4 - 1/2|.
-fn responses(tally: &mut Tally) -> Result<(), Difference> {
-    let set = |b, g| std::array::from_fn(|n| [1, b, g][n % 3]);
-    let figures = [
-        (0, 1 << 21, vec![4, 6, 7]),
-        (0, -(1 << 21), vec![4, 6, 7]),
-        (0, 0, vec![4, 4, 4]),
-        (1 << 21, -3 << 21, vec![4, 10, 17]),
-    ];
+/// H after so many frames: with B = 0 the sum of |G / 2^22|^k, and one with a B by hand: 1 + |3/2| + |9/4 - 1/2|.
+fn responses(tally: &mut Tally) -> Checked {
+    let figures =
+        [(0, 1 << 21, [4, 6, 7]), (0, -(1 << 21), [4, 6, 7]), (0, 0, [4, 4, 4]), (1 << 21, -3 << 21, [4, 10, 17])];
     for (b, g, quarters) in figures {
-        let mut responses = Responses::new(&set(b, g));
+        let mut responses = Responses::new(&std::array::from_fn(|n| [1, b, g][n % 3]));
         for quarter in quarters {
             responses.grow();
             let got = responses.weighted(&[4, 0, 0, 0, 0, 0, 0, 0, 0, 0]);
@@ -135,10 +120,9 @@ fn responses(tally: &mut Tally) -> Result<(), Difference> {
     Ok(())
 }
 
-/// "V = 419, gains 0, s = 32,767": the exact output is 419 × 256 × 32,767 /
-/// 2^31. With the 31 Hz band's gain at 839 too, it has 839 × 6,606 × 256 ×
-/// 32,767 / 2^45 more in the mix.
-fn first_frame(tally: &mut Tally) -> Result<(), Difference> {
+/// "V = 419, gains 0, s = 32,767": the exact output is 419 × 256 × 32,767 / 2^31. With the 31 Hz band's gain at 839
+/// too, it has 839 × 6,606 × 256 × 32,767 / 2^45 more in the mix.
+fn first_frame(tally: &mut Tally) -> Checked {
     let mut sound = ExactSound::new(&house_set());
     sound.order(&Order::position(2, VOLUME_BAND, 31));
     sound.order(&Order::position(1, 0, 31));

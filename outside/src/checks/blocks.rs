@@ -1,120 +1,180 @@
-//! Long blocks on fit units of every kind.
+//! Blocks on fit units of every kind: long ones, single frames, every small size, one sound cut in several ways, and
+//! blocks of wrong lengths: "5 input bytes no multiple of four; 6 output shorter than input. Unit and output
+//! unchanged."
 
-use super::same_block::same_block;
+use super::run::{Checked, Outcome, Run, Subject};
+use super::same_block::marks;
 use super::sounds::{Sound, SOUNDS};
-use super::units::{half_unit, random_fit, strips, Sets};
-use super::{Difference, Outcome, Tally};
+use super::units::{half_unit, random_fit, strips};
 use crate::random::Random;
-use crate::reference::{house_set, WORD_MAX, WORD_MIN};
-use crate::subject::Subject;
-use crate::unit::{cleared, Numbers};
+use crate::reference::{ACCEPTED, WORD_MAX, WORD_MIN};
+use crate::unit::{cleared, house_unit, Numbers, OUTPUT_TOO_SHORT, PART_OF_A_FRAME};
 
 pub const BLOCKS_SEED: u64 = 0xF0DD_0014;
 pub const FRAMES_SEED: u64 = 0xF0DD_0015;
+pub const CUTS_SEED: u64 = 0xF0DD_0016;
+pub const BLOCK_REFUSALS_SEED: u64 = 0xF0DD_0017;
 
-/// The comparison under way.
-struct Run<'a> {
-    subject: &'a dyn Subject,
-    sets: Sets,
-    random: Random,
-    tally: Tally,
+/// One block with a few bytes of room behind it.
+fn block(run: &mut Run, numbers: &mut Numbers, sound: Sound, frames: usize) -> Checked {
+    let input = sound.block(frames, &mut run.random);
+    let room = input.len() + run.random.below(9) as usize;
+    run.block(numbers, &input, room).map(|_| ())
 }
 
-/// Sets the targets of both sides' gains and of the volume.
-fn set_targets(numbers: &mut Numbers, volume: i32, mut gain: impl FnMut() -> i32) {
-    numbers[1] = volume;
-    for strip in strips(numbers) {
-        strip[3] = gain();
-    }
+/// Sets every target anew.
+fn new_targets(run: &mut Run, numbers: &mut Numbers) {
+    numbers[1] = run.random.between(0, WORD_MAX);
+    strips(numbers).for_each(|strip| strip[3] = run.random.word());
 }
 
-impl Run<'_> {
-    /// One block with a few bytes of room behind it.
-    fn block(&mut self, numbers: &mut Numbers, sound: Sound, frames: usize) -> Result<(), Difference> {
-        let input = sound.block(frames, &mut self.random);
-        let room = input.len() + self.random.below(9) as usize;
-        same_block(self.subject, numbers, &input, room, &mut self.tally)?;
-        Ok(())
+/// A long sound of twenty blocks, the targets set anew before each.
+fn long_sound(run: &mut Run, numbers: &mut Numbers) -> Checked {
+    for turn in 0..20 {
+        new_targets(run, numbers);
+        block(run, numbers, SOUNDS[turn % SOUNDS.len()], 4_096)?;
     }
+    Ok(())
+}
 
-    fn new_targets(&mut self, numbers: &mut Numbers) {
-        let random = &mut self.random;
-        let volume = random.between(0, WORD_MAX);
-        set_targets(numbers, volume, || random.word());
-    }
+/// A sound and the silence behind it, with every gain at this end and the volume at rest.
+fn loud(run: &mut Run, set: &[i32; 30], [gain, volume]: [i32; 2], sound: Sound) -> Checked {
+    let mut numbers = cleared(set);
+    numbers[..2].fill(volume);
+    strips(&mut numbers).for_each(|strip| strip[2..].fill(gain));
+    block(run, &mut numbers, sound, 1_000)?;
+    block(run, &mut numbers, Sound::Silence, 500)
+}
 
-    /// A long sound of twenty blocks, the targets set anew before each.
-    fn long_sound(&mut self, numbers: &mut Numbers) -> Result<(), Difference> {
-        for turn in 0..20 {
-            self.new_targets(numbers);
-            self.block(numbers, SOUNDS[turn % SOUNDS.len()], 4_096)?;
-        }
-        Ok(())
-    }
-
-    /// A sound and the silence behind it, with every gain at this end and the
-    /// volume at rest.
-    fn loud(&mut self, set: &[i32; 30], [gain, volume]: [i32; 2], sound: Sound) -> Result<(), Difference> {
-        let mut numbers = cleared(set);
-        numbers[0] = volume;
-        set_targets(&mut numbers, volume, || gain);
-        for strip in strips(&mut numbers) {
-            strip[2] = gain;
-        }
-        self.block(&mut numbers, sound, 1_000)?;
-        self.block(&mut numbers, Sound::Silence, 500)
-    }
-
-    /// Every sound with all gains high, all low and anywhere. At the volume
-    /// 700,000 the largest mix isn't limited.
-    fn every_sound(&mut self, turn: u64) -> Result<(), Difference> {
-        for sound in SOUNDS {
-            let set = self.sets.draw(turn, &mut self.random);
-            for gain in [WORD_MAX, WORD_MIN] {
-                for volume in [WORD_MAX, 700_000] {
-                    self.loud(&set, [gain, volume], sound)?;
-                }
+/// Every sound with all gains high, all low and anywhere. At the volume 700,000 the largest mix isn't limited.
+fn every_sound(run: &mut Run, turn: u64) -> Checked {
+    for &sound in SOUNDS {
+        let set = run.sets.draw(turn, &mut run.random);
+        for gain in [WORD_MAX, WORD_MIN] {
+            for volume in [WORD_MAX, 700_000] {
+                loud(run, &set, [gain, volume], sound)?;
             }
-            let mut anywhere = random_fit(&set, &mut self.random);
-            self.block(&mut anywhere, sound, 1_000)?;
-            self.new_targets(&mut anywhere);
-            self.block(&mut anywhere, Sound::Silence, 500)?;
         }
-        Ok(())
+        let mut anywhere = random_fit(&set, &mut run.random);
+        block(run, &mut anywhere, sound, 1_000)?;
+        new_targets(run, &mut anywhere);
+        block(run, &mut anywhere, Sound::Silence, 500)?;
     }
+    Ok(())
 }
 
 pub fn long(subject: &dyn Subject) -> Outcome {
-    let mut run = Run { subject, sets: Sets::all(), random: Random::new(BLOCKS_SEED), tally: Tally::default() };
-    run.long_sound(&mut cleared(&house_set()))?;
+    let run = &mut Run::new(subject, BLOCKS_SEED);
+    long_sound(run, &mut house_unit())?;
     for turn in 0..10 {
-        let set = run.sets.draw(turn, &mut run.random);
-        let mut numbers = random_fit(&set, &mut run.random);
-        run.long_sound(&mut numbers)?;
-        run.every_sound(turn)?;
+        let mut numbers = run.fit_unit(turn);
+        long_sound(run, &mut numbers)?;
+        every_sound(run, turn)?;
     }
     for turn in 0..500 {
-        let set = run.sets.draw(turn, &mut run.random);
-        let mut numbers = random_fit(&set, &mut run.random);
-        let sound = run.random.pick(&SOUNDS);
-        run.block(&mut numbers, sound, 500)?;
+        let mut numbers = run.fit_unit(turn);
+        let sound = run.random.pick(SOUNDS);
+        block(run, &mut numbers, sound, 500)?;
         let mut halves = half_unit(&run.sets, &mut run.random);
-        run.block(&mut halves, sound, 500)?;
+        block(run, &mut halves, sound, 500)?;
     }
     Ok(run.tally)
 }
 
 /// Single frames from random fit units.
 pub fn frames(subject: &dyn Subject) -> Outcome {
-    let mut run = Run { subject, sets: Sets::all(), random: Random::new(FRAMES_SEED), tally: Tally::default() };
+    let run = &mut Run::new(subject, FRAMES_SEED);
     for turn in 0..200_000 {
-        let set = run.sets.draw(turn, &mut run.random);
-        let mut numbers = random_fit(&set, &mut run.random);
+        let mut numbers = run.fit_unit(turn);
         let sound = run.random.pick(&[Sound::Noise, Sound::Ends, Sound::Faint]);
-        run.block(&mut numbers, sound, 1)?;
+        block(run, &mut numbers, sound, 1)?;
         if turn % 4 == 0 {
             let mut halves = half_unit(&run.sets, &mut run.random);
-            run.block(&mut halves, sound, 1)?;
+            block(run, &mut halves, sound, 1)?;
+        }
+    }
+    Ok(run.tally)
+}
+
+/// Every size from 0 to 64 frames, with 0 to 7 bytes of room behind.
+fn sizes(run: &mut Run, start: &Numbers) -> Checked {
+    for frames in 0..=64 {
+        let input = Sound::Noise.block(frames, &mut run.random);
+        for behind in 0..8 {
+            run.block(&mut start.clone(), &input, input.len() + behind)?;
+        }
+    }
+    Ok(())
+}
+
+/// One sound whole, and cut where `next` says. Sound and unit must be alike.
+fn cut(run: &mut Run, start: &Numbers, sound: &[u8], next: impl Fn(&mut Random) -> usize) -> Checked {
+    let (mut whole, mut parts) = (*start, *start);
+    let expected = run.block(&mut whole, sound, sound.len())?;
+    let mut got = vec![0; sound.len()];
+    let mut begun = 0;
+    while begun < sound.len() {
+        let end = sound.len().min(begun + 4 * next(&mut run.random));
+        let answer = run.subject.block(&mut parts, &sound[begun..end], &mut got[begun..end]);
+        run.same(0, answer, || "a part".to_string())?;
+        begun = end;
+    }
+    run.same((whole, expected), (parts, got), || format!("a sound of {} bytes cut into blocks", sound.len()))
+}
+
+pub fn sizes_and_cuts(subject: &dyn Subject) -> Outcome {
+    let run = &mut Run::new(subject, CUTS_SEED);
+    for turn in 0..20 {
+        let start = run.fit_unit(turn);
+        sizes(run, &start)?;
+        let sound = Sound::Noise.block(3_000, &mut run.random);
+        for size in [1, 2, 3, 64, 441, 2_999, 3_000] {
+            cut(run, &start, &sound, |_| size)?;
+        }
+        // Empty blocks between the others too.
+        cut(run, &start, &sound, |random| random.below(40) as usize)?;
+    }
+    Ok(run.tally)
+}
+
+/// One block: compared with the reference, its number as document 01 states it, "The first that applies, in numerical
+/// order", and after a refusal unit and output unchanged.
+fn stated(run: &mut Run, numbers: &Numbers, length: usize, room: usize) -> Checked {
+    let input = vec![0x5A; length];
+    run.block(&mut numbers.clone(), &input, room)?;
+    let number = match (length % 4, room < length) {
+        (1..=3, _) => PART_OF_A_FRAME,
+        (_, true) => OUTPUT_TOO_SHORT,
+        _ => ACCEPTED,
+    };
+    let (mut after, mut output) = (*numbers, marks(room));
+    let answer = run.subject.block(&mut after, &input, &mut output);
+    let what = || format!("block of {length} bytes into {room} on the unit {numbers:?}");
+    run.same(number, answer, what)?;
+    if number != ACCEPTED {
+        run.same((*numbers, marks(room)), (after, output), what)?;
+    }
+    Ok(())
+}
+
+pub fn lengths(subject: &dyn Subject) -> Outcome {
+    let run = &mut Run::new(subject, BLOCK_REFUSALS_SEED);
+    let mut units = vec![house_unit()];
+    units.extend((0..10).map(|turn| run.fit_unit(turn)));
+    for numbers in &units {
+        for length in 0..=33 {
+            for room in 0..=37 {
+                stated(run, numbers, length, room)?;
+            }
+        }
+        for length in 4_093..=4_100 {
+            for room in [0, 1, 3, 4, 4_092, length - 1, length, length + 1, 5_000] {
+                stated(run, numbers, length, room)?;
+            }
+        }
+        for _ in 0..300 {
+            let [length, room] = [(); 2].map(|()| run.random.below(3_000) as usize);
+            stated(run, numbers, length, room)?;
         }
     }
     Ok(run.tally)

@@ -1,45 +1,60 @@
-//! Lists of orders and blocks from cleared units. Each call compares the
-//! answer, all 118 numbers and every byte of the output.
+//! Lists of orders and blocks from cleared units, also carried on from sheets. Each call compares the answer, all 118
+//! numbers and every byte of the output.
 
 use super::makers::Maker;
-use super::same_block::same_block;
-use super::same_order::same_order;
-use super::{same, Difference, Outcome, Tally};
-use crate::calls::{Call, List};
+use super::run::{Checked, Outcome, Run, Subject};
+use super::same_sheet::same_back;
+use crate::calls::List;
 use crate::reference::ACCEPTED;
-use crate::subject::Subject;
 use crate::unit::cleared;
+use crate::unit::sheet::{exact, SHEET};
 
 pub const CALLS_SEED: u64 = 0xF0DD_001A;
+pub const SHEET_LISTS_SEED: u64 = 0xF0DD_0024;
 
 /// One list, from the loading of its band set on.
-fn list(subject: &dyn Subject, list: &List, tally: &mut Tally) -> Result<(), Difference> {
+fn play(run: &mut Run, list: &List) -> Checked {
     let mut numbers = [-1; 118];
-    let answer = subject.load(&mut numbers, &list.set);
-    let expected = (ACCEPTED, cleared(&list.set));
-    same(tally, expected, (answer, numbers), || format!("loading {:?}", list.set))?;
+    let answer = run.subject.load(&mut numbers, &list.set);
+    run.same((ACCEPTED, cleared(&list.set)), (answer, numbers), || format!("loading {:?}", list.set))?;
     for (place, call) in list.calls.iter().enumerate() {
-        let called = match call {
-            Call::Order(order) => same_order(subject, &mut numbers, order, tally).map(|_| ()),
-            Call::Block { input, room } => same_block(subject, &mut numbers, input, *room, tally).map(|_| ()),
-        };
-        called.map_err(|difference| format!("call {place} of a list, {difference}"))?;
+        run.call(&mut numbers, call).map_err(|difference| format!("call {place} of a list, {difference}"))?;
     }
     Ok(())
 }
 
 pub fn lists(subject: &dyn Subject) -> Outcome {
-    let mut tally = Tally::default();
+    let run = &mut Run::new(subject, CALLS_SEED);
     let mut maker = Maker::new(CALLS_SEED);
     for turn in 0..1_200 {
         let set = maker.set(turn);
-        let short = maker.list(set, turn % 4 == 0, 40, 30);
-        list(subject, &short, &mut tally)?;
+        play(run, &maker.list(set, turn % 4 == 0, 40, 30))?;
     }
     for turn in 0..60 {
         let set = maker.set(turn);
-        let long = maker.list(set, true, 12, 2_000);
-        list(subject, &long, &mut tally)?;
+        play(run, &maker.list(set, true, 12, 2_000))?;
     }
-    Ok(tally)
+    Ok(run.tally)
+}
+
+/// One list: "Reading back the sheet that a list wrote under these same rules continues that list". Before each call
+/// and at the end the unit is written and read back.
+fn carry_on(run: &mut Run, list: &List) -> Checked {
+    let mut numbers = cleared(&list.set);
+    let lent = [0x33; SHEET + 1];
+    for call in &list.calls {
+        same_back(run.subject, exact::write, &numbers, &lent, &[-1; 118], &mut run.tally)?;
+        run.call(&mut numbers, call)?;
+    }
+    same_back(run.subject, exact::write, &numbers, &lent, &[-1; 118], &mut run.tally)
+}
+
+pub fn carried_on(subject: &dyn Subject) -> Outcome {
+    let run = &mut Run::new(subject, SHEET_LISTS_SEED);
+    let mut maker = Maker::new(SHEET_LISTS_SEED);
+    for turn in 0..300 {
+        let set = maker.set(turn);
+        carry_on(run, &maker.list(set, turn % 2 == 0, 30, 60))?;
+    }
+    Ok(run.tally)
 }

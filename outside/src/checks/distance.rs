@@ -1,19 +1,24 @@
-//! The distance from the exact sound: each list is played by the subject alone,
-//! and its outputs are held against a reckoning that takes nothing from it.
+//! The distance from the exact sound: each list is played by the subject alone, and its outputs are held against a
+//! reckoning that takes nothing from it. Right outputs changed in a single sample must be noticed.
 
 use super::distance_lists::lists;
+use super::makers::Maker;
 use super::same_block::marks;
+use super::sounds::Sound;
 use super::{Difference, Outcome, Tally};
 use crate::calls::{Call, List};
 use crate::exact_sound::judge::{judge, Distances};
-use crate::subject::Subject;
+use crate::reference::house_set;
+use crate::subject::{Fast, Subject};
 use std::sync::atomic::{AtomicUsize, Ordering};
 use std::thread;
+
+pub const ONE_STEP_SEED: u64 = 0xF0DD_001D;
 
 const THREADS: usize = 2;
 
 /// The outputs that a subject's blocks handed back, refused ones too.
-pub fn played(subject: &dyn Subject, list: &List) -> Vec<Vec<u8>> {
+fn played(subject: &dyn Subject, list: &List) -> Vec<Vec<u8>> {
     let mut numbers = [0; 118];
     subject.load(&mut numbers, &list.set);
     let mut outputs = Vec::new();
@@ -35,8 +40,7 @@ pub fn played(subject: &dyn Subject, list: &List) -> Vec<Vec<u8>> {
 /// A list and its outputs.
 type Played = (List, Vec<Vec<u8>>);
 
-/// Judges the next list that nobody has taken, until none is left or one lies
-/// beyond the bound.
+/// Judges the next list that nobody has taken, until none is left or one lies beyond the bound.
 fn judge_in_turn(every: &[Played], next: &AtomicUsize) -> Result<Distances, Difference> {
     let mut distances = Distances::default();
     while let Some((list, outputs)) = every.get(next.fetch_add(1, Ordering::Relaxed)) {
@@ -68,4 +72,44 @@ pub fn from_the_exact(subject: &dyn Subject) -> Outcome {
     let every: Vec<Played> = lists().into_iter().map(play).collect();
     let distances = judge_all(&every)?;
     Ok(Tally { answers: distances.judged, distances, ..Tally::default() })
+}
+
+/// Levels rising, and soft noise that limits nothing; the bound stays under 1.
+fn list() -> List {
+    let mut maker = Maker::new(ONE_STEP_SEED);
+    let mut calls: Vec<Call> = (0..11).map(|band| Call::Order(maker.level(band))).collect();
+    for _ in 0..3 {
+        let input = Sound::Soft(14).block(20, &mut maker.random);
+        calls.push(Call::block(input));
+        calls.push(Call::Order(maker.order()));
+    }
+    let set = house_set();
+    List { set, calls }
+}
+
+/// True where the list is found with this sample moved by one step.
+fn is_found(list: &List, outputs: &[Vec<u8>], [block, at]: [usize; 2], step: i16) -> bool {
+    let mut moved = outputs.to_vec();
+    let sample = &mut moved[block][at..at + 2];
+    let number = i16::from_le_bytes([sample[0], sample[1]]);
+    sample.copy_from_slice(&number.wrapping_add(step).to_le_bytes());
+    judge(list, &moved).is_err()
+}
+
+/// Every sample must be found when moved away from the exact sound, which is one step up or one step down.
+pub fn found_everywhere() -> Outcome {
+    let list = list();
+    let outputs = played(&Fast, &list);
+    judge(&list, &outputs)?;
+    let mut tally = Tally::default();
+    for (block, output) in outputs.iter().enumerate() {
+        for at in (0..output.len()).step_by(2) {
+            let place = [block, at];
+            if ![1, -1].iter().any(|&step| is_found(&list, &outputs, place, step)) {
+                return Err(format!("a sample one step away isn't found: byte {at} of block {block}"));
+            }
+            tally.answers += 1;
+        }
+    }
+    Ok(tally)
 }

@@ -15,8 +15,7 @@ const PLAIN: Band = [2_097_153, 0, 0];
 /// The house set's band of 16,000 Hz.
 const HIGH: Band = [1_338_847, 1_510_783, -3_720_492];
 
-/// Bands that hold a result near 2^21 by their rounding: what they lose in a
-/// step is a half, and no more than that.
+/// Bands that hold a result near 2^21 by their rounding: what they lose in a step is a half, and no more than that.
 const CLINGING: [Band; 4] = [
     [2_097_152, 4_194_303, 8_388_606],
     [2_097_152, 0, 4_194_303],
@@ -40,8 +39,7 @@ fn silence(frames: usize) -> Call {
     Call::block(vec![0; 4 * frames])
 }
 
-/// A first sample, then its opposite or zero, both in turn: x - x2 is zero from
-/// the third frame on.
+/// A first sample, then its opposite or zero, both in turn: x - x2 is zero from the third frame on.
 fn held(first: i16, second: i16, frames: usize) -> Call {
     let pair = [first, first, second, second].map(i16::to_le_bytes);
     let bytes: Vec<u8> = pair.concat().repeat(frames / 2);
@@ -76,8 +74,7 @@ impl Maker {
         List { set, calls }
     }
 
-    /// Noise after so many silent frames in which the levels rise; the volume
-    /// is at its highest after 20,021.
+    /// Noise after so many silent frames in which the levels rise; the volume is at its highest after 20,021.
     fn risen(&mut self, band: Band, gain: f32, rise: usize, frames: usize) -> List {
         let mut calls = levels(gain);
         calls.push(silence(rise));

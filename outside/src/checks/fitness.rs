@@ -1,24 +1,27 @@
-//! Which units are fit, and blocks on unfit ones: "an unfit one is 14, and unit
-//! and output are unchanged."
+//! Which units are fit, and blocks on unfit ones: "an unfit one is 14, and unit and output are unchanged."
 
 use super::refusals::wrong_numbers;
-use super::same_block::{marks, same_block};
-use super::units::{kind, random_fit, Kind, Sets};
-use super::{same, Difference, Outcome, Tally};
+use super::run::{Checked, Outcome, Run, Subject};
+use super::same_block::marks;
+use super::units::{kind, Kind};
 use crate::random::Random;
-use crate::reference::house_set;
-use crate::subject::Subject;
-use crate::unit::{cleared, exact, Numbers, BANDS, UNFIT};
+use crate::unit::{exact, house_unit, Numbers, BANDS, UNFIT};
 
 pub const FITNESS_SEED: u64 = 0xF0DD_0013;
 
-/// Lengths of input and output: right ones, and those that are 5, 6 or both
-/// for a fit unit.
+/// Lengths of input and output: right ones, and those that are 5, 6 or both for a fit unit.
 const LENGTHS: [(usize, usize); 6] = [(0, 0), (4, 4), (8, 11), (3, 8), (8, 7), (7, 2)];
 
 /// The B that goes with a coefficient's place.
 fn b_beside(numbers: &Numbers, place: usize) -> i32 {
     numbers[BANDS + (place - BANDS) / 3 * 3 + 1]
+}
+
+/// A unit with another number at this place.
+pub fn with(numbers: &Numbers, place: usize, number: i32) -> Numbers {
+    let mut changed = *numbers;
+    changed[place] = number;
+    changed
 }
 
 /// Numbers that no accepted sheet could carry at this place.
@@ -54,8 +57,7 @@ pub fn edge_numbers(numbers: &Numbers, place: usize) -> Vec<i32> {
     }
 }
 
-/// A fit unit with one number unfit or several. A wrong B can make a wrong G
-/// beside it right, never itself.
+/// A fit unit with one number unfit or several. A wrong B can make a wrong G beside it right, never itself.
 pub fn spoilt(numbers: &Numbers, random: &mut Random) -> Numbers {
     let mut spoilt = *numbers;
     for _ in 0..=random.below(5) {
@@ -65,82 +67,59 @@ pub fn spoilt(numbers: &Numbers, random: &mut Random) -> Numbers {
     spoilt
 }
 
-/// The comparison under way.
-struct Run<'a> {
-    subject: &'a dyn Subject,
-    random: Random,
-    tally: Tally,
+fn fit(run: &mut Run, numbers: &Numbers, expected: bool) -> Checked {
+    let got = run.subject.unit_fit(numbers);
+    run.same(u32::from(expected), got, || format!("fitness of the unit {numbers:?}"))
 }
 
-impl Run<'_> {
-    fn fit(&mut self, numbers: &Numbers, expected: bool) -> Result<(), Difference> {
-        let got = self.subject.unit_fit(numbers);
-        same(&mut self.tally, u32::from(expected), got, || format!("fitness of the unit {numbers:?}"))
+/// An unfit unit: 0, and each block on it 14 with nothing changed.
+fn unfit(run: &mut Run, numbers: &Numbers) -> Checked {
+    fit(run, numbers, false)?;
+    for (length, room) in LENGTHS {
+        let input = vec![0x55; length];
+        let (mut after, mut output) = (*numbers, marks(room));
+        run.block(&mut after, &input, room)?;
+        let answer = run.subject.block(&mut after, &input, &mut output);
+        run.same((UNFIT, *numbers, marks(room)), (answer, after, output), || "block on an unfit unit".to_string())?;
     }
+    Ok(())
+}
 
-    /// An unfit unit: 0, and each block on it 14 with nothing changed.
-    fn unfit(&mut self, numbers: &Numbers) -> Result<(), Difference> {
-        self.fit(numbers, false)?;
-        for (length, room) in LENGTHS {
-            let input = vec![0x55; length];
-            let mut after = *numbers;
-            same_block(self.subject, &mut after, &input, room, &mut self.tally)?;
-            let mut output = marks(room);
-            let answer = self.subject.block(&mut after, &input, &mut output);
-            same(&mut self.tally, (UNFIT, *numbers, marks(room)), (answer, after, output), || {
-                "block on an unfit unit".to_string()
-            })?;
+/// Each number of a fit unit in turn unfit in every way, and at its edges.
+fn each_number(run: &mut Run, numbers: &Numbers) -> Checked {
+    for place in 0..118 {
+        for number in unfit_numbers(numbers, place) {
+            unfit(run, &with(numbers, place, number))?;
         }
-        Ok(())
-    }
-
-    /// Each number of a fit unit in turn unfit in every way, and at its edges.
-    fn each_number(&mut self, numbers: &Numbers) -> Result<(), Difference> {
-        for place in 0..118 {
-            for number in unfit_numbers(numbers, place) {
-                let mut spoilt = *numbers;
-                spoilt[place] = number;
-                self.unfit(&spoilt).map_err(|difference| format!("number {place}, {number}: {difference}"))?;
-            }
-            for number in edge_numbers(numbers, place) {
-                let mut edge = *numbers;
-                edge[place] = number;
-                self.fit(&edge, true)?;
-                same_block(self.subject, &mut edge, &[0x7F; 8], 9, &mut self.tally)?;
-            }
+        for number in edge_numbers(numbers, place) {
+            let mut edge = with(numbers, place, number);
+            fit(run, &edge, true)?;
+            run.block(&mut edge, &[0x7F; 8], 9)?;
         }
-        Ok(())
     }
-
-    /// Several numbers unfit at once.
-    fn several(&mut self, numbers: &Numbers) -> Result<(), Difference> {
-        let spoilt = spoilt(numbers, &mut self.random);
-        self.unfit(&spoilt)
-    }
+    Ok(())
 }
 
 pub fn units(subject: &dyn Subject) -> Outcome {
-    let mut run = Run { subject, random: Random::new(FITNESS_SEED), tally: Tally::default() };
-    let sets = Sets::all();
-    run.fit(&cleared(&house_set()), true)?;
-    run.each_number(&cleared(&house_set()))?;
+    let run = &mut Run::new(subject, FITNESS_SEED);
+    fit(run, &house_unit(), true)?;
+    each_number(run, &house_unit())?;
     for turn in 0..10_000 {
-        let set = sets.draw(turn, &mut run.random);
-        let numbers = random_fit(&set, &mut run.random);
-        run.fit(&numbers, true)?;
-        run.several(&numbers)?;
+        let numbers = run.fit_unit(turn);
+        fit(run, &numbers, true)?;
+        let several = spoilt(&numbers, &mut run.random);
+        unfit(run, &several)?;
         if turn < 20 {
-            run.each_number(&numbers)?;
+            each_number(run, &numbers)?;
         }
     }
     for turn in 0..50_000 {
-        let set = sets.draw(turn, &mut run.random);
-        let mut numbers = random_fit(&set, &mut run.random);
+        let numbers = run.fit_unit(turn);
         let place = run.random.below(118) as usize;
-        numbers[place] = run.random.between(-8_400_000, 8_400_000);
-        run.fit(&numbers, exact::fit(&numbers))?;
+        let changed = with(&numbers, place, run.random.between(-8_400_000, 8_400_000));
+        fit(run, &changed, exact::fit(&changed))?;
         let anything = [(); 118].map(|()| run.random.any_i32());
-        run.fit(&anything, exact::fit(&anything))?;
+        fit(run, &anything, exact::fit(&anything))?;
     }
     Ok(run.tally)
 }

@@ -1,10 +1,10 @@
 //! The groups of tests by name.
 
-use super::{arithmetic, bands, figures, refusals, steps, Outcome};
-use super::{block_refusals, blocks, cuts, fitness, levels, loads};
-use super::{call_lists, distance, distance_lists, factors, orders};
-use super::{preview_lengths, preview_refusals, previews};
-use super::{sheet_damage, sheet_fields, sheet_lengths, sheet_lines, sheet_lists, sheets};
+use super::{
+    arithmetic, bands, blocks, call_lists, distance, distance_lists, factors, figures, fitness, levels, loads,
+};
+use super::{orders, preview_refusals, previews, refusals, sheet_damage, sheet_fields, sheet_lengths, sheet_lines};
+use super::{sheets, steps, Outcome};
 use crate::subject::Subject;
 
 /// A group of tests: its name, what it compares, the seed of its random numbers and what it runs.
@@ -56,9 +56,9 @@ groups! {
         "long sounds on cleared, loud, random and half-making units";
     FRAMES: blocks::frames [blocks::FRAMES_SEED], "frames",
         "single frames on random units";
-    CUTS: cuts::sizes_and_cuts [cuts::CUTS_SEED], "cuts",
+    CUTS: blocks::sizes_and_cuts [blocks::CUTS_SEED], "cuts",
         "blocks of 0 to 64 frames, and one sound cut in several ways";
-    REFUSED_BLOCKS: block_refusals::lengths [block_refusals::BLOCK_REFUSALS_SEED], "refused blocks",
+    REFUSED_BLOCKS: blocks::lengths [blocks::BLOCK_REFUSALS_SEED], "refused blocks",
         "input and output of every small length and of larger ones";
     UNIT_FIGURES: figures::of_units, "unit figures",
         "those that document 01 gives for a unit";
@@ -86,12 +86,12 @@ groups! {
         "each byte changed; two bytes, several fields; bytes put in or left out";
     SHEET_LENGTHS: sheet_lengths::wrong [sheet_lengths::LENGTHS_SEED], "sheet lengths",
         "sheets cut short at every byte, and too long";
-    SHEET_LISTS: sheet_lists::carried_on [sheet_lists::SHEET_LISTS_SEED], "lists through sheets",
+    SHEET_LISTS: call_lists::carried_on [call_lists::SHEET_LISTS_SEED], "lists through sheets",
         "units that orders and blocks lead to, written and read back";
 
     PREVIEWS: previews::lists [previews::PREVIEWS_SEED], "previews",
         "lists of house, random, slow and extreme bands, up to a million words a list";
-    PREVIEW_LENGTHS: preview_lengths::lengths [preview_lengths::PREVIEW_LENGTHS_SEED], "preview lengths",
+    PREVIEW_LENGTHS: previews::lengths [previews::PREVIEW_LENGTHS_SEED], "preview lengths",
         "lists of every small length and of larger ones, buffers shorter and longer";
     REFUSED_PREVIEWS: preview_refusals::calls [preview_refusals::PREVIEW_REFUSALS_SEED], "refused previews",
         "band, buffer and words wrong alone and together, a wrong word at each place";

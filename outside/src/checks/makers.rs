@@ -67,8 +67,8 @@ impl Maker {
         }
     }
 
-    /// A block of this sound with a few bytes of room behind it; one in eight
-    /// is cut short, one in eight has too little room.
+    /// A block of this sound with a few bytes of room behind it; one in eight is cut short, one in eight has too little
+    /// room.
     pub fn block(&mut self, sound: Sound, frames: usize) -> Call {
         let mut input = sound.block(frames, &mut self.random);
         let random = &mut self.random;
@@ -88,12 +88,11 @@ impl Maker {
     pub fn sound(&mut self) -> Sound {
         match self.random.below(2) {
             0 => Sound::Soft(self.random.between(4, 15) as u32),
-            _ => self.random.pick(&SOUNDS),
+            _ => self.random.pick(SOUNDS),
         }
     }
 
-    /// Orders and blocks of up to so many frames in any order; every level is
-    /// set first where `levels` says so.
+    /// Orders and blocks of up to so many frames in any order; every level is set first where `levels` says so.
     pub fn list(&mut self, set: [i32; 30], levels: bool, calls: usize, frames: u64) -> List {
         let mut list = Vec::new();
         if levels {

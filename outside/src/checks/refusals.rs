@@ -1,9 +1,7 @@
 //! Steps that are refused: which number, the result 0, the section unchanged.
 
-use super::{same, same_step, Difference, Outcome, Tally};
-use crate::random::Random;
+use super::run::{Checked, Outcome, Run, Subject};
 use crate::reference::{pack, Section, NO_WORD, REFUSED_A, REFUSED_B, REFUSED_G};
-use crate::subject::Subject;
 
 pub const REFUSALS_SEED: u64 = 0xF0DD_0007;
 
@@ -19,8 +17,7 @@ const FIT_CALLS: [Call; 5] = [
     [4_194_304, 2_000_000, 3_000_000, -700_000, 800_000, -900_000, 1_000_000, 256_000],
 ];
 
-/// Numbers outside the range of one place of a call, by one and by far. Those
-/// of G are outside beside this accepted B.
+/// Numbers outside the range of one place of a call, by one and by far. Those of G are outside beside this accepted B.
 pub fn wrong_numbers(b: i32, place: usize) -> Vec<i32> {
     let edge = 4_194_304 + b;
     let mut wrong = match place {
@@ -33,9 +30,8 @@ pub fn wrong_numbers(b: i32, place: usize) -> Vec<i32> {
     wrong
 }
 
-/// The number that a call with these wrong places must give: 8 to 10 by the
-/// band, then 15.
-fn number_for(places: u32) -> u32 {
+/// The number that a call with these wrong places must give: 8 to 10 by the band, then 15.
+pub fn number_for(places: u32) -> u32 {
     match places {
         _ if places & 1 != 0 => REFUSED_A,
         _ if places & 2 != 0 => REFUSED_B,
@@ -44,52 +40,47 @@ fn number_for(places: u32) -> u32 {
     }
 }
 
-/// One refused call: compared with the reference, and its answer and the
-/// unchanged section as document 01 states them.
-fn refused(subject: &dyn Subject, call: Call, number: u32, tally: &mut Tally) -> Result<(), Difference> {
-    let [a, b, g, x1, x2, y1, y2, x] = call;
-    let before: Section = [a, b, g, x1, x2, y1, y2];
-    let mut section = before;
-    same_step(subject, &mut section, x, tally)?;
-    let mut section = before;
-    let answer = subject.section_step(&mut section, x);
-    same(tally, (pack(number, false, 0), before), (answer, section), || {
-        format!("refused step of {before:?} with x = {x}")
-    })
+/// Accepted numbers that begin A, B, G, with the wrong number of this turn in each of these places.
+pub fn spoil<const N: usize>(fit: &[i32; N], places: u32, mut turn: impl FnMut(usize) -> usize) -> [i32; N] {
+    let mut spoilt = *fit;
+    for place in (0..N).filter(|place| places & (1 << place) != 0) {
+        let wrong = wrong_numbers(fit[1], place);
+        spoilt[place] = wrong[turn(place) % wrong.len()];
+    }
+    spoilt
 }
 
-/// A call with the wrong number of this turn in each of these places.
-fn spoil(fit: &Call, places: u32, mut turn: impl FnMut(usize) -> usize) -> Call {
-    let mut call = *fit;
-    for (place, number) in call.iter_mut().enumerate() {
-        if places & (1 << place) != 0 {
-            let wrong = wrong_numbers(fit[1], place);
-            *number = wrong[turn(place) % wrong.len()];
-        }
-    }
-    call
+/// One refused call: compared with the reference, and its answer and the unchanged section as document 01 states them.
+fn refused(run: &mut Run, call: Call, number: u32) -> Checked {
+    let [a, b, g, x1, x2, y1, y2, x] = call;
+    let before: Section = [a, b, g, x1, x2, y1, y2];
+    run.step(&mut before.clone(), x)?;
+    let mut section = before;
+    let answer = run.subject.section_step(&mut section, x);
+    run.same((pack(number, false, 0), before), (answer, section), || format!("step of {before:?} with x = {x}"))
 }
 
 pub fn steps(subject: &dyn Subject) -> Outcome {
-    let mut tally = Tally::default();
-    let mut random = Random::new(REFUSALS_SEED);
+    let mut run = Run::new(subject, REFUSALS_SEED);
     for fit in &FIT_CALLS {
         for places in 1..256_u32 {
             for turn in 0..20 {
                 let call = spoil(fit, places, |place| turn + turn / 10 * place);
-                refused(subject, call, number_for(places), &mut tally)?;
+                refused(&mut run, call, number_for(places))?;
             }
             for _ in 0..100 {
-                let call = spoil(fit, places, |_| random.below(1 << 20) as usize);
-                refused(subject, call, number_for(places), &mut tally)?;
+                let call = spoil(fit, places, |_| run.random.below(1 << 20) as usize);
+                refused(&mut run, call, number_for(places))?;
             }
         }
     }
     for _ in 0..300_000 {
-        let mut section = [(); 7].map(|()| random.any_i32());
-        same_step(subject, &mut section, random.any_i32(), &mut tally)?;
-        let mut section = [(); 7].map(|()| random.between(-8_400_000, 8_400_000));
-        same_step(subject, &mut section, random.word(), &mut tally)?;
+        let mut section = [(); 7].map(|()| run.random.any_i32());
+        let x = run.random.any_i32();
+        run.step(&mut section, x)?;
+        let mut section = [(); 7].map(|()| run.random.between(-8_400_000, 8_400_000));
+        let x = run.random.word();
+        run.step(&mut section, x)?;
     }
-    Ok(tally)
+    Ok(run.tally)
 }

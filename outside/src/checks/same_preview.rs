@@ -1,75 +1,51 @@
-//! A list previewed by the exact reference and by a subject, and compared; and
-//! the preview held against the same subject's section.
+//! A list previewed by the exact reference and by a subject, and compared; and the preview held against the same
+//! subject's section.
 
 use super::bands::Band;
+use super::counts::counts;
+use super::run::{briefly, same_left, Checked, Run, Subject};
 use super::tally::Steps;
-use super::{same, Difference, Tally};
-use crate::preview::{exact, RESULTS_TOO_SHORT};
+use super::Tally;
+use crate::preview::exact;
 use crate::random::Random;
 use crate::reference::{exact::sum, unpack, Section, ACCEPTED, WORD_MAX, WORD_MIN};
-use crate::reference::{REFUSED_A, REFUSED_B, REFUSED_G};
-use crate::subject::Subject;
 
 /// What the previews met.
 #[derive(Clone, Copy, Default)]
 pub struct Previews {
-    /// Accepted lists, the empty ones among them, and the words of all.
-    pub accepted: u64,
-    pub empty: u64,
+    /// Accepted lists of no words, and the words of all accepted lists.
+    empty: u64,
     pub words: u64,
     /// What the words met.
-    pub steps: Steps,
+    steps: Steps,
     /// Words with S below zero and the result 0: minus zero, in floats.
-    pub zeros_from_below: u64,
-    /// Lists refused with 6, 8, 9, 10 and 15.
-    pub refused: [u64; 5],
+    zeros_from_below: u64,
+    /// Lists by their refusal; accepted ones at 0.
+    refused: [u64; 16],
+}
+
+counts! { Previews:
+    "accepted previews" => (refused[0]),
+    "accepted previews of nothing" => (empty),
+    "words previewed" => (words),
+    "previews limited at the upper end" => (steps.high),
+    "previews limited at the lower end" => (steps.low),
+    "halves of previews rounded up" => (steps.halves.up),
+    "halves of previews rounded down" => (steps.halves.down),
+    "previews rounded up to zero" => (zeros_from_below),
+    "previews refused with 6" => (refused[6]),
+    "previews refused with 8" => (refused[8]),
+    "previews refused with 9" => (refused[9]),
+    "previews refused with 10" => (refused[10]),
+    "previews refused with 15" => (refused[15]),
 }
 
 impl Previews {
-    pub fn add(&mut self, other: &Previews) {
-        self.accepted += other.accepted;
-        self.empty += other.empty;
-        self.words += other.words;
-        self.steps.add(&other.steps);
-        self.zeros_from_below += other.zeros_from_below;
-        for (sum, count) in self.refused.iter_mut().zip(other.refused) {
-            *sum += count;
-        }
-    }
-
-    /// What a comparison must reach, by name.
-    pub fn reached(&self) -> [(&'static str, u64); 13] {
-        let steps = &self.steps;
-        let [of_6, of_8, of_9, of_10, of_15] = self.refused;
-        [
-            ("accepted previews", self.accepted),
-            ("accepted previews of nothing", self.empty),
-            ("words previewed", self.words),
-            ("previews limited at the upper end", steps.high),
-            ("previews limited at the lower end", steps.low),
-            ("halves of previews rounded up", steps.halves.up),
-            ("halves of previews rounded down", steps.halves.down),
-            ("previews rounded up to zero", self.zeros_from_below),
-            ("previews refused with 6", of_6),
-            ("previews refused with 8", of_8),
-            ("previews refused with 9", of_9),
-            ("previews refused with 10", of_10),
-            ("previews refused with 15", of_15),
-        ]
-    }
-
     fn count_call(&mut self, words: &[i32], refusal: u32) {
-        match refusal {
-            ACCEPTED => {
-                self.accepted += 1;
-                self.empty += u64::from(words.is_empty());
-                self.words += words.len() as u64;
-            }
-            RESULTS_TOO_SHORT => self.refused[0] += 1,
-            REFUSED_A => self.refused[1] += 1,
-            REFUSED_B => self.refused[2] += 1,
-            REFUSED_G => self.refused[3] += 1,
-            _ => self.refused[4] += 1,
+        self.refused[refusal as usize] += 1;
+        if refusal == ACCEPTED {
+            self.empty += u64::from(words.is_empty());
+            self.words += words.len() as u64;
         }
     }
 
@@ -83,33 +59,27 @@ impl Previews {
 /// A results buffer of so many entries, many of them no words.
 pub fn buffer(room: usize, random: &mut Random) -> Vec<i32> {
     const KNOWN: [i32; 6] = [i32::MIN, i32::MAX, WORD_MIN - 1, WORD_MAX + 1, 0, -1];
-    let mut entry = || match random.below(3) {
+    let entry = |_| match random.below(3) {
         0 => random.pick(&KNOWN),
         1 => random.word(),
         _ => random.any_i32(),
     };
-    (0..room).map(|_| entry()).collect()
+    (0..room).map(entry).collect()
 }
 
-/// Previews a list with the exact reference and with the subject into copies of
-/// the lent buffer. Compares the answer and every entry, those past the results
-/// too; accepted results are compared with the subject's section as well.
-pub fn same_preview(
-    subject: &dyn Subject,
-    band: Band,
-    words: &[i32],
-    lent: &[i32],
-    tally: &mut Tally,
-) -> Result<(), Difference> {
+/// A preview in words.
+fn what(band: Band, words: &[i32], room: usize) -> String {
+    format!("preview with A, B, G = {band:?} of words, {}, into {room}", briefly(words))
+}
+
+/// Previews a list with the exact reference and with the subject into copies of the lent buffer. Compares the answer
+/// and every entry, those past the results too; accepted results are compared with the subject's section as well.
+pub fn same_preview(subject: &dyn Subject, band: Band, words: &[i32], lent: &[i32], tally: &mut Tally) -> Checked {
     let (mut expected, mut got) = (lent.to_vec(), lent.to_vec());
     let met = &mut tally.previews;
-    let refusal = exact::preview(band, words, &mut expected, |before, x, answer| {
-        met.count_step(before, x, answer);
-    });
+    let refusal = exact::preview(band, words, &mut expected, |before, x, answer| met.count_step(before, x, answer));
     let answer = subject.preview(band, words, &mut got);
-    if refusal != answer || expected != got {
-        return Err(spell(band, words, [refusal, answer], [&expected, &got]));
-    }
+    same_left([refusal, answer], [&expected, &got], || what(band, words, lent.len()))?;
     tally.answers += 1;
     tally.previews.count_call(words, refusal);
     match refusal {
@@ -118,64 +88,44 @@ pub fn same_preview(
     }
 }
 
-/// Previews a list with the subject: the number must be this one, and all
-/// entries from this one on must be those that were lent.
-pub fn same_number(
+/// Steps the subject's own section over the words from a cleared start: each result of the preview must be its y.
+pub fn same_as_section(
     subject: &dyn Subject,
     band: Band,
     words: &[i32],
-    lent: &[i32],
-    (number, filled): (u32, usize),
-    tally: &mut Tally,
-) -> Result<(), Difference> {
-    let mut after = lent.to_vec();
-    let answer = subject.preview(band, words, &mut after);
-    let kept = after[filled..] == lent[filled..];
-    same(tally, (number, true), (answer, kept), || {
-        let what = what(band, words, lent.len());
-        format!("{what}, its number and whether entries from {filled} on are kept")
-    })
-}
-
-/// Steps the subject's own section over the words from a cleared start: each
-/// result of the preview must be its y.
-pub fn same_as_section(
-    subject: &dyn Subject,
-    [a, b, g]: Band,
-    words: &[i32],
     results: &[i32],
     tally: &mut Tally,
-) -> Result<(), Difference> {
+) -> Checked {
+    let [a, b, g] = band;
     let mut section = [a, b, g, 0, 0, 0, 0];
     for (place, (&x, &result)) in words.iter().zip(results).enumerate() {
         let before = section;
         let (status, y) = unpack(subject.section_step(&mut section, x));
         if status > 1 || y != result {
-            return Err(format!(
-                "place {place} of a list: the preview gives {result}, the section's step \
-                 of {before:?} with x = {x} gives {y}"
-            ));
+            let step = format!("the section's step of {before:?} with x = {x} gives {y}");
+            return Err(format!("place {place} of a list: the preview gives {result}, {step}"));
         }
     }
     tally.answers += 1;
     Ok(())
 }
 
-/// A preview in words.
-fn what(band: Band, words: &[i32], room: usize) -> String {
-    format!(
-        "preview with A, B, G = {band:?} of {} words beginning {:?} into {room}",
-        words.len(),
-        &words[..words.len().min(12)],
-    )
-}
-
-/// The inputs of a difference and the first entry that differs.
-fn spell(band: Band, words: &[i32], [refusal, answer]: [u32; 2], [right, wrong]: [&[i32]; 2]) -> Difference {
-    let what = what(band, words, right.len());
-    let mut text = format!("{what}: expected refusal {refusal}, got {answer}");
-    if let Some(n) = (0..right.len()).find(|&n| right[n] != wrong[n]) {
-        text += &format!("; entry {n} expected {}, got {}", right[n], wrong[n]);
+impl Run<'_> {
+    /// One list into a buffer of so many entries.
+    pub fn preview(&mut self, band: Band, words: &[i32], room: usize) -> Checked<Vec<i32>> {
+        let lent = buffer(room, &mut self.random);
+        same_preview(self.subject, band, words, &lent, &mut self.tally)?;
+        Ok(lent)
     }
-    text
+
+    /// One list into a buffer of so many entries, with its number as document 01 states it. All entries from the given
+    /// one on must be those that were lent.
+    pub fn stated_preview(&mut self, band: Band, words: &[i32], room: usize, stated: (u32, usize)) -> Checked {
+        let lent = self.preview(band, words, room)?;
+        let (number, filled) = stated;
+        let mut after = lent.clone();
+        let answer = self.subject.preview(band, words, &mut after);
+        let kept = after[filled..] == lent[filled..];
+        self.same((number, true), (answer, kept), || format!("{}, entries kept", what(band, words, room)))
+    }
 }

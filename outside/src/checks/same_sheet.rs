@@ -1,56 +1,44 @@
 //! A sheet written or read by the reference and by a subject, and compared.
 
-use super::{same, Difference, Tally};
-use crate::reference::{ACCEPTED, REFUSED_A};
-use crate::subject::Subject;
+use super::counts::counts;
+use super::run::{same_left, Checked, Subject};
+use super::sheet_makers::SheetMaker;
+use super::sheet_texts::{badly_written, Field};
+use super::{same, Tally};
+use crate::reference::ACCEPTED;
 use crate::unit::sheet::{exact, SHEET};
 use crate::unit::Numbers;
+use std::fmt::Debug;
 
 /// What the sheets met.
 #[derive(Clone, Copy, Default)]
 pub struct Sheets {
-    pub written: u64,
+    written: u64,
     /// Not written for a short buffer, and for an unfit unit.
-    pub too_short: u64,
-    pub unfit: u64,
-    pub accepted: u64,
+    too_short: u64,
+    unfit: u64,
     /// Sheets that were accepted with a byte changed or several.
     pub accepted_changed: u64,
-    /// Sheets refused with 8 to 14.
-    pub refused: [u64; 7],
+    /// Sheets by their refusal; accepted ones at 0.
+    refused: [u64; 15],
+}
+
+counts! { Sheets:
+    "sheets written" => (written),
+    "sheets not written for a short buffer" => (too_short),
+    "sheets not written for an unfit unit" => (unfit),
+    "accepted sheets" => (refused[0]),
+    "accepted sheets with bytes changed" => (accepted_changed),
+    "sheets refused with 8" => (refused[8]),
+    "sheets refused with 9" => (refused[9]),
+    "sheets refused with 10" => (refused[10]),
+    "sheets refused with 11" => (refused[11]),
+    "sheets refused with 12" => (refused[12]),
+    "sheets refused with 13" => (refused[13]),
+    "sheets refused with 14" => (refused[14]),
 }
 
 impl Sheets {
-    pub fn add(&mut self, other: &Sheets) {
-        self.written += other.written;
-        self.too_short += other.too_short;
-        self.unfit += other.unfit;
-        self.accepted += other.accepted;
-        self.accepted_changed += other.accepted_changed;
-        for (sum, count) in self.refused.iter_mut().zip(other.refused) {
-            *sum += count;
-        }
-    }
-
-    /// What a comparison must reach, by name.
-    pub fn reached(&self) -> [(&'static str, u64); 12] {
-        let [of_8, of_9, of_10, of_11, of_12, of_13, of_14] = self.refused;
-        [
-            ("sheets written", self.written),
-            ("sheets not written for a short buffer", self.too_short),
-            ("sheets not written for an unfit unit", self.unfit),
-            ("accepted sheets", self.accepted),
-            ("accepted sheets with bytes changed", self.accepted_changed),
-            ("sheets refused with 8", of_8),
-            ("sheets refused with 9", of_9),
-            ("sheets refused with 10", of_10),
-            ("sheets refused with 11", of_11),
-            ("sheets refused with 12", of_12),
-            ("sheets refused with 13", of_13),
-            ("sheets refused with 14", of_14),
-        ]
-    }
-
     fn count_written(&mut self, written: usize, room: usize) {
         match written {
             SHEET => self.written += 1,
@@ -60,40 +48,39 @@ impl Sheets {
     }
 
     fn count_read(&mut self, refusal: u32) {
-        match refusal {
-            ACCEPTED => self.accepted += 1,
-            _ => self.refused[(refusal - REFUSED_A) as usize] += 1,
-        }
+        self.refused[refusal as usize] += 1;
     }
 }
 
 /// A form of the writer.
 pub type Writer = fn(&Numbers, &mut [u8]) -> usize;
 
-/// Writes a sheet with this form of the reference and with the subject into
-/// copies of the lent buffer. Compares the answer and every byte, and gives the
-/// buffer.
+/// Bytes in words.
+fn spell(bytes: &[u8]) -> String {
+    format!("sheet of {} bytes \"{}\"", bytes.len(), bytes.escape_ascii())
+}
+
+/// Writes a sheet with this form of the reference and with the subject into copies of the lent buffer. Compares the
+/// answer and every byte, and gives the buffer.
 pub fn same_write(
     subject: &dyn Subject,
     reference: Writer,
     numbers: &Numbers,
     lent: &[u8],
     tally: &mut Tally,
-) -> Result<Vec<u8>, Difference> {
+) -> Checked<Vec<u8>> {
     let (mut expected, mut got) = (lent.to_vec(), lent.to_vec());
     let written = reference(numbers, &mut expected);
     let answer = subject.sheet_write(numbers, &mut got);
-    if written != answer || expected != got {
-        return Err(spell_written(numbers, [written, answer], [&expected, &got]));
-    }
+    let inputs = || format!("writing the unit {numbers:?} into {} bytes", lent.len());
+    same_left([written, answer], [&expected, &got], inputs)?;
     tally.answers += 1;
     tally.sheets.count_written(written, lent.len());
     Ok(got)
 }
 
-/// Writes the sheet of a fit unit as `same_write` does, and reads it back with
-/// the subject into the given unit, which must then equal the first. The bytes
-/// behind the sheet must be those that were lent.
+/// Writes the sheet of a fit unit as `same_write` does, and reads it back with the subject into the given unit, which
+/// must then equal the first. The bytes behind the sheet must be those that were lent.
 pub fn same_back(
     subject: &dyn Subject,
     reference: Writer,
@@ -101,57 +88,70 @@ pub fn same_back(
     lent: &[u8],
     given: &Numbers,
     tally: &mut Tally,
-) -> Result<(), Difference> {
+) -> Checked {
     let buffer = same_write(subject, reference, numbers, lent, tally)?;
     let (sheet, behind) = buffer.split_at(SHEET);
     same(tally, &lent[SHEET..], behind, || format!("bytes behind the sheet of {numbers:?}"))?;
     let mut read = *given;
     let answer = subject.sheet_read(&mut read, sheet);
     tally.sheets.count_read(ACCEPTED);
-    same(tally, (ACCEPTED, *numbers), (answer, read), || format!("sheet \"{}\" read back", sheet.escape_ascii()))
+    same(tally, (ACCEPTED, *numbers), (answer, read), || format!("{} read back", spell(sheet)))
 }
 
-/// Reads a sheet with the exact reference and with the subject into copies of
-/// the given unit. Compares the answer and all 118 numbers, which a refusal
-/// leaves as they were; an accepted sheet is written again to the byte. Gives
-/// the answer.
-pub fn same_read(subject: &dyn Subject, given: &Numbers, bytes: &[u8], tally: &mut Tally) -> Result<u32, Difference> {
+/// Reads a sheet with the exact reference and with the subject into copies of the given unit. Compares the answer and
+/// all 118 numbers, which a refusal leaves as they were; an accepted sheet is written again to the byte. Gives the
+/// answer.
+pub fn same_read(subject: &dyn Subject, given: &Numbers, bytes: &[u8], tally: &mut Tally) -> Checked<u32> {
     let (mut expected, mut got) = (*given, *given);
     let refusal = exact::read(&mut expected, bytes);
     let answer = subject.sheet_read(&mut got, bytes);
-    let kept = refusal == ACCEPTED || got == *given;
-    if refusal != answer || expected != got || !kept {
-        return Err(spell_read(bytes, given, [refusal, answer], [&expected, &got]));
-    }
+    let inputs = || format!("{} read into the unit {given:?}", spell(bytes));
+    same_left([refusal, answer], [&expected, &got], inputs)?;
     tally.answers += 1;
     tally.sheets.count_read(refusal);
     if refusal == ACCEPTED {
         let mut again = vec![0; SHEET];
         let written = subject.sheet_write(&got, &mut again);
-        same(tally, (SHEET, bytes), (written, &again), || format!("sheet \"{}\" written again", bytes.escape_ascii()))?;
+        same(tally, (SHEET, bytes), (written, &again), || format!("{} written again", spell(bytes)))?;
+    } else {
+        same_left([answer; 2], [given, &got], inputs)?;
     }
     Ok(refusal)
 }
 
-/// The inputs of a difference and the first byte that differs.
-fn spell_written(numbers: &Numbers, [written, answer]: [usize; 2], [right, wrong]: [&[u8]; 2]) -> Difference {
-    let room = right.len();
-    let mut text = format!("writing the unit {numbers:?} into {room} bytes: expected {written}, got {answer}");
-    if let Some(n) = (0..room).find(|&n| right[n] != wrong[n]) {
-        text += &format!("; byte {n} expected {}, got {}", right[n], wrong[n]);
-    }
-    text
+/// The comparison of sheets under way.
+pub struct SheetRun<'a> {
+    pub subject: &'a dyn Subject,
+    pub maker: SheetMaker,
+    pub badly: Vec<Field>,
+    pub tally: Tally,
 }
 
-/// The inputs of a difference and the first number that differs.
-fn spell_read(bytes: &[u8], given: &Numbers, [refusal, answer]: [u32; 2], [right, wrong]: [&Numbers; 2]) -> Difference {
-    let mut text = format!(
-        "reading {} bytes \"{}\" into the unit {given:?}: expected refusal {refusal}, got {answer}",
-        bytes.len(),
-        bytes.escape_ascii(),
-    );
-    if let Some(n) = (0..118).find(|&n| right[n] != wrong[n]) {
-        text += &format!("; number {n} of the unit expected {}, got {}", right[n], wrong[n]);
+impl<'a> SheetRun<'a> {
+    pub fn new(subject: &'a dyn Subject, seed: u64) -> SheetRun<'a> {
+        SheetRun { subject, maker: SheetMaker::new(seed), badly: badly_written(), tally: Tally::default() }
     }
-    text
+
+    pub fn same<T: PartialEq + Debug>(&mut self, expected: T, got: T, bytes: &[u8]) -> Checked {
+        same(&mut self.tally, expected, got, || spell(bytes))
+    }
+
+    /// One sheet into a unit drawn for it.
+    pub fn read(&mut self, bytes: &[u8]) -> Checked<u32> {
+        let given = self.maker.given();
+        same_read(self.subject, &given, bytes, &mut self.tally)
+    }
+
+    /// One sheet, with its number as document 01 states it.
+    pub fn stated(&mut self, bytes: &[u8], number: u32) -> Checked {
+        let answer = self.read(bytes)?;
+        self.same(number, answer, bytes)
+    }
+
+    /// Reads into this unit with the subject alone: the answer and the numbers must be these.
+    pub fn leaves(&mut self, bytes: &[u8], given: &Numbers, expected: (u32, Numbers)) -> Checked {
+        let mut after = *given;
+        let answer = self.subject.sheet_read(&mut after, bytes);
+        self.same(expected, (answer, after), bytes)
+    }
 }

@@ -1,143 +1,119 @@
-//! Sheets with bytes changed anywhere: one byte, two, several fields, letters
-//! and line ends, and bytes put in or left out.
+//! Sheets with bytes changed anywhere: one byte, two, several fields, letters and line ends, and bytes put in or left
+//! out.
 
-use super::same_sheet::same_read;
-use super::sheet_figures::typed_sheets;
-use super::sheet_lines::{wrong_byte, WRONG_ENDS, WRONG_LETTERS};
-use super::sheet_makers::{sheet_of, SheetMaker};
-use super::sheet_places::{lines, Line};
-use super::sheet_texts::{any_field, badly_written, Field};
-use super::{Difference, Outcome, Tally};
-use crate::reference::{house_set, ACCEPTED};
-use crate::subject::Subject;
-use crate::unit::cleared;
-use crate::unit::sheet::{LINE_FEED, SHEET};
+use super::run::{Checked, Outcome, Subject};
+use super::same_sheet::SheetRun;
+use super::sheet_makers::sheet_of;
+use super::sheet_texts::any_field;
+use crate::figures::typed_sheets;
+use crate::reference::ACCEPTED;
+use crate::unit::house_unit;
+use crate::unit::sheet::places::lines;
+use crate::unit::sheet::SHEET;
 
 pub const DAMAGE_SEED: u64 = 0xF0DD_0022;
 
 /// What each byte is changed into, its neighbours and random bytes apart.
 const BYTES: &[u8] = b" -+09158\n\r\tVCLSRX/:\0\x7F\x80\xB0\xFF";
 
-/// The comparison under way.
-struct Run<'a> {
-    subject: &'a dyn Subject,
-    maker: SheetMaker,
-    lines: [Line; 33],
-    badly: Vec<Field>,
-    tally: Tally,
+/// Any place of a sheet.
+fn any_place(run: &mut SheetRun) -> usize {
+    run.maker.random.below(SHEET as u64) as usize
 }
 
-impl Run<'_> {
-    /// Any place of a sheet.
-    fn place(&mut self) -> usize {
-        self.maker.random.below(SHEET as u64) as usize
-    }
+fn read(run: &mut SheetRun, right: &[u8], sheet: &[u8]) -> Checked {
+    let answer = run.read(sheet)?;
+    run.tally.sheets.accepted_changed += u64::from(answer == ACCEPTED && right != sheet);
+    Ok(())
+}
 
-    fn read(&mut self, right: &[u8], sheet: &[u8]) -> Result<(), Difference> {
-        let given = self.maker.given();
-        let answer = same_read(self.subject, &given, sheet, &mut self.tally)?;
-        self.tally.sheets.accepted_changed += u64::from(answer == ACCEPTED && right != sheet);
-        Ok(())
-    }
-
-    /// Each byte in turn, changed into many others.
-    fn each_byte(&mut self, right: &[u8]) -> Result<(), Difference> {
-        for (place, &byte) in right.iter().enumerate() {
-            let mut others = BYTES.to_vec();
-            others.extend([byte.wrapping_sub(1), byte.wrapping_add(1)]);
-            others.extend([byte ^ 0x20, byte ^ 0x80]);
-            others.extend(self.maker.bytes(2));
-            let mut sheet = right.to_vec();
-            for other in others {
-                sheet[place] = other;
-                self.read(right, &sheet)?;
-            }
-        }
-        Ok(())
-    }
-
-    /// Two bytes, often close together.
-    fn two_bytes(&mut self, right: &[u8]) -> Result<(), Difference> {
+/// Each byte in turn, changed into many others.
+fn each_byte(run: &mut SheetRun, right: &[u8]) -> Checked {
+    for (place, &byte) in right.iter().enumerate() {
+        let beside = [byte.wrapping_sub(1), byte.wrapping_add(1), byte ^ 0x20, byte ^ 0x80];
         let mut sheet = right.to_vec();
-        let first = self.place();
-        let second = match self.maker.random.below(2) {
-            0 => (first + self.maker.random.below(40) as usize) % SHEET,
-            _ => self.place(),
-        };
-        for place in [first, second] {
-            let anything = self.maker.random.draw() as u8;
-            let byte = self.maker.random.pick(BYTES);
-            sheet[place] = self.maker.random.pick(&[byte, byte, anything]);
+        for other in [BYTES, &beside, &run.maker.bytes(2)].concat() {
+            sheet[place] = other;
+            read(run, right, &sheet)?;
         }
-        self.read(right, &sheet)
     }
+    Ok(())
+}
 
-    /// Several fields, letters and line ends, often of the same line.
-    fn several_parts(&mut self, right: &[u8]) -> Result<(), Difference> {
-        let mut sheet = right.to_vec();
-        let random = &mut self.maker.random;
-        let same_line = random.below(2) == 0;
-        let mut line = random.pick(&self.lines);
-        for _ in 0..=random.below(5) {
-            if !same_line {
-                line = random.pick(&self.lines);
-            }
-            match random.below(6) {
-                0 => sheet[line.begin] = wrong_byte(line.letter, WRONG_LETTERS, random),
-                1 => sheet[line.end()] = wrong_byte(LINE_FEED, WRONG_ENDS, random),
-                _ => {
-                    let field = line.field(random.below(line.count as u64) as usize);
-                    sheet[field].copy_from_slice(&any_field(&self.badly, random));
-                }
-            }
-        }
-        self.read(right, &sheet)
+/// Two bytes, often close together.
+fn two_bytes(run: &mut SheetRun, right: &[u8]) -> Checked {
+    let mut sheet = right.to_vec();
+    let first = any_place(run);
+    let second = match run.maker.random.below(2) {
+        0 => (first + run.maker.random.below(40) as usize) % SHEET,
+        _ => any_place(run),
+    };
+    for place in [first, second] {
+        let anything = run.maker.random.draw() as u8;
+        let byte = run.maker.random.pick(BYTES);
+        sheet[place] = run.maker.random.pick(&[byte, byte, anything]);
     }
+    read(run, right, &sheet)
+}
 
-    /// A byte put in and the last one dropped, a byte left out and one put
-    /// behind, two lines exchanged.
-    fn shifted(&mut self, right: &[u8]) -> Result<(), Difference> {
-        let (place, byte) = (self.place(), self.maker.random.pick(BYTES));
-        let mut longer = right.to_vec();
-        longer.insert(place, byte);
-        self.read(right, &longer[..SHEET])?;
-        let mut shorter = right.to_vec();
-        shorter.remove(place);
-        shorter.push(byte);
-        self.read(right, &shorter)?;
-        let [one, other] = [(); 2].map(|()| self.maker.random.pick(&self.lines));
-        let mut exchanged = right.to_vec();
-        if one.count == other.count {
-            exchanged[one.begin..=one.end()].copy_from_slice(&right[other.begin..=other.end()]);
-            exchanged[other.begin..=other.end()].copy_from_slice(&right[one.begin..=one.end()]);
+/// Several fields, letters and line ends, often of the same line.
+fn several_parts(run: &mut SheetRun, right: &[u8]) -> Checked {
+    let (mut sheet, lines) = (right.to_vec(), lines());
+    let random = &mut run.maker.random;
+    let same_line = random.below(2) == 0;
+    let mut line = random.pick(&lines);
+    for _ in 0..=random.below(5) {
+        if !same_line {
+            line = random.pick(&lines);
         }
-        self.read(right, &exchanged)
+        match random.below(6) {
+            0 => line.spoil_letter(&mut sheet, random),
+            1 => line.spoil_end(&mut sheet, random),
+            _ => {
+                let field = line.field(random.below(line.count as u64) as usize);
+                sheet[field].copy_from_slice(&any_field(&run.badly, random));
+            }
+        }
     }
+    read(run, right, &sheet)
+}
+
+/// A byte put in and the last one dropped, a byte left out and one put behind, two lines exchanged.
+fn shifted(run: &mut SheetRun, right: &[u8]) -> Checked {
+    let (place, byte) = (any_place(run), run.maker.random.pick(BYTES));
+    let mut longer = right.to_vec();
+    longer.insert(place, byte);
+    read(run, right, &longer[..SHEET])?;
+    let mut shorter = right.to_vec();
+    shorter.remove(place);
+    shorter.push(byte);
+    read(run, right, &shorter)?;
+    let [one, other] = [(); 2].map(|()| run.maker.random.pick(&lines()));
+    let mut exchanged = right.to_vec();
+    if one.count == other.count {
+        exchanged[one.begin..=one.end()].copy_from_slice(&right[other.begin..=other.end()]);
+        exchanged[other.begin..=other.end()].copy_from_slice(&right[one.begin..=one.end()]);
+    }
+    read(run, right, &exchanged)
 }
 
 pub fn anywhere(subject: &dyn Subject) -> Outcome {
-    let mut run = Run {
-        subject,
-        maker: SheetMaker::new(DAMAGE_SEED),
-        lines: lines(),
-        badly: badly_written(),
-        tally: Tally::default(),
-    };
+    let run = &mut SheetRun::new(subject, DAMAGE_SEED);
     for turn in 0..2_000 {
         let sheet = run.maker.sheet(turn);
         for _ in 0..50 {
-            run.two_bytes(&sheet)?;
-            run.several_parts(&sheet)?;
+            two_bytes(run, &sheet)?;
+            several_parts(run, &sheet)?;
         }
         for _ in 0..5 {
-            run.shifted(&sheet)?;
+            shifted(run, &sheet)?;
         }
     }
-    let mut right = vec![sheet_of(&cleared(&house_set()))];
+    let mut right = vec![sheet_of(&house_unit())];
     right.extend(typed_sheets());
     right.extend((1..13).map(|turn| run.maker.sheet(turn)));
     for sheet in right {
-        run.each_byte(&sheet)?;
+        each_byte(run, &sheet)?;
     }
     Ok(run.tally)
 }

@@ -1,33 +1,13 @@
-//! Fit units with numbers of every length, their sheets, and the units that a
-//! reading is given.
+//! Fit units with numbers of every length, their sheets, and the units that a reading is given.
 
 use super::fitness::spoilt;
 use super::units::{kind, Kind, Sets};
 use crate::random::Random;
-use crate::reference::{house_set, WORD_MAX, WORD_MIN};
+use crate::reference::{WORD_MAX, WORD_MIN};
 use crate::unit::sheet::{exact, SHEET};
-use crate::unit::{cleared, Numbers};
+use crate::unit::{cleared, house_unit, Numbers};
 
-/// What the numbers of a unit are like.
-#[derive(Clone, Copy)]
-enum Style {
-    /// As a cleared unit has them.
-    Cleared,
-    /// One digit.
-    Small,
-    /// Any count of digits, often the least or the most of that count.
-    Lengths,
-    /// At the ends of their ranges or beside them.
-    Ends,
-    /// Anywhere in their ranges.
-    Anywhere,
-    /// Each of another style.
-    Mixed,
-}
-
-const STYLES: [Style; 6] = [Style::Cleared, Style::Small, Style::Lengths, Style::Ends, Style::Anywhere, Style::Mixed];
-
-/// A number of any count of digits, brought into this range.
+/// A number of any count of digits, brought into this range; often the least or the most of that count.
 fn any_length([low, high]: [i32; 2], random: &mut Random) -> i32 {
     let least = random.pick(&[1, 10, 100, 1_000, 10_000, 100_000, 1_000_000, 10_000_000]);
     let any = random.between(least, 10 * least - 1);
@@ -36,20 +16,16 @@ fn any_length([low, high]: [i32; 2], random: &mut Random) -> i32 {
     (sign * size).clamp(low, high)
 }
 
-impl Style {
-    /// A number of this range.
-    fn number(self, [low, high]: [i32; 2], random: &mut Random) -> i32 {
-        match self {
-            Style::Cleared => 0,
-            Style::Small => random.between(-9, 9).clamp(low, high),
-            Style::Lengths => any_length([low, high], random),
-            Style::Ends => random.pick(&[low, low + 1, high - 1, high]).clamp(low, high),
-            Style::Anywhere => random.between(low, high),
-            Style::Mixed => {
-                let style = random.pick(&STYLES[..5]);
-                style.number([low, high], random)
-            }
-        }
+/// A number of this range, by its style: 0 cleared, 1 of one digit, 2 of any count of digits, 3 at the ends of the
+/// range or beside them, 4 anywhere, 5 of any of these.
+fn number(style: u64, [low, high]: [i32; 2], random: &mut Random) -> i32 {
+    match style {
+        0 => 0,
+        1 => random.between(-9, 9).clamp(low, high),
+        2 => any_length([low, high], random),
+        3 => random.pick(&[low, low + 1, high - 1, high]).clamp(low, high),
+        4 => random.between(low, high),
+        _ => number(random.below(5), [low, high], random),
     }
 }
 
@@ -85,24 +61,23 @@ impl SheetMaker {
         let anything = [(); 118].map(|()| maker.random.any_i32());
         maker.given.extend(fit);
         maker.given.extend(unfit);
-        maker.given.extend([anything, cleared(&house_set())]);
+        maker.given.extend([anything, house_unit()]);
         maker.bytes = (0..20_000).map(|_| maker.random.draw() as u8).collect();
         maker
     }
 
     /// A fit unit, by turns of each style.
     pub fn unit(&mut self, turn: u64) -> Numbers {
-        let style = STYLES[turn as usize % STYLES.len()];
-        if matches!(style, Style::Cleared) {
+        let style = turn % 6;
+        if style == 0 {
             return cleared(&self.sets.draw(turn / 6, &mut self.random));
         }
         let mut numbers = [0; 118];
         for place in 0..118 {
             let kind = kind(place);
             let before = if place == 0 { 0 } else { numbers[place - 1] };
-            let number = style.number(range(kind, before), &mut self.random);
-            let mask = if kind == Kind::Input { -256 } else { -1 };
-            numbers[place] = number & mask;
+            let number = number(style, range(kind, before), &mut self.random);
+            numbers[place] = if kind == Kind::Input { number & -256 } else { number };
         }
         numbers
     }

@@ -1,5 +1,4 @@
-//! What stands in damaged fields: text that is badly written, and numbers
-//! outside their ranges.
+//! What stands in damaged fields: text that is badly written, and numbers outside their ranges.
 
 use super::fitness::unfit_numbers;
 use crate::random::Random;
@@ -9,69 +8,18 @@ use std::ops::RangeInclusive;
 
 pub type Field = [u8; FIELD];
 
-/// "No leading zeros, no plus, minus only before a number that isn't 0"; blanks
-/// stand in front of a number and nowhere else.
-const BADLY_WRITTEN: [&Field; 56] = [
-    b"         ",
-    b"        -",
-    b"-        ",
-    b"       - ",
-    b"       --",
-    b"---------",
-    b"        +",
-    b"       +0",
-    b"       +1",
-    b"+       1",
-    b"+12345678",
-    b"      +-1",
-    b"      -+1",
-    b"       -0",
-    b"-       0",
-    b"-00000000",
-    b"       00",
-    b"       01",
-    b"      001",
-    b"  0008192",
-    b"000000000",
-    b"000000001",
-    b"012345678",
-    b"      -01",
-    b"-00000001",
-    b"1        ",
-    b"0        ",
-    b"       1 ",
-    b"       0 ",
-    b"      -1 ",
-    b"      0 0",
-    b"      1 1",
-    b"1       1",
-    b" 1     1 ",
-    b"      - 1",
-    b"-       1",
-    b"      --1",
-    b"      1-1",
-    b"       1-",
-    b"       0-",
-    b"123456-89",
-    b"       \t1",
-    b"\t\t\t\t\t\t\t\t1",
-    b"       1\t",
-    b"        \t",
-    b"       1\n",
-    b"       \r1",
-    b"\0\0\0\0\0\0\0\x001",
-    b"        \0",
-    b"       1\0",
-    b"        A",
-    b"        f",
-    b"       1F",
-    b"      0x1",
-    b"      1.0",
-    b"  1,024,0",
-];
+/// "No leading zeros, no plus, minus only before a number that isn't 0"; blanks stand in front of a number and nowhere
+/// else. Each field stands behind a bar.
+const BADLY_WRITTEN: &[u8] = b"\
+    |         |        -|-        |       - |       --|---------|        +|       +0|       +1|+       1\
+    |+12345678|      +-1|      -+1|       -0|-       0|-00000000|       00|       01|      001|  0008192\
+    |000000000|000000001|012345678|      -01|-00000001|1        |0        |       1 |       0 |      -1 \
+    |      0 0|      1 1|1       1| 1     1 |      - 1|-       1|      --1|      1-1|       1-|       0-\
+    |123456-89|       \t1|\t\t\t\t\t\t\t\t1|       1\t\
+    |        \t|       1\n|       \r1|\0\0\0\0\0\0\0\x001|        \0|       1\0\
+    |        A|        f|       1F|      0x1|      1.0|  1,024,0";
 
-/// Bytes beside the digits, digits with the eighth bit set, and others that are
-/// digits or blanks somewhere.
+/// Bytes beside the digits, digits with the eighth bit set, and others that are digits or blanks somewhere.
 fn no_digits() -> Vec<u8> {
     let mut bytes = vec![0x2F, 0x3A, 0xAF, 0xBA, 0xA0, 0x1F, 0x21, 0x85, 0x0B, 0x7F, 0xFF];
     bytes.extend(0xB0..=0xB9);
@@ -81,7 +29,8 @@ fn no_digits() -> Vec<u8> {
 
 /// Every badly written field of the tests.
 pub fn badly_written() -> Vec<Field> {
-    let mut fields: Vec<Field> = BADLY_WRITTEN.map(|field| *field).to_vec();
+    let texts = BADLY_WRITTEN[1..].split(|&byte| byte == b'|');
+    let mut fields: Vec<Field> = texts.map(|text| text.try_into().expect("nine columns")).collect();
     for byte in no_digits() {
         for number in [b"        7", b" -1234567"] {
             for place in [0, 1, 7, 8] {
@@ -98,18 +47,8 @@ pub fn badly_written() -> Vec<Field> {
 pub const NINE_COLUMNS: RangeInclusive<i32> = -99_999_999..=999_999_999;
 
 /// Numbers of eight columns and more, outside every range.
-pub const WIDE: [i32; 10] = [
-    10_000_000,
-    99_999_999,
-    100_000_000,
-    123_456_789,
-    999_999_744,
-    999_999_999,
-    -10_000_000,
-    -16_777_216,
-    -99_999_840,
-    -99_999_999,
-];
+const WIDE: [i32; 4] = [10_000_000, 99_999_999, 100_000_000, 123_456_789];
+const WIDEST: [i32; 6] = [999_999_744, 999_999_999, -10_000_000, -16_777_216, -99_999_840, -99_999_999];
 
 /// A number as it is written; it has at most nine columns.
 pub fn well_written(number: i32) -> Field {
@@ -117,11 +56,10 @@ pub fn well_written(number: i32) -> Field {
     text.try_into().expect("at most nine columns")
 }
 
-/// Numbers of nine columns at most that no accepted sheet could carry at this
-/// place.
+/// Numbers of nine columns at most that no accepted sheet could carry at this place.
 pub fn outside_numbers(numbers: &Numbers, place: usize) -> Vec<i32> {
     let mut outside = unfit_numbers(numbers, place);
-    outside.extend(WIDE);
+    outside.extend(WIDE.into_iter().chain(WIDEST));
     outside.retain(|number| NINE_COLUMNS.contains(number));
     outside
 }

@@ -1,78 +1,87 @@
-//! The sounds that blocks are played with.
+//! The sounds that blocks are played with, sections are stepped with and previews are given.
 
 use crate::random::Random;
+use crate::reference::{WORD_MAX, WORD_MIN};
 
-/// What a block of frames holds. Both sides hold the same kind, each its own.
+/// What a list of words or a block of samples holds. Both sides of a block hold the same kind, each its own.
 #[derive(Clone, Copy)]
 pub enum Sound {
-    /// Any samples.
+    /// Any numbers.
     Noise,
-    /// The two ends of a sample in turn, each held for so many frames; the
-    /// right is a frame behind the left.
+    /// Words as samples enter, "x = 256 × s".
+    Samples,
+    /// The two ends in turn, each held for so many places; the right is a place behind the left.
     Square(usize),
-    /// The two ends of a sample at random.
+    /// The two ends at random.
     Ends,
-    /// Samples from -2 to 2.
+    /// Numbers from -2 to 2.
     Faint,
     /// Any samples of so many bits.
     Soft(u32),
     /// Zeros.
     Silence,
-    /// Any samples for a third of the block, then zeros.
+    /// Any numbers for a third of the places, then zeros.
     ThenSilence,
-    /// One sample, then zeros.
-    Impulse(i16),
-    /// Any samples on one side (0 left, 1 right), zeros on the other.
+    /// One number, then zeros.
+    Impulse(i32),
+    /// Any numbers on one side (0 left, 1 right), zeros on the other.
     OneSide(usize),
 }
 
-pub const SOUNDS: [Sound; 14] = [
-    Sound::Noise,
-    Sound::Square(1),
-    Sound::Square(2),
-    Sound::Square(7),
-    Sound::Square(50),
-    Sound::Square(711),
-    Sound::Ends,
-    Sound::Faint,
-    Sound::Silence,
-    Sound::ThenSilence,
-    Sound::Impulse(i16::MAX),
-    Sound::Impulse(i16::MIN),
-    Sound::OneSide(0),
-    Sound::OneSide(1),
-];
+use Sound::{Ends, Faint, Impulse, Noise, OneSide, Samples, Silence, Square, ThenSilence};
 
-fn any_sample(random: &mut Random) -> i16 {
-    random.draw() as i16
-}
+/// The sounds of blocks, and those of lists of words.
+pub const SOUNDS: &[Sound] = [
+    [Noise, Square(1), Square(2), Square(7), Square(50), Square(711), Ends],
+    [Faint, Silence, ThenSilence, Impulse(i16::MAX as i32), Impulse(i16::MIN as i32), OneSide(0), OneSide(1)],
+]
+.as_flattened();
+pub const WORD_SOUNDS: &[Sound] = [
+    [Noise, Samples, Square(1), Square(2), Square(7), Square(50)],
+    [Square(711), Ends, Faint, ThenSilence, Impulse(WORD_MAX), Impulse(WORD_MIN)],
+]
+.as_flattened();
 
 impl Sound {
-    /// The sample of a side in a frame of a block of so many frames.
-    fn sample(self, side: usize, frame: usize, frames: usize, random: &mut Random) -> i16 {
+    /// The number at a place of a list of this length, on a side: between these ends, and drawn as `any` where it can
+    /// be any.
+    fn number(
+        self,
+        [side, place, length]: [usize; 3],
+        [low, high]: [i32; 2],
+        any: fn(&mut Random) -> i32,
+        random: &mut Random,
+    ) -> i32 {
         match self {
-            Sound::Noise => any_sample(random),
-            Sound::Square(hold) if ((frame + side) / hold) & 1 == 0 => i16::MAX,
-            Sound::Square(_) => i16::MIN,
-            Sound::Ends => random.pick(&[i16::MIN, i16::MAX]),
-            Sound::Faint => random.between(-2, 2) as i16,
-            Sound::Soft(bits) => any_sample(random) >> (16 - bits),
-            Sound::ThenSilence if frame < frames / 3 => any_sample(random),
-            Sound::Impulse(sample) if frame == 0 => sample,
-            Sound::OneSide(one) if side == one => any_sample(random),
+            Noise => any(random),
+            Samples => 256 * random.between(-32_768, 32_767),
+            Square(hold) if ((place + side) / hold) & 1 == 0 => high,
+            Square(_) => low,
+            Ends => random.pick(&[low, high]),
+            Faint => random.between(-2, 2),
+            Sound::Soft(bits) => any(random) >> (16 - bits),
+            ThenSilence if place < length / 3 => any(random),
+            Impulse(number) if place == 0 => number,
+            OneSide(one) if side == one => any(random),
             _ => 0,
         }
     }
 
+    /// The word at a place of a list of this length.
+    pub fn word(self, place: usize, length: usize, random: &mut Random) -> i32 {
+        self.number([0, place, length], [WORD_MIN, WORD_MAX], Random::word, random)
+    }
+
+    /// A list of so many words.
+    pub fn list(self, length: usize, random: &mut Random) -> Vec<i32> {
+        (0..length).map(|place| self.word(place, length, random)).collect()
+    }
+
     /// A block: "left then right, low byte first, four a frame".
     pub fn block(self, frames: usize, random: &mut Random) -> Vec<u8> {
-        let mut bytes = Vec::with_capacity(4 * frames);
-        for frame in 0..frames {
-            for side in 0..2 {
-                let sample = self.sample(side, frame, frames, random);
-                bytes.extend(sample.to_le_bytes());
-            }
-        }
-        bytes
+        let any = |random: &mut Random| i32::from(random.draw() as i16);
+        let places = (0..frames).flat_map(|frame| [[0, frame, frames], [1, frame, frames]]);
+        let mut sample = |place| self.number(place, [-32_768, 32_767], any, random) as i16;
+        places.flat_map(|place| sample(place).to_le_bytes()).collect()
     }
 }

@@ -40,14 +40,10 @@ impl Sets {
         Sets { extreme: extreme_accepted(), half: half_accepted() }
     }
 
-    /// By turns the house set, any accepted bands, bands at the corners of the
-    /// accepted ranges, bands of many exact halves, and all of these mixed.
+    /// By turns the house set, any accepted bands, bands at the corners of the accepted ranges, bands of many exact
+    /// halves, and all of these mixed.
     pub fn draw(&self, turn: u64, random: &mut Random) -> [i32; 30] {
-        let house = house_set();
-        if turn.is_multiple_of(5) {
-            return house;
-        }
-        let mut set = house;
+        let mut set = house_set();
         for band in set.chunks_exact_mut(3) {
             let which = if turn % 5 == 4 { random.below(4) } else { turn % 5 };
             let drawn = match which {
@@ -93,8 +89,8 @@ pub fn strips(numbers: &mut Numbers) -> impl Iterator<Item = &mut [i32]> {
     left.chain(right[STRIPS..].chunks_exact_mut(4))
 }
 
-/// A fit unit whose roundings often lie at a half: bands of multiples of 2^21,
-/// the volume at 2^22 or so, and gains of multiples of 2^22 or zero, at rest.
+/// A fit unit whose roundings often lie at a half: bands of multiples of 2^21, the volume at 2^22 or so, and gains of
+/// multiples of 2^22 or zero, at rest.
 pub fn half_unit(sets: &Sets, random: &mut Random) -> Numbers {
     let mut numbers = random_fit(&sets.draw(3, random), random);
     let volume = random.pick(&[1 << 21, 1 << 22, 3 << 21]);

@@ -1,8 +1,7 @@
 //! Whole numbers of any size and either sign.
 
-/// Two's complement in limbs of 64 bits, the lowest first; the top bit of the
-/// last limb is the sign. No limb at the end says only what the one before it
-/// says already, and zero has no limb.
+/// Two's complement in limbs of 64 bits, the lowest first; the top bit of the last limb is the sign. No limb at the end
+/// says only what the one before it says already, and zero has no limb.
 #[derive(Clone, Debug, Default, PartialEq, Eq)]
 pub struct Big {
     limbs: Vec<u64>,
@@ -46,16 +45,15 @@ impl Big {
         }
     }
 
-    /// Adds coefficient × other × 2^shift. The coefficient is at most 2^62 in
-    /// size, so that every product and its carry are under 2^127.
+    /// Adds coefficient × other × 2^shift. The coefficient is at most 2^62 in size, so that every product and its carry
+    /// are under 2^127.
     pub fn add_scaled(&mut self, coefficient: i64, other: &Big, shift: usize) {
         assert!(coefficient.unsigned_abs() <= 1 << 62);
         if coefficient == 0 || other.is_zero() {
             return;
         }
         let (words, bits) = (shift / 64, shift % 64);
-        // The product has at most 126 bits more than the other, the sum one
-        // more.
+        // The product has at most 126 bits more than the other, the sum one more.
         let room = self.limbs.len().max(words + other.limbs.len() + 2) + 1;
         self.limbs.resize(room, self.filler());
         let (mut carry, mut below) = (0_i128, 0);
@@ -87,8 +85,7 @@ impl Big {
         size
     }
 
-    /// About number / 2^places, for a number that isn't negative. No sample is
-    /// judged by it.
+    /// About number / 2^places, for a number that isn't negative. No sample is judged by it.
     pub fn approximately_over(&self, places: usize) -> f64 {
         let last = self.limbs.len().saturating_sub(3);
         let top = self.limbs[last..].iter().rev();

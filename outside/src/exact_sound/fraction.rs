@@ -26,8 +26,7 @@ impl Fraction {
     /// The sum of coefficient × fraction over all terms.
     pub fn sum(terms: &[(i64, &Fraction)]) -> Fraction {
         let counts = terms.iter().filter(|(coefficient, _)| *coefficient != 0);
-        let power = counts.clone().map(|(_, term)| term.power).max();
-        let power = power.unwrap_or(0);
+        let power = counts.clone().map(|(_, term)| term.power).max().unwrap_or(0);
         let mut numerator = Big::default();
         for (coefficient, term) in counts {
             let shift = 22 * (power - term.power);
@@ -51,13 +50,11 @@ impl Fraction {
     }
 
     pub fn compared_with(&self, other: &Fraction) -> Ordering {
-        let difference = Fraction::sum(&[(1, self), (-1, other)]).numerator;
-        if difference.is_zero() {
-            Ordering::Equal
-        } else if difference.is_negative() {
-            Ordering::Less
-        } else {
-            Ordering::Greater
+        let difference = Fraction::sum(&[(1, self), (-1, other)]);
+        match (difference.is_zero(), difference.is_negative()) {
+            (true, _) => Ordering::Equal,
+            (_, true) => Ordering::Less,
+            _ => Ordering::Greater,
         }
     }
 
@@ -72,8 +69,7 @@ impl Fraction {
         }
     }
 
-    /// About the number it stands for, which isn't negative. No sample is judged
-    /// by it.
+    /// About the number it stands for, which isn't negative. No sample is judged by it.
     pub fn approximately(&self) -> f64 {
         self.numerator.approximately_over(22 * self.power)
     }

@@ -1,12 +1,11 @@
-//! The distance of what a unit played from the exact sound. In every frame a
-//! side none of whose sections has limited is at most
-//! 1/2 + V / 2^32 + V × (sum of |g| × H) / 2^55 away.
+//! The distance of what a unit played from the exact sound. In every frame a side none of whose sections has limited is
+//! at most 1/2 + V / 2^32 + V × (sum of |g| × H) / 2^55 away.
 
 use super::fraction::Fraction;
-use super::limiting::Limiting;
 use super::response::Responses;
 use super::{ExactSound, ONE};
 use crate::calls::{Call, List};
+use crate::reference::{exact, unpack, Section};
 
 /// What the frames of lists were found to be. A frame counts once a side.
 #[derive(Clone, Copy, Default)]
@@ -16,15 +15,13 @@ pub struct Distances {
     pub limited: u64,
     /// Frames held to the bound.
     pub judged: u64,
-    /// Frames with a section limited up to then, and those of them that lie
-    /// beyond the bound.
+    /// Frames with a section limited up to then, and those of them that lie beyond the bound.
     pub skipped: u64,
     pub skipped_beyond: u64,
-    /// Judged frames farther away than 1/2 + V / 2^32, so that the part of the
-    /// sections is needed.
+    /// Judged frames farther away than 1/2 + V / 2^32, so that the part of the sections is needed.
     pub need_sections: u64,
-    /// The largest distance as a part of the bound, and the largest where the
-    /// part of the sections is more than the rest of the bound.
+    /// The largest distance as a part of the bound, and the largest where the part of the sections is more than the
+    /// rest of the bound.
     pub largest: f64,
     pub largest_of_sections: f64,
 }
@@ -54,25 +51,28 @@ impl Distances {
     }
 }
 
-/// Twice the distance of a sample and twice its bound, all × 2^54.
-struct Measured {
-    distance: Fraction,
-    /// 2^54 + V × 2^23.
-    outer: Fraction,
-    /// V × sum of |g| × H.
-    sections: Fraction,
-    /// Both of these.
-    bound: Fraction,
+/// The ten sections of both sides, stepped alone. Whether one has limited is "worked from the list by the rounding and
+/// limiting under Words and the section, and not read from the flag."
+struct Limiting {
+    sides: [[Section; 10]; 2],
+    /// Whether a section of a side has limited up to now.
+    limited: [bool; 2],
 }
 
-impl Measured {
-    fn is_beyond(&self) -> bool {
-        self.distance.compared_with(&self.bound).is_gt()
+impl Limiting {
+    fn new(set: &[i32; 30]) -> Limiting {
+        let side = std::array::from_fn(|n| [set[3 * n], set[3 * n + 1], set[3 * n + 2], 0, 0, 0, 0]);
+        Limiting { sides: [side; 2], limited: [false; 2] }
     }
 
-    /// Only printed, and held against what the lists must come to.
-    fn part_of_bound(&self) -> f64 {
-        self.distance.approximately() / self.bound.approximately()
+    /// A frame of an accepted block.
+    fn frame(&mut self, samples: [i16; 2]) {
+        for (place, sample) in samples.into_iter().enumerate() {
+            for section in &mut self.sides[place] {
+                let (status, _) = unpack(exact::step(section, 256 * i32::from(sample)));
+                self.limited[place] |= status == 1;
+            }
+        }
     }
 }
 
@@ -86,62 +86,38 @@ struct Judge {
 }
 
 impl Judge {
-    fn new(set: &[i32; 30]) -> Judge {
-        Judge {
-            sound: ExactSound::new(set),
-            responses: Responses::new(set),
-            limiting: Limiting::new(set),
-            frames: 0,
-            distances: Distances::default(),
-        }
-    }
-
-    /// None where the sample is the exact output.
-    fn measured(&self, side: usize, sample: i16) -> Option<Measured> {
+    /// Counts a sample that isn't the exact output. Beyond the bound it is a fault, unless its side has limited. Twice
+    /// the distance and twice the bound are reckoned, all × 2^54.
+    fn sample(&mut self, side: usize, sample: i16) -> Result<(), String> {
+        let distances = &mut self.distances;
+        let limited = self.limiting.limited[side];
+        distances.skipped += u64::from(limited);
+        distances.judged += u64::from(!limited);
         let (played, exact) = (Fraction::whole(sample.into()), self.sound.output(side));
         let distance = Fraction::sum(&[(2 * ONE, &played), (-2, &exact)]).size();
         if distance.is_zero() {
-            return None;
+            return Ok(());
         }
         let (volume, gains) = self.sound.levels(side);
-        let weights = gains.map(|gain| volume * gain.abs());
         let outer = Fraction::whole(ONE + (volume << 23));
-        let sections = self.responses.weighted(&weights);
+        let sections = self.responses.weighted(&gains.map(|gain| volume * gain.abs()));
         let bound = Fraction::sum(&[(1, &outer), (1, &sections)]);
-        Some(Measured { distance, outer, sections, bound })
-    }
-
-    /// Counts a sample of a side that has not limited, or says that it lies
-    /// beyond the bound.
-    fn judge(&mut self, side: usize, sample: i16) -> Result<(), String> {
-        self.distances.judged += 1;
-        let Some(measured) = self.measured(side, sample) else {
+        let is_beyond = distance.compared_with(&bound).is_gt();
+        if limited {
+            distances.skipped_beyond += u64::from(is_beyond);
             return Ok(());
-        };
-        let part = measured.part_of_bound();
-        if measured.is_beyond() {
-            return Err(format!(
-                "frame {} of a list, side {side}: the sample {sample} is {part} times the bound \
-                 away from the exact sound",
-                self.frames
-            ));
         }
-        let (distances, outer) = (&mut self.distances, &measured.outer);
-        let needed = measured.distance.compared_with(outer).is_gt();
-        distances.need_sections += u64::from(needed);
+        let part = distance.approximately() / bound.approximately();
+        if is_beyond {
+            let place = format!("frame {} of a list, side {side}", self.frames);
+            return Err(format!("{place}: the sample {sample} is {part} times the bound away from the exact sound"));
+        }
+        distances.need_sections += u64::from(distance.compared_with(&outer).is_gt());
         distances.largest = distances.largest.max(part);
-        if measured.sections.compared_with(outer).is_gt() {
+        if sections.compared_with(&outer).is_gt() {
             distances.largest_of_sections = distances.largest_of_sections.max(part);
         }
         Ok(())
-    }
-
-    /// Counts a sample of a side that has limited.
-    fn leave_out(&mut self, side: usize, sample: i16) {
-        let measured = self.measured(side, sample);
-        let beyond = measured.is_some_and(|measured| measured.is_beyond());
-        self.distances.skipped += 1;
-        self.distances.skipped_beyond += u64::from(beyond);
     }
 
     fn frame(&mut self, samples: [i16; 2], played: [i16; 2]) -> Result<(), String> {
@@ -149,14 +125,7 @@ impl Judge {
         self.sound.frame(samples);
         self.responses.grow();
         self.limiting.frame(samples);
-        for (side, sample) in played.into_iter().enumerate() {
-            if self.limiting.has_limited(side) {
-                self.leave_out(side, sample);
-            } else {
-                self.judge(side, sample)?;
-            }
-        }
-        Ok(())
+        (0..2).try_for_each(|side| self.sample(side, played[side]))
     }
 }
 
@@ -167,16 +136,17 @@ fn samples(frame: &[u8]) -> [i16; 2] {
 
 /// Judges a list by the outputs that its blocks handed back, in turn.
 pub fn judge(list: &List, outputs: &[Vec<u8>]) -> Result<Distances, String> {
-    let mut judge = Judge::new(&list.set);
+    let set = &list.set;
+    let (sound, responses, limiting) = (ExactSound::new(set), Responses::new(set), Limiting::new(set));
+    let mut judge = Judge { sound, responses, limiting, frames: 0, distances: Distances::default() };
     let mut outputs = outputs.iter();
     for call in &list.calls {
-        let accepted = call.is_accepted();
         match call {
-            Call::Order(order) if accepted => judge.sound.order(order),
+            Call::Order(order) if call.is_accepted() => judge.sound.order(order),
             Call::Order(_) => {}
             Call::Block { input, .. } => {
                 let output = outputs.next().expect("an output for each block");
-                let frames = if accepted { input.len() / 4 } else { 0 };
+                let frames = if call.is_accepted() { input.len() / 4 } else { 0 };
                 let sounds = input.chunks_exact(4).zip(output.chunks_exact(4));
                 for (frame, played) in sounds.take(frames) {
                     judge.frame(samples(frame), samples(played))?;
@@ -184,8 +154,6 @@ pub fn judge(list: &List, outputs: &[Vec<u8>]) -> Result<Distances, String> {
             }
         }
     }
-    let limited = (0..2).any(|side| judge.limiting.has_limited(side));
-    judge.distances.lists = 1;
-    judge.distances.limited = limited.into();
-    Ok(judge.distances)
+    let limited = judge.limiting.limited.contains(&true);
+    Ok(Distances { lists: 1, limited: limited.into(), ..judge.distances })
 }

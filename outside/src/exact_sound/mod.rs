@@ -1,15 +1,12 @@
-//! The exact sound: "It is fed the band set and each call of the list with its
-//! arguments, and takes nothing from the unit." Quoted sentences are document
-//! 01's.
+//! The exact sound: "It is fed the band set and each call of the list with its arguments, and takes nothing from the
+//! unit." Quoted sentences are document 01's.
 
 pub mod big;
 pub mod fraction;
 pub mod judge;
-pub mod limiting;
 pub mod response;
 
 use self::fraction::Fraction;
-use crate::unit::exact::level_moved;
 use crate::unit::orders::{exact, Order};
 use crate::unit::{Level, GAIN_SLOPE, VOLUME_SLOPE};
 
@@ -17,6 +14,7 @@ use crate::unit::{Level, GAIN_SLOPE, VOLUME_SLOPE};
 const ONE: i64 = 1 << 54;
 
 /// "y1 and y2 for each band of a side, these as fractions", and its gain.
+#[derive(Default)]
 struct Strip {
     y1: Fraction,
     y2: Fraction,
@@ -24,6 +22,7 @@ struct Strip {
 }
 
 /// "x1 and x2 for each side".
+#[derive(Default)]
 struct Side {
     x1: i64,
     x2: i64,
@@ -37,21 +36,9 @@ pub struct ExactSound {
     sides: [Side; 2],
 }
 
-const ZERO: Level = Level { present: 0, target: 0 };
-
-impl Strip {
-    fn new() -> Strip {
-        Strip { y1: Fraction::whole(0), y2: Fraction::whole(0), gain: ZERO }
-    }
-}
-
 impl Side {
-    fn new() -> Side {
-        Side { x1: 0, x2: 0, strips: std::array::from_fn(|_| Strip::new()) }
-    }
-
-    /// "each band's y = (A × (x - x2) + G × y1 - B × y2) / 2^22"; then "x1
-    /// passes to x2 and x to x1, and in each band y1 to y2 and y to y1."
+    /// "each band's y = (A × (x - x2) + G × y1 - B × y2) / 2^22"; then "x1 passes to x2 and x to x1, and in each band
+    /// y1 to y2 and y to y1."
     fn step(&mut self, set: &[i32; 30], x: i64) {
         let difference = Fraction::whole(x - self.x2);
         for (strip, band) in self.strips.iter_mut().zip(set.chunks_exact(3)) {
@@ -67,18 +54,15 @@ impl Side {
     /// 2^23 × m, where "m = x + (sum of g × y) / 2^23"; y has passed to y1.
     fn mix(&self) -> Fraction {
         let x = Fraction::whole(self.x1);
-        let mut terms = vec![(1 << 23, &x)];
-        for strip in &self.strips {
-            terms.push((strip.gain.present.into(), &strip.y1));
-        }
-        Fraction::sum(&terms)
+        let products = self.strips.iter().map(|strip| (strip.gain.present.into(), &strip.y1));
+        Fraction::sum(&products.chain([(1 << 23, &x)]).collect::<Vec<_>>())
     }
 }
 
 impl ExactSound {
     /// "All begin at zero."
     pub fn new(set: &[i32; 30]) -> ExactSound {
-        ExactSound { set: *set, volume: ZERO, sides: [Side::new(), Side::new()] }
+        ExactSound { set: *set, volume: Level::default(), sides: Default::default() }
     }
 
     /// "An accepted order sets targets by the rules under Levels."
@@ -88,39 +72,24 @@ impl ExactSound {
             self.volume.target = target;
             return;
         }
-        for (place, side) in self.sides.iter_mut().enumerate() {
-            if order.names(place) {
-                side.strips[order.band as usize].gain.target = target;
-            }
+        for place in (0..2).filter(|&place| order.names(place)) {
+            self.sides[place].strips[order.band as usize].gain.target = target;
         }
     }
 
-    /// "every gain and V first moves as under Levels."
-    fn move_levels(&mut self) {
-        let moved = |level: &mut Level, slope| {
-            level.present = level_moved(level.present, level.target, slope);
-        };
-        moved(&mut self.volume, VOLUME_SLOPE);
-        for strip in self.sides.iter_mut().flat_map(|side| &mut side.strips) {
-            moved(&mut strip.gain, GAIN_SLOPE);
-        }
-    }
-
-    /// A frame of an accepted block: "on each side x = 256 × s".
+    /// A frame of an accepted block: "every gain and V first moves as under Levels. Then on each side x = 256 × s".
     pub fn frame(&mut self, samples: [i16; 2]) {
-        self.move_levels();
+        self.volume.move_once(VOLUME_SLOPE);
         for (side, sample) in self.sides.iter_mut().zip(samples) {
+            side.strips.iter_mut().for_each(|strip| strip.gain.move_once(GAIN_SLOPE));
             side.step(&self.set, 256 * i64::from(sample));
         }
     }
 
-    /// 2^54 × "The exact output", which "is V × m / 2^31, limited to -32,768 to
-    /// 32,767", of a side in the latest frame.
+    /// 2^54 × "The exact output", which "is V × m / 2^31, limited to -32,768 to 32,767", of a side in the latest frame.
     pub fn output(&self, side: usize) -> Fraction {
-        let mix = self.sides[side].mix();
-        let output = Fraction::sum(&[(self.volume.present.into(), &mix)]);
-        let [low, high] = [-32_768, 32_767].map(Fraction::whole);
-        let [low, high] = [low, high].map(|end| Fraction::sum(&[(ONE, &end)]));
+        let output = Fraction::sum(&[(self.volume.present.into(), &self.sides[side].mix())]);
+        let [low, high] = [-32_768, 32_767].map(|end| Fraction::sum(&[(ONE, &Fraction::whole(end))]));
         output.limited(&low, &high)
     }
 

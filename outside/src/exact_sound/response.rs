@@ -1,5 +1,4 @@
-//! The impulse responses of a band set: "h(0) = 1, h(1) = G / 2^22, h(k) =
-//! (G × h(k-1) - B × h(k-2)) / 2^22."
+//! The impulse responses of a band set: "h(0) = 1, h(1) = G / 2^22, h(k) = (G × h(k-1) - B × h(k-2)) / 2^22."
 
 use super::fraction::Fraction;
 
@@ -15,13 +14,8 @@ struct Response {
 
 impl Response {
     fn new([b, g]: [i32; 2]) -> Response {
-        Response {
-            b: b.into(),
-            g: g.into(),
-            next: Fraction::whole(1),
-            last: Fraction::whole(0),
-            sum: Fraction::whole(0),
-        }
+        let [next, last, sum] = [1, 0, 0].map(Fraction::whole);
+        Response { b: b.into(), g: g.into(), next, last, sum }
     }
 
     /// Adds one absolute value more.
@@ -60,11 +54,9 @@ impl Responses {
         self.responses.iter_mut().for_each(Response::grow);
     }
 
-    /// The sum of weight × H over all bands, where H is the sum of as many
-    /// absolute values as there were frames.
+    /// The sum of weight × H over all bands, where H is the sum of as many absolute values as there were frames.
     pub fn weighted(&self, weights: &[i64; 10]) -> Fraction {
-        let mut terms: Vec<(i64, &Fraction)> = Vec::new();
-        terms.extend(self.responses.iter().map(|response| (0, &response.sum)));
+        let mut terms: Vec<(i64, &Fraction)> = self.responses.iter().map(|response| (0, &response.sum)).collect();
         for (&place, weight) in self.places.iter().zip(weights) {
             terms[place].0 += weight;
         }

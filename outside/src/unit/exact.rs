@@ -1,6 +1,6 @@
 //! The plain meaning of a unit: named numbers, i128, floor division.
 
-use super::{block_refusal, Band, Level, Numbers, Side, Unit, GAIN_SLOPE, VOLUME_SLOPE};
+use super::{block_refusal, Band, Level, Numbers, Side, Strip, Unit, GAIN_SLOPE, VOLUME_SLOPE};
 use crate::reference::{band_refusal, exact, is_word, ACCEPTED, WORD_MAX, WORD_MIN};
 
 /// Roundings that lay at a half: the even number was above it or below.
@@ -24,37 +24,34 @@ pub struct Met {
     pub flags_raised: u64,
 }
 
-/// A level moved "towards its target by" the slope, "or by the whole distance
-/// where that is less".
+/// A level moved "towards its target by" the slope, "or by the whole distance where that is less".
 pub fn level_moved(present: i32, target: i32, slope: u32) -> i32 {
     let distance = i128::from(target) - i128::from(present);
     let step = distance.abs().min(i128::from(slope));
     (i128::from(present) + distance.signum() * step) as i32
 }
 
-/// "A unit is unfit when no accepted sheet could carry its numbers."
+impl Level {
+    pub fn move_once(&mut self, slope: u32) {
+        self.present = level_moved(self.present, self.target, slope);
+    }
+}
+
+/// "A unit is unfit when no accepted sheet could carry its numbers." "the volume V is 0 to 8,388,607", and its target
+/// too.
 pub fn fit(numbers: &Numbers) -> bool {
-    let unit = Unit::from_numbers(numbers);
-    let accepted = |band: &Band| band_refusal(band.a, band.b, band.g) == ACCEPTED;
-    volume_is_fit(unit.volume) && unit.bands.iter().all(accepted) && unit.sides.iter().all(side_is_fit)
+    let Unit { volume, bands, sides } = Unit::from_numbers(numbers);
+    [volume.present, volume.target].iter().all(|number| (0..=8_388_607).contains(number))
+        && bands.iter().all(|band| band_refusal(band.a, band.b, band.g) == ACCEPTED)
+        && sides.iter().all(side_is_fit)
 }
 
-/// "the volume V is 0 to 8,388,607", and its target too.
-fn volume_is_fit(volume: Level) -> bool {
-    let range = 0..=8_388_607;
-    range.contains(&volume.present) && range.contains(&volume.target)
-}
-
-/// "x1 and x2 are words and multiples of 256; a flag is 0 or 1." Results,
-/// gains and targets are words.
+/// "x1 and x2 are words and multiples of 256; a flag is 0 or 1." Results, gains and targets are words.
 fn side_is_fit(side: &Side) -> bool {
-    let inputs = [side.x1, side.x2];
-    inputs.iter().all(|&x| is_word(x) && x % 256 == 0)
+    let words = |strip: &Strip| [strip.y1, strip.y2, strip.gain.present, strip.gain.target].into_iter().all(is_word);
+    [side.x1, side.x2].iter().all(|&x| is_word(x) && x % 256 == 0)
         && (side.flag == 0 || side.flag == 1)
-        && side.strips.iter().all(|strip| {
-            let Level { present, target } = strip.gain;
-            [strip.y1, strip.y2, present, target].into_iter().all(is_word)
-        })
+        && side.strips.iter().all(words)
 }
 
 /// Rounded to nearest, halves to even; a half is counted.
@@ -69,8 +66,8 @@ fn rounded(v: i128, k: u32, halves: &mut Halves) -> i64 {
     nearest
 }
 
-/// One band of a side: its y, by "Words and the section". The flag is "1 from
-/// the first time one of its sections limits."
+/// One band of a side: its y, by "Words and the section". The flag is "1 from the first time one of its sections
+/// limits."
 fn section(band: &Band, side: &mut Side, place: usize, x: i32, met: &mut Met) -> i32 {
     let strip = &mut side.strips[place];
     let numbers = [band.a, band.b, band.g, side.x1, side.x2, strip.y1, strip.y2];
@@ -87,8 +84,7 @@ fn section(band: &Band, side: &mut Side, place: usize, x: i32, met: &mut Met) ->
     y
 }
 
-/// "Each side works its ten sections on x. T = 2^23 × x + sum of g × y, exact.
-/// m = T / 2^23 rounded, not limited".
+/// "Each side works its ten sections on x. T = 2^23 × x + sum of g × y, exact. m = T / 2^23 rounded, not limited".
 fn mix(bands: &[Band; 10], side: &mut Side, x: i32, met: &mut Met) -> i64 {
     let mut total = (1 << 23) * i128::from(x);
     for (place, band) in bands.iter().enumerate() {
@@ -111,44 +107,31 @@ fn output(volume: i32, m: i64, met: &mut Met) -> i16 {
 
 /// "In each frame, before sound is worked, every gain moves" and the volume.
 fn move_levels(unit: &mut Unit) {
-    let moved = |level: &mut Level, slope| {
-        level.present = level_moved(level.present, level.target, slope);
-    };
-    moved(&mut unit.volume, VOLUME_SLOPE);
-    for side in &mut unit.sides {
-        for strip in &mut side.strips {
-            moved(&mut strip.gain, GAIN_SLOPE);
-        }
-    }
+    unit.volume.move_once(VOLUME_SLOPE);
+    unit.sides.iter_mut().flat_map(|side| &mut side.strips).for_each(|strip| strip.gain.move_once(GAIN_SLOPE));
 }
 
-/// One frame: "left then right", each sample entering "as x = 256 × s". "Both
-/// sides use the same V."
+/// One frame: "left then right", each sample entering "as x = 256 × s". "Both sides use the same V."
 fn frame(unit: &mut Unit, samples: [i16; 2], met: &mut Met) -> [i16; 2] {
     move_levels(unit);
-    let mut played = [0; 2];
-    for place in 0..2 {
+    [0, 1].map(|place| {
         let x = 256 * i32::from(samples[place]);
         let m = mix(&unit.bands, &mut unit.sides[place], x, met);
-        played[place] = output(unit.volume.present, m, met);
-    }
-    played
+        output(unit.volume.present, m, met)
+    })
 }
 
-/// "A block of frames is bytes: left then right, low byte first, four a frame;
-/// an empty block is accepted. Output bytes beyond the block keep their
-/// contents."
+/// "A block of frames is bytes: left then right, low byte first, four a frame; an empty block is accepted. Output bytes
+/// beyond the block keep their contents."
 pub fn block(numbers: &mut Numbers, input: &[u8], output: &mut [u8], met: &mut Met) -> u32 {
     let refusal = block_refusal(fit(numbers), input.len(), output.len());
     if refusal != ACCEPTED {
         return refusal;
     }
     let mut unit = Unit::from_numbers(numbers);
-    for place in (0..input.len()).step_by(4) {
-        let sample = |at: usize| i16::from_le_bytes([input[at], input[at + 1]]);
-        let [left, right] = frame(&mut unit, [sample(place), sample(place + 2)], met);
-        output[place..place + 2].copy_from_slice(&left.to_le_bytes());
-        output[place + 2..place + 4].copy_from_slice(&right.to_le_bytes());
+    for (bytes, played) in input.chunks_exact(4).zip(output.chunks_exact_mut(4)) {
+        let samples = [[bytes[0], bytes[1]], [bytes[2], bytes[3]]].map(i16::from_le_bytes);
+        played.copy_from_slice(frame(&mut unit, samples, met).map(i16::to_le_bytes).as_flattened());
     }
     *numbers = unit.to_numbers();
     ACCEPTED

@@ -1,5 +1,4 @@
-//! The same for use: i64, shifts, no division; the unit is held in i64 for the
-//! length of a block.
+//! The unit for use: i64, shifts, no division; the unit is held in i64 for the length of a block.
 
 use super::{block_refusal, Numbers, BANDS, LEFT, RIGHT, SIDE_COUNT, STRIPS, VOLUME};
 use super::{GAIN_SLOPE, VOLUME_SLOPE};
@@ -20,20 +19,12 @@ struct Section {
     target: i64,
 }
 
-/// A side: its two earlier inputs, whether a section has limited, and its ten
-/// sections.
+/// A side: its two earlier inputs, whether a section has limited, and its ten sections.
 struct Side {
     x1: i64,
     x2: i64,
     limited: bool,
     sections: [Section; 10],
-}
-
-struct Unit {
-    volume: i64,
-    volume_target: i64,
-    left: Side,
-    right: Side,
 }
 
 /// A level after one move. The distance of two i32s is at most a u32.
@@ -50,8 +41,8 @@ fn moved(present: i64, target: i64, slope: i64) -> i64 {
     }
 }
 
-/// v / 2^k rounded to nearest, halves to even. Just under a half is added to an
-/// even quotient and a half to an odd one; every v here is under 2^50 in size.
+/// v / 2^k rounded to nearest, halves to even. Just under a half is added to an even quotient and a half to an odd one;
+/// every v here is under 2^50 in size.
 #[inline(always)]
 fn rounded(v: i64, k: u32) -> i64 {
     let odd = (v >> k) & 1;
@@ -74,41 +65,26 @@ fn side_is_fit(side: &[i32]) -> bool {
 
 impl Section {
     fn read(band: &[i32], strip: &[i32]) -> Section {
-        Section {
-            a: band[0].into(),
-            b: band[1].into(),
-            g: band[2].into(),
-            y1: strip[0].into(),
-            y2: strip[1].into(),
-            gain: strip[2].into(),
-            target: strip[3].into(),
-        }
+        let [a, b, g] = [0, 1, 2].map(|n| band[n].into());
+        let [y1, y2, gain, target] = [0, 1, 2, 3].map(|n| strip[n].into());
+        Section { a, b, g, y1, y2, gain, target }
     }
 }
 
 impl Side {
     fn read(bands: &[i32], side: &[i32]) -> Side {
-        Side {
-            x1: side[0].into(),
-            x2: side[1].into(),
-            limited: side[2] != 0,
-            sections: std::array::from_fn(|n| Section::read(&bands[3 * n..], &side[STRIPS + 4 * n..])),
-        }
+        let sections = std::array::from_fn(|n| Section::read(&bands[3 * n..], &side[STRIPS + 4 * n..]));
+        Side { x1: side[0].into(), x2: side[1].into(), limited: side[2] != 0, sections }
     }
 
     fn write(&self, side: &mut [i32]) {
-        side[0] = self.x1 as i32;
-        side[1] = self.x2 as i32;
-        side[2] = self.limited.into();
+        side[..3].copy_from_slice(&[self.x1 as i32, self.x2 as i32, self.limited.into()]);
         for (section, strip) in self.sections.iter().zip(side[STRIPS..].chunks_exact_mut(4)) {
-            strip[0] = section.y1 as i32;
-            strip[1] = section.y2 as i32;
-            strip[2] = section.gain as i32;
+            strip[..3].copy_from_slice(&[section.y1 as i32, section.y2 as i32, section.gain as i32]);
         }
     }
 
-    /// One sample of this side: its gains move, its sections step, and the mix
-    /// is brought to the volume.
+    /// One sample of this side: its gains move, its sections step, and the mix is brought to the volume.
     #[inline(always)]
     fn play(&mut self, s: i16, volume: i64) -> i16 {
         let x = 256 * i64::from(s);
@@ -135,39 +111,25 @@ impl Side {
     }
 }
 
-impl Unit {
-    fn read(numbers: &Numbers) -> Unit {
-        let bands = &numbers[BANDS..LEFT];
-        Unit {
-            volume: numbers[VOLUME].into(),
-            volume_target: numbers[VOLUME + 1].into(),
-            left: Side::read(bands, &numbers[LEFT..RIGHT]),
-            right: Side::read(bands, &numbers[RIGHT..]),
-        }
-    }
-
-    fn write(&self, numbers: &mut Numbers) {
-        numbers[VOLUME] = self.volume as i32;
-        self.left.write(&mut numbers[LEFT..RIGHT]);
-        self.right.write(&mut numbers[RIGHT..]);
-    }
-}
-
 /// Plays a block.
 pub fn block(numbers: &mut Numbers, input: &[u8], output: &mut [u8]) -> u32 {
     let refusal = block_refusal(fit(numbers), input.len(), output.len());
     if refusal != ACCEPTED {
         return refusal;
     }
-    let mut unit = Unit::read(numbers);
+    let bands = &numbers[BANDS..LEFT];
+    let mut left = Side::read(bands, &numbers[LEFT..RIGHT]);
+    let mut right = Side::read(bands, &numbers[RIGHT..]);
+    let [mut volume, target] = [VOLUME, VOLUME + 1].map(|place| i64::from(numbers[place]));
     for (frame, played) in input.chunks_exact(4).zip(output.chunks_exact_mut(4)) {
-        unit.volume = moved(unit.volume, unit.volume_target, i64::from(VOLUME_SLOPE));
-        let left = i16::from_le_bytes([frame[0], frame[1]]);
-        let right = i16::from_le_bytes([frame[2], frame[3]]);
-        let left = unit.left.play(left, unit.volume).to_le_bytes();
-        let right = unit.right.play(right, unit.volume).to_le_bytes();
+        volume = moved(volume, target, i64::from(VOLUME_SLOPE));
+        let samples = [[frame[0], frame[1]], [frame[2], frame[3]]].map(i16::from_le_bytes);
+        let left = left.play(samples[0], volume).to_le_bytes();
+        let right = right.play(samples[1], volume).to_le_bytes();
         played.copy_from_slice(&[left[0], left[1], right[0], right[1]]);
     }
-    unit.write(numbers);
+    numbers[VOLUME] = volume as i32;
+    left.write(&mut numbers[LEFT..RIGHT]);
+    right.write(&mut numbers[RIGHT..]);
     ACCEPTED
 }

@@ -1,9 +1,8 @@
-//! The two-sided unit, written from document 01: its numbers, its refusals and
-//! the loading of a band set. Quoted sentences are that document's.
+//! The two-sided unit, written from document 01: its numbers, its refusals and the loading of a band set. Quoted
+//! sentences are that document's.
 //!
-//! The playing of a block, the orders and the sheet have two forms, as the
-//! section has. `exact` is the plain meaning; `fast` is what one would write for
-//! use.
+//! The playing of a block, the orders and the sheet have two forms, as the section has. `exact` is the plain meaning;
+//! `fast` is what one would write for use.
 
 pub mod exact;
 pub mod fast;
@@ -11,10 +10,10 @@ pub mod orders;
 pub mod sheet;
 
 use crate::reference::{band_refusal, house_set, ACCEPTED};
+use std::array::from_fn;
 
-/// A unit as it crosses the C ABI, in the order of the strip sheet: "V (volume,
-/// target); ten C (A, B, G); L (x1, x2, flag); ten S (y1, y2, gain, target); R
-/// as L; ten S."
+/// A unit as it crosses the C ABI, in the order of the strip sheet: "V (volume, target); ten C (A, B, G); L (x1, x2,
+/// flag); ten S (y1, y2, gain, target); R as L; ten S."
 pub type Numbers = [i32; 118];
 
 /// Where the parts of a unit begin.
@@ -40,7 +39,7 @@ pub const GAIN_SLOPE: u32 = 839;
 pub const VOLUME_SLOPE: u32 = 419;
 
 /// A present number and its target.
-#[derive(Clone, Copy)]
+#[derive(Clone, Copy, Default)]
 pub struct Level {
     pub present: i32,
     pub target: i32,
@@ -79,44 +78,18 @@ pub struct Unit {
     pub sides: [Side; 2],
 }
 
-impl Level {
-    fn read(next: &mut impl FnMut() -> i32) -> Level {
-        let [present, target] = [next(), next()];
-        Level { present, target }
-    }
-}
-
-impl Band {
-    fn read(next: &mut impl FnMut() -> i32) -> Band {
-        let [a, b, g] = [next(), next(), next()];
-        Band { a, b, g }
-    }
-}
-
-impl Strip {
-    fn read(next: &mut impl FnMut() -> i32) -> Strip {
-        let [y1, y2] = [next(), next()];
-        let gain = Level::read(next);
-        Strip { y1, y2, gain }
-    }
-}
-
-impl Side {
-    fn read(next: &mut impl FnMut() -> i32) -> Side {
-        let [x1, x2, flag] = [next(), next(), next()];
-        let strips = [(); 10].map(|()| Strip::read(next));
-        Side { x1, x2, flag, strips }
-    }
-}
-
 impl Unit {
     pub fn from_numbers(numbers: &Numbers) -> Unit {
-        let mut rest = numbers.iter();
-        let next = &mut || *rest.next().expect("118 numbers");
-        let volume = Level::read(next);
-        let bands = [(); 10].map(|()| Band::read(next));
-        let sides = [(); 2].map(|()| Side::read(next));
-        Unit { volume, bands, sides }
+        let level = |at: usize| Level { present: numbers[at], target: numbers[at + 1] };
+        let band = |at: usize| Band { a: numbers[at], b: numbers[at + 1], g: numbers[at + 2] };
+        let strip = |at: usize| Strip { y1: numbers[at], y2: numbers[at + 1], gain: level(at + 2) };
+        let side = |at: usize| Side {
+            x1: numbers[at],
+            x2: numbers[at + 1],
+            flag: numbers[at + 2],
+            strips: from_fn(|n| strip(at + STRIPS + 4 * n)),
+        };
+        Unit { volume: level(VOLUME), bands: from_fn(|n| band(BANDS + 3 * n)), sides: [LEFT, RIGHT].map(side) }
     }
 
     pub fn to_numbers(&self) -> Numbers {
@@ -136,16 +109,19 @@ impl Unit {
     }
 }
 
-/// "A cleared unit holds a band set; all inputs, results, gains, targets, the
-/// volume and the flags are zero."
+/// "A cleared unit holds a band set; all inputs, results, gains, targets, the volume and the flags are zero."
 pub fn cleared(set: &[i32; 30]) -> Numbers {
     let mut numbers = [0; 118];
     numbers[BANDS..LEFT].copy_from_slice(set);
     numbers
 }
 
-/// "7 a set that isn't thirty numbers, A, B, G of each band in turn; then band
-/// by band 8 (A), 9 (B), 10 (G)."
+/// "the cleared house unit".
+pub fn house_unit() -> Numbers {
+    cleared(&house_set())
+}
+
+/// "7 a set that isn't thirty numbers, A, B, G of each band in turn; then band by band 8 (A), 9 (B), 10 (G)."
 pub fn set_refusal(set: &[i32]) -> u32 {
     if set.len() != 30 {
         return NOT_THIRTY;
@@ -156,19 +132,17 @@ pub fn set_refusal(set: &[i32]) -> u32 {
         .unwrap_or(ACCEPTED)
 }
 
-/// "Loading a band set gives a cleared unit." For a refused one "The answer
-/// holds the cleared house unit."
+/// "Loading a band set gives a cleared unit." For a refused one "The answer holds the cleared house unit."
 pub fn load(numbers: &mut Numbers, set: &[i32]) -> u32 {
     let refusal = set_refusal(set);
     *numbers = match set.try_into() {
         Ok(thirty) if refusal == ACCEPTED => cleared(thirty),
-        _ => cleared(&house_set()),
+        _ => house_unit(),
     };
     refusal
 }
 
-/// The refusals of a block once the unit is known to be fit or not: 14 ahead
-/// of all else, then 5, then 6.
+/// The refusals of a block once the unit is known to be fit or not: 14 ahead of all else, then 5, then 6.
 pub fn block_refusal(fit: bool, input: usize, output: usize) -> u32 {
     if !fit {
         UNFIT

@@ -4,15 +4,14 @@ use super::{refusal_by, target_by, Order, FACTOR_NOT_FINITE, FACTOR_OUTSIDE};
 use crate::reference::{exact::nearest, ACCEPTED};
 use crate::unit::{exact::fit, Numbers, Unit, UNFIT};
 
-/// The parts of an f32: whether it is negative, its exponent field and its
-/// fraction field.
+/// The parts of an f32: whether it is negative, its exponent field and its fraction field.
 fn fields(f: f32) -> (bool, u32, u32) {
     let bits = f.to_bits();
     (bits >> 31 == 1, (bits >> 23) & 0xFF, bits & 0x7F_FFFF)
 }
 
-/// "3 factor not finite; 4 factor outside its range": "-1 ≤ f < 1 for a
-/// band and 0 ≤ f < 1 for the volume; minus zero is zero."
+/// "3 factor not finite; 4 factor outside its range": "-1 ≤ f < 1 for a band and 0 ≤ f < 1 for the volume; minus zero
+/// is zero."
 fn factor_refusal(f: f32, volume: bool) -> u32 {
     let (negative, exponent, fraction) = fields(f);
     let zero = exponent == 0 && fraction == 0;
@@ -26,9 +25,8 @@ fn factor_refusal(f: f32, volume: bool) -> u32 {
     }
 }
 
-/// "Its target is f × 2^23 rounded, limited to 8,388,607." A factor is a
-/// whole number of 24 bits over 2^(150 - exponent), or one of 23 bits over
-/// 2^149 where the exponent is 0.
+/// "Its target is f × 2^23 rounded, limited to 8,388,607." A factor is a whole number of 24 bits over 2^(150 -
+/// exponent), or one of 23 bits over 2^149 where the exponent is 0.
 pub fn factor_target(f: f32) -> i32 {
     let (negative, exponent, fraction) = fields(f);
     let (size, shift) = match exponent {
@@ -50,8 +48,7 @@ pub fn target(order: &Order) -> i32 {
     target_by(order, factor_target)
 }
 
-/// An order: "an unfit one is 14"; after a refusal "The unit comes back
-/// unchanged."
+/// An order: "an unfit one is 14"; after a refusal "The unit comes back unchanged."
 pub fn order(numbers: &mut Numbers, order: &Order) -> u32 {
     let refusal = if fit(numbers) { refusal(order) } else { UNFIT };
     if refusal != ACCEPTED {
@@ -61,8 +58,8 @@ pub fn order(numbers: &mut Numbers, order: &Order) -> u32 {
     if order.is_volume() {
         unit.volume.target = target(order);
     } else {
-        for (_, side) in (0..).zip(&mut unit.sides).filter(|(n, _)| order.names(*n)) {
-            side.strips[order.band as usize].gain.target = target(order);
+        for place in (0..2).filter(|&place| order.names(place)) {
+            unit.sides[place].strips[order.band as usize].gain.target = target(order);
         }
     }
     *numbers = unit.to_numbers();

@@ -1,4 +1,4 @@
-//! The same for use: a factor is worked in f64.
+//! Orders for use: a factor is worked in f64.
 
 use super::{refusal_by, target_by, Order, FACTOR_NOT_FINITE, FACTOR_OUTSIDE};
 use crate::reference::{ACCEPTED, WORD_MAX};

@@ -1,14 +1,12 @@
-//! Level orders: their refusals and the targets they set. Quoted sentences are
-//! document 01's. `exact` works a factor from its bits in whole numbers; `fast`
-//! works it in floating point.
+//! Level orders: their refusals and the targets they set. Quoted sentences are document 01's. `exact` works a factor
+//! from its bits in whole numbers; `fast` works it in floating point.
 
 pub mod exact;
 pub mod fast;
 
 use crate::reference::ACCEPTED;
 
-/// "The desk: 1 no such side and band; 2 position over 31; 3 factor not finite;
-/// 4 factor outside its range."
+/// "The desk: 1 no such side and band; 2 position over 31; 3 factor not finite; 4 factor outside its range."
 pub const NO_SIDE_AND_BAND: u32 = 1;
 pub const POSITION_OVER_31: u32 = 2;
 pub const FACTOR_NOT_FINITE: u32 = 3;
@@ -26,8 +24,8 @@ pub enum Setting {
     Mute,
 }
 
-/// "A level order names a side (0 left, 1 right, 2 both), a band (0 to 9, or 10
-/// for the volume, with side 2 only) and a level."
+/// "A level order names a side (0 left, 1 right, 2 both), a band (0 to 9, or 10 for the volume, with side 2 only) and a
+/// level."
 #[derive(Clone, Copy, Debug)]
 pub struct Order {
     pub side: u32,
@@ -37,18 +35,15 @@ pub struct Order {
 
 impl Order {
     pub fn position(side: u32, band: u32, position: u8) -> Order {
-        let setting = Setting::Position(position);
-        Order { side, band, setting }
+        Order { side, band, setting: Setting::Position(position) }
     }
 
     pub fn factor(side: u32, band: u32, factor: f32) -> Order {
-        let setting = Setting::Factor(factor);
-        Order { side, band, setting }
+        Order { side, band, setting: Setting::Factor(factor) }
     }
 
     pub fn mute(side: u32, band: u32) -> Order {
-        let setting = Setting::Mute;
-        Order { side, band, setting }
+        Order { side, band, setting: Setting::Mute }
     }
 
     /// True for an order to the volume.
@@ -71,8 +66,8 @@ impl Order {
     }
 }
 
-/// The refusals of an order to a fit unit, "The first that applies, in
-/// numerical order"; the factor is judged by the given function.
+/// The refusals of an order to a fit unit, "The first that applies, in numerical order"; the factor is judged by the
+/// given function.
 fn refusal_by(order: &Order, factor: impl Fn(f32, bool) -> u32) -> u32 {
     if !order.has_place() {
         return NO_SIDE_AND_BAND;
@@ -84,8 +79,7 @@ fn refusal_by(order: &Order, factor: impl Fn(f32, bool) -> u32) -> u32 {
     }
 }
 
-/// The target that an accepted order sets, "Mute sets the target 0"; a factor's
-/// is worked by the given function.
+/// The target that an accepted order sets, "Mute sets the target 0"; a factor's is worked by the given function.
 fn target_by(order: &Order, factor: impl Fn(f32) -> i32) -> i32 {
     match order.setting {
         Setting::Position(position) => position_target(position, order.is_volume()),
@@ -94,8 +88,8 @@ fn target_by(order: &Order, factor: impl Fn(f32) -> i32) -> i32 {
     }
 }
 
-/// "Position p (0 to 31) sets a band's target to (p - 16) × 558,681 from 16 up
-/// and (p - 16) × 104,857 below; it sets the volume's to p × 270,600."
+/// "Position p (0 to 31) sets a band's target to (p - 16) × 558,681 from 16 up and (p - 16) × 104,857 below; it sets
+/// the volume's to p × 270,600."
 pub fn position_target(position: u8, volume: bool) -> i32 {
     let p = i32::from(position);
     match position {

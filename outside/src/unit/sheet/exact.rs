@@ -1,13 +1,11 @@
-//! The plain meaning of a sheet: a field is a number as it is formatted, and a
-//! sheet is read from its first byte on.
+//! The plain meaning of a sheet: a field is a number as it is formatted, and a sheet is read from its first byte on.
 
 use super::{BADLY_WRITTEN, FIELD, LETTER_OR_END, LINE_FEED, NOT_A_SHEET, OUTSIDE, SHEET};
 use crate::reference::{band_refusal, is_word, ACCEPTED};
 use crate::unit::{exact::fit, Level, Numbers, Unit};
 use std::fmt::Write;
 
-/// "each a letter, fields of nine columns with decimal numbers right-justified
-/// in blanks, and a line feed".
+/// "each a letter, fields of nine columns with decimal numbers right-justified in blanks, and a line feed".
 fn write_line(text: &mut String, letter: char, numbers: &[i32]) {
     text.push(letter);
     for number in numbers {
@@ -16,8 +14,7 @@ fn write_line(text: &mut String, letter: char, numbers: &[i32]) {
     text.push('\n');
 }
 
-/// "In order: V (volume, target); ten C (A, B, G); L (x1, x2, flag); ten S (y1,
-/// y2, gain, target); R as L; ten S."
+/// "In order: V (volume, target); ten C (A, B, G); L (x1, x2, flag); ten S (y1, y2, gain, target); R as L; ten S."
 fn text(unit: &Unit) -> String {
     let mut text = String::with_capacity(SHEET);
     let Level { present, target } = unit.volume;
@@ -35,9 +32,8 @@ fn text(unit: &Unit) -> String {
     text
 }
 
-/// Writes the sheet to the front of the buffer and gives its length; "from a
-/// shorter buffer, or for an unfit unit", 0, "and writes nothing. Bytes behind
-/// the sheet keep their contents."
+/// Writes the sheet to the front of the buffer and gives its length; "from a shorter buffer, or for an unfit unit", 0,
+/// "and writes nothing. Bytes behind the sheet keep their contents."
 pub fn write(numbers: &Numbers, buffer: &mut [u8]) -> usize {
     if buffer.len() < SHEET || !fit(numbers) {
         return 0;
@@ -47,8 +43,8 @@ pub fn write(numbers: &Numbers, buffer: &mut [u8]) -> usize {
     SHEET
 }
 
-/// "No leading zeros, no plus, minus only before a number that isn't 0": behind
-/// its blanks a field holds just what its number formats to.
+/// "No leading zeros, no plus, minus only before a number that isn't 0": behind its blanks a field holds just what its
+/// number formats to.
 fn parsed(field: &[u8]) -> Option<i32> {
     let text = std::str::from_utf8(field).ok()?.trim_start_matches(' ');
     let number: i32 = text.parse().ok()?;
@@ -65,6 +61,8 @@ const INPUT: Range = |number| is_word(number) && number % 256 == 0;
 const FLAG: Range = |number| number == 0 || number == 1;
 /// Results, gains and targets.
 const WORD: Range = is_word;
+/// "a C line tests 8 to 10 after its three fields, in place of 14".
+const LATER: Range = |_| true;
 
 /// What is left of a sheet, and the numbers read so far.
 struct Reading<'a> {
@@ -79,36 +77,34 @@ impl Reading<'_> {
         (*byte == wanted).then_some(()).ok_or(LETTER_OR_END)
     }
 
-    fn field(&mut self) -> Result<i32, u32> {
-        let (field, rest) = self.rest.split_at(FIELD);
-        self.rest = rest;
-        parsed(field).ok_or(BADLY_WRITTEN)
-    }
-
-    /// A line whose numbers have these ranges.
-    fn line(&mut self, letter: u8, ranges: &[Range]) -> Result<(), u32> {
+    /// A letter, and the fields of numbers that have these ranges.
+    fn fields(&mut self, letter: u8, ranges: &[Range]) -> Result<(), u32> {
         self.byte(letter)?;
         for inside in ranges {
-            let number = self.field()?;
+            let (field, rest) = self.rest.split_at(FIELD);
+            self.rest = rest;
+            let number = parsed(field).ok_or(BADLY_WRITTEN)?;
             if !inside(number) {
                 return Err(OUTSIDE);
             }
             self.numbers.push(number);
         }
+        Ok(())
+    }
+
+    fn line(&mut self, letter: u8, ranges: &[Range]) -> Result<(), u32> {
+        self.fields(letter, ranges)?;
         self.byte(LINE_FEED)
     }
 
-    /// "a C line tests 8 to 10 after its three fields, in place of 14 and ahead
-    /// of its line end."
+    /// A C line, with 8 to 10 "ahead of its line end."
     fn band(&mut self) -> Result<(), u32> {
-        self.byte(b'C')?;
-        let [a, b, g] = [self.field()?, self.field()?, self.field()?];
-        let refusal = band_refusal(a, b, g);
-        if refusal != ACCEPTED {
-            return Err(refusal);
+        self.fields(b'C', &[LATER; 3])?;
+        let band = self.numbers.last_chunk::<3>().expect("three numbers");
+        match band_refusal(band[0], band[1], band[2]) {
+            ACCEPTED => self.byte(LINE_FEED),
+            refusal => Err(refusal),
         }
-        self.numbers.extend([a, b, g]);
-        self.byte(LINE_FEED)
     }
 }
 
@@ -117,29 +113,17 @@ fn sheet(bytes: &[u8]) -> Result<Vec<i32>, u32> {
     if bytes.len() != SHEET {
         return Err(NOT_A_SHEET);
     }
-    let (rest, numbers) = (bytes, Vec::with_capacity(118));
-    let mut reading = Reading { rest, numbers };
+    let mut reading = Reading { rest: bytes, numbers: Vec::with_capacity(118) };
     reading.line(b'V', &[VOLUME; 2])?;
-    for _ in 0..10 {
-        reading.band()?;
-    }
+    (0..10).try_for_each(|_| reading.band())?;
     for letter in [b'L', b'R'] {
         reading.line(letter, &[INPUT, INPUT, FLAG])?;
-        for _ in 0..10 {
-            reading.line(b'S', &[WORD; 4])?;
-        }
+        (0..10).try_for_each(|_| reading.line(b'S', &[WORD; 4]))?;
     }
     Ok(reading.numbers)
 }
 
-/// Reads a sheet into the numbers. After a refusal "The given unit comes back,
-/// unexamined."
+/// Reads a sheet into the numbers. After a refusal "The given unit comes back, unexamined."
 pub fn read(numbers: &mut Numbers, bytes: &[u8]) -> u32 {
-    match sheet(bytes) {
-        Ok(read) => {
-            numbers.copy_from_slice(&read);
-            ACCEPTED
-        }
-        Err(refusal) => refusal,
-    }
+    sheet(bytes).map(|read| numbers.copy_from_slice(&read)).err().unwrap_or(ACCEPTED)
 }

@@ -1,18 +1,18 @@
-//! The strip sheet, written and read. Quoted sentences are document 01's.
-//! `exact` goes by the formatting and parsing of the standard library; `fast`
-//! fills and reads the columns itself.
+//! The strip sheet, written and read. Quoted sentences are document 01's. `exact` goes by the formatting and parsing of
+//! the standard library; `fast` fills and reads the columns itself.
 
 pub mod exact;
 pub mod fast;
+pub mod places;
 
-/// "1,128 bytes, 33 lines, each a letter, fields of nine columns with decimal
-/// numbers right-justified in blanks, and a line feed (byte 10)."
+/// "1,128 bytes, 33 lines, each a letter, fields of nine columns with decimal numbers right-justified in blanks, and a
+/// line feed (byte 10)."
 pub const SHEET: usize = 1_128;
 pub const FIELD: usize = 9;
 pub const LINE_FEED: u8 = 10;
 
-/// "11 not 1,128 bytes; then from the first byte on, 12 wrong letter or line
-/// end, 13 field badly written, 14 number outside its range".
+/// "11 not 1,128 bytes; then from the first byte on, 12 wrong letter or line end, 13 field badly written, 14 number
+/// outside its range".
 pub const NOT_A_SHEET: u32 = 11;
 pub const LETTER_OR_END: u32 = 12;
 pub const BADLY_WRITTEN: u32 = 13;

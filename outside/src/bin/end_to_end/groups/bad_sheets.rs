@@ -1,10 +1,10 @@
 //! Sheets with something wrong, and play with them: one line with the number, nothing played, nothing written.
 
 use outside::checks::sheet_makers::SheetMaker;
-use outside::checks::sheet_places::{lines, Line};
 use outside::checks::sheet_texts::{any_field, badly_written};
 use outside::checks::Difference;
 use outside::unit::exact::Met;
+use outside::unit::sheet::places::{lines, Line};
 use outside::unit::sheet::SHEET;
 
 use super::figures::{typed_sheet, CLEARED};
