@@ -45,5 +45,3 @@ functions! {
     sheet_read(numbers: &mut Numbers, bytes: &[u8]) -> u32 = sheet::fast::read;
     preview(band: [i32; 3], words: &[i32], results: &mut [i32]) -> u32 = preview::fast::preview;
 }
-
-pub use self::FAST as Fast;

@@ -9,7 +9,7 @@ use super::{Difference, Outcome, Tally};
 use crate::calls::{Call, List};
 use crate::exact_sound::judge::{judge, Distances};
 use crate::reference::house_set;
-use crate::subject::{Fast, Subject};
+use crate::subject::{Subject, FAST};
 use std::sync::atomic::{AtomicUsize, Ordering};
 use std::thread;
 
@@ -99,7 +99,7 @@ fn is_found(list: &List, outputs: &[Vec<u8>], [block, at]: [usize; 2], step: i16
 /// Every sample must be found when moved away from the exact sound, which is one step up or one step down.
 pub fn found_everywhere() -> Outcome {
     let list = list();
-    let outputs = played(&Fast, &list);
+    let outputs = played(&FAST, &list);
     judge(&list, &outputs)?;
     let mut tally = Tally::default();
     for (block, output) in outputs.iter().enumerate() {

@@ -1,48 +1,24 @@
 //! The figures of document 01, asked of a subject. Whatever is asked is compared with the reference as well.
 
-use super::same_block::same_block;
-use super::same_order::same_order;
+use super::run::{Checked, Outcome, Run, Subject};
 use super::same_preview::same_preview;
 use super::same_sheet::{same_read, same_write};
-use super::{same, same_step, Difference, Outcome, Tally};
 use crate::figures::*;
 use crate::reference::{house_set, pack, Section, ACCEPTED};
-use crate::subject::Subject;
 use crate::unit::orders::{Order, BOTH, VOLUME_BAND};
 use crate::unit::sheet::{exact, SHEET};
 use crate::unit::{cleared, Numbers, LEFT, RIGHT, STRIPS, VOLUME};
-use std::fmt::Debug;
-
-type Checked<T = ()> = Result<T, Difference>;
-
-/// A subject, and what its inputs met.
-struct Run<'a> {
-    subject: &'a dyn Subject,
-    tally: Tally,
-}
 
 /// The present gain of a band; its target stands behind it.
 fn gain(side: usize, band: usize) -> usize {
     side + STRIPS + 4 * band + 2
 }
 
-impl<'a> Run<'a> {
-    fn new(subject: &'a dyn Subject) -> Run<'a> {
-        Run { subject, tally: Tally::default() }
-    }
-
-    fn same<T: PartialEq + Debug>(&mut self, expected: T, got: T, inputs: impl FnOnce() -> String) -> Checked {
-        same(&mut self.tally, expected, got, inputs)
-    }
-
-    fn block(&mut self, numbers: &mut Numbers, input: &[u8], room: usize) -> Checked<Vec<u8>> {
-        same_block(self.subject, numbers, input, room, &mut self.tally)
-    }
-
+impl Run<'_> {
     fn step_gives(&mut self, section: &mut Section, x: i32, (limited, y): (bool, i32)) -> Checked {
         let before = *section;
         let answer = self.subject.section_step(&mut before.clone(), x);
-        same_step(self.subject, section, x, &mut self.tally)?;
+        self.step(section, x)?;
         self.same(pack(ACCEPTED, limited, y), answer, || format!("step of {before:?} with x = {x}"))
     }
 
@@ -89,7 +65,7 @@ impl<'a> Run<'a> {
         if let Ok(target) = wanted {
             targets.iter().for_each(|&place| expected[place] = target);
         }
-        let answer = same_order(self.subject, &mut got, order, &mut self.tally)?;
+        let answer = self.order(&mut got, order)?;
         let number = wanted.err().unwrap_or(ACCEPTED);
         self.same((number, expected), (answer, got), || format!("{order:?}"))
     }
@@ -119,7 +95,7 @@ impl<'a> Run<'a> {
 }
 
 pub fn of_sections(subject: &dyn Subject) -> Outcome {
-    let mut run = Run::new(subject);
+    let mut run = Run::new(subject, 0);
     for (s, y) in ROUNDED {
         run.same(y.into(), subject.nearest(s.into(), 22), || format!("S = {s}"))?;
         // With B = G = 0 and x = 1 or -1, S is A or -A.
@@ -138,7 +114,7 @@ pub fn of_sections(subject: &dyn Subject) -> Outcome {
 }
 
 pub fn of_previews(subject: &dyn Subject) -> Outcome {
-    let mut run = Run::new(subject);
+    let mut run = Run::new(subject, 0);
     for (s, y) in ROUNDED {
         run.preview_gives([s.abs(), 0, 0], &[s.signum()], &[y])?;
     }
@@ -151,7 +127,7 @@ pub fn of_previews(subject: &dyn Subject) -> Outcome {
 }
 
 pub fn of_units(subject: &dyn Subject) -> Outcome {
-    let mut run = Run::new(subject);
+    let mut run = Run::new(subject, 0);
     for (target, volume, sample) in QUIET {
         let mut numbers = cleared(&house_set());
         numbers[VOLUME + 1] = target;
@@ -179,7 +155,7 @@ pub fn of_units(subject: &dyn Subject) -> Outcome {
 }
 
 pub fn of_orders(subject: &dyn Subject) -> Outcome {
-    let mut run = Run::new(subject);
+    let mut run = Run::new(subject, 0);
     for (bits, of_band, of_volume) in FACTORS {
         run.every_place(|side, band| Order::factor(side, band, f32::from_bits(bits)), of_band, of_volume)?;
     }
@@ -195,7 +171,7 @@ pub fn of_orders(subject: &dyn Subject) -> Outcome {
         (BOTH, VOLUME_BAND, VOLUME, VOLUME_31),
     ] {
         let mut numbers = cleared(&house_set());
-        same_order(subject, &mut numbers, &Order::position(side, band, 31), &mut run.tally)?;
+        run.order(&mut numbers, &Order::position(side, band, 31))?;
         run.slope(numbers, level, figure)?;
     }
     Ok(run.tally)
@@ -210,7 +186,7 @@ fn numbers_of(lines: Lines) -> Numbers {
 
 /// The frame is played by a unit that comes from a sheet.
 pub fn of_sheets(subject: &dyn Subject) -> Outcome {
-    let mut run = Run::new(subject);
+    let mut run = Run::new(subject, 0);
     let mut numbers = [-1; 118];
     subject.load(&mut numbers, &FIRST_TWO[..3].repeat(10));
     run.sheet_gives(&numbers, CLEARED)?;
