@@ -1,5 +1,5 @@
 //! Outside tests of the equaliser: an implementation of the section, of its
-//! preview and of the unit written from document 01 alone, and the comparison of
+//! preview and of the unit written from the specification alone, and the comparison of
 //! the library and of the play program with it.
 
 pub mod calls;

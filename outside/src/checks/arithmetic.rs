@@ -113,8 +113,8 @@ fn level_corners() -> Vec<i32> {
     corners
 }
 
-/// One move of a level, "by 839 and the volume by 419, or by the whole distance where that is less", compared, and its meaning checked: it doesn't pass the target, is no longer than the slope, and is shorter
-/// only where it arrives.
+/// One move of a level, compared, and its meaning checked: it doesn't pass the target, is no longer than the slope, and
+/// is shorter only where it arrives.
 fn move_once(run: &mut Run, present: i32, target: i32, slope: u32) -> Checked {
     let got = run.subject.level_moved(present, target, slope);
     let inputs = || format!("level at {present} with target {target}, slope {slope}");

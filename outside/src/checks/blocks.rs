@@ -128,8 +128,8 @@ pub fn sizes_and_cuts(run: &mut Run) -> Checked {
     Ok(())
 }
 
-/// One block: compared with the reference, its number as document 01 states it, "The first that applies, in numerical
-/// order", and after a refusal unit and output unchanged.
+/// One block: compared with the reference, its number as the specification states it, "The first that applies, in
+/// numerical order", and after a refusal unit and output unchanged.
 fn stated(run: &mut Run, numbers: &Numbers, length: usize, room: usize) -> Checked {
     let input = vec![0x5A; length];
     run.block(&mut numbers.clone(), &input, room)?;

@@ -1,11 +1,11 @@
-//! The figures of document 01, asked of a subject. Whatever is asked is compared with the reference as well.
+//! The figures of the specification, asked of a subject. Whatever is asked is compared with the reference as well.
 
 use super::run::{Checked, Run};
 use crate::figures::*;
-use crate::reference::{house_set, pack, Section, ACCEPTED};
+use crate::reference::{pack, Section, ACCEPTED};
 use crate::unit::orders::{Order, BOTH, VOLUME_BAND};
 use crate::unit::sheet::{exact, SHEET};
-use crate::unit::{cleared, Numbers, LEFT, RIGHT, STRIPS, VOLUME};
+use crate::unit::{cleared, house_unit, Numbers, LEFT, RIGHT, STRIPS, VOLUME};
 
 /// The present gain of a band; its target stands behind it.
 fn gain(side: usize, band: usize) -> usize {
@@ -56,7 +56,7 @@ impl Run<'_> {
 
     /// One order on a unit: the answer, and the unit with the target at exactly these places, or as it was.
     fn order_gives(&mut self, order: &Order, wanted: Wanted, targets: &[usize]) -> Checked {
-        let mut expected = cleared(&house_set());
+        let mut expected = house_unit();
         (0..).zip(&mut expected[LEFT + STRIPS..RIGHT]).for_each(|(n, number)| *number = n);
         expected[VOLUME + 1] = 7;
         let mut got = expected;
@@ -124,7 +124,7 @@ pub fn of_previews(run: &mut Run) -> Checked {
 
 pub fn of_units(run: &mut Run) -> Checked {
     for (target, volume, sample) in QUIET {
-        let mut numbers = cleared(&house_set());
+        let mut numbers = house_unit();
         numbers[VOLUME + 1] = target;
         let output = run.block(&mut numbers, &[255, 127, 255, 127], 4)?;
         let expected = (vec![sample, 0, sample, 0], volume);
@@ -132,13 +132,13 @@ pub fn of_units(run: &mut Run) -> Checked {
     }
     let bands = [gain(LEFT, 0), gain(LEFT, 9), gain(RIGHT, 9)].map(|level| (level, BAND_31));
     for (level, figure) in bands.into_iter().chain([(VOLUME, VOLUME_31)]) {
-        let mut numbers = cleared(&house_set());
+        let mut numbers = house_unit();
         numbers[level + 1] = figure.0;
         run.slope(numbers, level, figure)?;
     }
     run.ten_alike()?;
     for (side, frame) in [(LEFT, FRAME), (RIGHT, [0, 0, FRAME[0], FRAME[1]])] {
-        let mut numbers = cleared(&house_set());
+        let mut numbers = house_unit();
         let mut results = Vec::new();
         for input in [frame, frame, [0; 4]] {
             run.block(&mut numbers, &input, 4)?;
@@ -164,7 +164,7 @@ pub fn of_orders(run: &mut Run) -> Checked {
         (BOTH, 4, gain(RIGHT, 4), BAND_31),
         (BOTH, VOLUME_BAND, VOLUME, VOLUME_31),
     ] {
-        let mut numbers = cleared(&house_set());
+        let mut numbers = house_unit();
         run.order(&mut numbers, &Order::position(side, band, 31))?;
         run.slope(numbers, level, figure)?;
     }

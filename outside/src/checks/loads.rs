@@ -26,8 +26,8 @@ fn load(run: &mut Run, set: &[i32]) -> Checked<(u32, Numbers)> {
     Ok((answer, got))
 }
 
-/// One loading with the number that document 01 gives for it: "a cleared unit", or "The answer holds the cleared house
-/// unit."
+/// One loading with the number that the specification gives for it: "a cleared unit", or "The answer holds the cleared
+/// house unit."
 fn stated(run: &mut Run, set: &[i32], number: u32) -> Checked {
     let loaded = load(run, set)?;
     let held = match set.try_into() {

@@ -17,7 +17,7 @@ pub fn every_side_and_band() -> impl Iterator<Item = (u32, u32)> {
     SIDES.into_iter().flat_map(|side| BANDS.into_iter().chain(LARGE_BANDS).map(move |band| (side, band)))
 }
 
-/// One order: compared with the reference, and its number as document 01 states it.
+/// One order: compared with the reference, and its number as the specification states it.
 fn stated(run: &mut Run, numbers: &Numbers, order: &Order, number: u32) -> Checked {
     let answer = run.order(&mut numbers.clone(), order)?;
     run.same(number, answer, || format!("{order:?}"))

@@ -7,7 +7,7 @@ use super::sheet_texts::any_field;
 use crate::figures::typed_sheets;
 use crate::reference::ACCEPTED;
 use crate::unit::house_unit;
-use crate::unit::sheet::places::lines;
+use crate::unit::sheet::places::LINES;
 use crate::unit::sheet::SHEET;
 
 /// What each byte is changed into, its neighbours and random bytes apart.
@@ -55,13 +55,13 @@ fn two_bytes(run: &mut Run, right: &[u8]) -> Checked {
 
 /// Several fields, letters and line ends, often of the same line.
 fn several_parts(run: &mut Run, right: &[u8]) -> Checked {
-    let (mut sheet, lines) = (right.to_vec(), lines());
+    let mut sheet = right.to_vec();
     let random = &mut run.maker.random;
     let same_line = random.below(2) == 0;
-    let mut line = random.pick(&lines);
+    let mut line = random.pick(&LINES);
     for _ in 0..=random.below(5) {
         if !same_line {
-            line = random.pick(&lines);
+            line = random.pick(&LINES);
         }
         match random.below(6) {
             0 => line.spoil_letter(&mut sheet, random),
@@ -85,7 +85,7 @@ fn shifted(run: &mut Run, right: &[u8]) -> Checked {
     shorter.remove(place);
     shorter.push(byte);
     read(run, right, &shorter)?;
-    let [one, other] = [(); 2].map(|()| run.maker.random.pick(&lines()));
+    let [one, other] = [(); 2].map(|()| run.maker.random.pick(&LINES));
     let mut exchanged = right.to_vec();
     if one.count == other.count {
         exchanged[one.begin..=one.end()].copy_from_slice(&right[other.begin..=other.end()]);

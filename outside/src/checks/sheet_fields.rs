@@ -7,7 +7,7 @@ use super::sheet_makers::sheet_of;
 use super::sheet_texts::{outside_numbers, well_written};
 use super::units::{kind, Kind};
 use crate::reference::{ACCEPTED, REFUSED_A, REFUSED_B, REFUSED_G};
-use crate::unit::sheet::places::{fields, lines};
+use crate::unit::sheet::places::{fields, LINES};
 use crate::unit::sheet::{BADLY_WRITTEN, OUTSIDE};
 use crate::unit::{house_unit, Numbers};
 
@@ -54,7 +54,7 @@ fn ranges(run: &mut Run, numbers: &Numbers) -> Checked {
 /// "|G| less than 4,194,304 + B", in each C line.
 fn g_beside_b(run: &mut Run, numbers: &Numbers) -> Checked {
     let mut sheet = sheet_of(numbers);
-    for line in lines().iter().filter(|line| line.letter == b'C') {
+    for line in LINES.iter().filter(|line| line.letter == b'C') {
         let right = sheet.clone();
         for b in EVERY_B {
             let edge = 4_194_304 + b;

@@ -6,7 +6,7 @@ use super::sheet_makers::sheet_of;
 use super::sheet_texts::{outside_numbers, well_written};
 use crate::random::Random;
 use crate::reference::{ACCEPTED, REFUSED_A};
-use crate::unit::sheet::places::{lines, Line};
+use crate::unit::sheet::places::{Line, LINES};
 use crate::unit::sheet::{BADLY_WRITTEN, LETTER_OR_END, LINE_FEED, OUTSIDE};
 use crate::unit::Numbers;
 
@@ -109,7 +109,7 @@ pub fn every(run: &mut Run) -> Checked {
     for turn in 0..12 {
         let numbers = run.maker.unit(turn);
         let right = sheet_of(&numbers);
-        for line in lines() {
+        for line in LINES {
             for wrong in Wrong::every(&line) {
                 let sheet = wrong.sheet(&line, &numbers, &right, run);
                 run.stated_sheet(&sheet, wrong.number(&line))?;

@@ -114,7 +114,7 @@ pub fn spoil<const N: usize>(fit: &[i32; N], places: u32, mut turn: impl FnMut(u
     spoilt
 }
 
-/// One refused call: compared with the reference, and its answer and the unchanged section as document 01 states them.
+/// One refused call: compared with the reference, and its answer and the unchanged section as the specification states.
 fn refused(run: &mut Run, call: Call, number: u32) -> Checked {
     let [a, b, g, x1, x2, y1, y2, x] = call;
     let before: Section = [a, b, g, x1, x2, y1, y2];
