@@ -1,5 +1,5 @@
-//! Compares the library with the independent reference. Exit status 0 only if
-//! every answer agrees and every wrong implementation is found out.
+//! Compares the library with the independent reference. Exit status 0 only if every answer agrees and every wrong
+//! implementation is found out.
 
 use std::process::ExitCode;
 
@@ -40,8 +40,7 @@ fn run(group: &Group, subject: &Form) -> Result<Tally, Difference> {
     group.run(subject).map_err(|difference| format!("{}: {difference}", group.name))
 }
 
-/// Runs all groups and these more against one subject and prints a line for
-/// each.
+/// Runs all groups and these more against one subject and prints a line for each.
 fn every_group(subject: &Form, more: &[Group]) -> Result<(), Difference> {
     let mut total = Tally::default();
     for group in GROUPS.iter().chain(more) {

@@ -1,5 +1,4 @@
-//! The comparison, group by group. A group takes any subject, holds it against
-//! the exact reference and stops at the first difference.
+//! The comparison, group by group. A group holds any subject against the exact reference, up to the first difference.
 
 pub mod arithmetic;
 pub mod bands;

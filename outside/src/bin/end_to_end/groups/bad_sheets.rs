@@ -73,11 +73,8 @@ pub fn refused(sheet: &[u8]) -> Vec<(String, Vec<u8>, u32)> {
         let Line { begin, letter, .. } = LINES[place];
         refused.push((format!("small letter in line {place}"), with_bytes(sheet, begin, &[letter + 32]), 12));
         for byte in [b'\r', b' ', 0] {
-            refused.push((
-                format!("line {place} ends with {byte}"),
-                with_bytes(sheet, LINES[place].end(), &[byte]),
-                12,
-            ));
+            let changed = with_bytes(sheet, LINES[place].end(), &[byte]);
+            refused.push((format!("line {place} ends with {byte}"), changed, 12));
         }
     }
     let swapped = with_bytes(&with_bytes(sheet, LINES[L].begin, b"R"), LINES[R].begin, b"L");

@@ -1,5 +1,5 @@
-//! The groups of cases. A group runs a program again and again, each time in a folder of its own, and stops at the first
-//! difference.
+//! The groups of cases. A group runs a program again and again, each time in a folder of its own, and stops at the
+//! first difference.
 
 mod arguments;
 mod bad_sheets;
