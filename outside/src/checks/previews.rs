@@ -86,7 +86,7 @@ pub fn beside_section(run: &mut Run) -> Checked {
 const BEHIND: [i32; 4] = [WORD_MAX + 1, i32::MIN, i32::MAX, WORD_MIN - 1];
 
 /// A list of so many words with buffers of these lengths.
-fn rooms(run: &mut Run, band: Band, length: usize, rooms: impl IntoIterator<Item = usize>) -> Checked {
+fn with_rooms(run: &mut Run, band: Band, length: usize, rooms: impl IntoIterator<Item = usize>) -> Checked {
     let sound = match run.random.below(3) {
         0 => Sound::Ends,
         _ => run.random.pick(WORD_SOUNDS),
@@ -107,13 +107,13 @@ pub fn lengths(run: &mut Run) -> Checked {
     for band in bands {
         for length in 0..=48 {
             let rooms = (0..length + 8).chain([length + 40, length + 500]);
-            self::rooms(run, band, length, rooms)?;
+            with_rooms(run, band, length, rooms)?;
         }
     }
     for length in [255, 256, 257, 1_024, 4_095, 4_096, 4_097, 65_535, 65_536, 65_537] {
         let rooms = [0, 1, length / 2, length - 1, length, length + 1, 2 * length];
         let band = random_accepted(&mut run.random);
-        self::rooms(run, band, length, rooms)?;
+        with_rooms(run, band, length, rooms)?;
     }
     Ok(())
 }
