@@ -1,4 +1,4 @@
-//! The figures of document 01: what is asked, and what must come. Quoted sentences are that document's.
+//! The figures of the specification: what is asked, and what must come. Quoted sentences are the specification's.
 
 use crate::reference::Section;
 use crate::unit::orders::{FACTOR_NOT_FINITE, FACTOR_OUTSIDE};

@@ -1,7 +1,7 @@
 //! Whether the library keeps to the numbers and bytes lent to it: groups of the comparison are run with everything lent
 //! in the middle of a larger buffer.
 
-use crate::checks::{bands, blocks, fitness, loads, orders, previews, refusals, sheet_lengths, sheets};
+use crate::checks::groups::*;
 use crate::ffi::{self, raw};
 use crate::reference::Section;
 use crate::subject::Subject;
@@ -18,12 +18,11 @@ const MARK_BYTE: u8 = 0xA5;
 /// it only reads too.
 pub fn keeps_to_its_numbers() -> bool {
     let lent = Lent { kept: Cell::new(true), turn: Cell::new(0) };
-    let groups = [bands::house, refusals::steps, loads::sets, fitness::units, blocks::sizes_and_cuts, blocks::lengths];
-    let others = [orders::places, sheets::units, sheet_lengths::wrong, previews::lengths];
+    let groups = [HOUSE, REFUSED, LOADS, FITNESS, CUTS, REFUSED_BLOCKS, ORDERS, SHEETS, SHEET_LENGTHS, PREVIEW_LENGTHS];
     for (side, band) in [(2, 118), (2, 1 << 29)] {
         lent.order(&mut house_unit(), &Order::factor(side, band, 0.5));
     }
-    groups.iter().chain(&others).all(|run| run(&lent).is_ok()) && lent.kept.get()
+    groups.iter().all(|group| group.run(&lent).is_ok()) && lent.kept.get()
 }
 
 /// The library, and whether it has kept to what was lent.

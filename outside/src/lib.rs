@@ -1,6 +1,5 @@
-//! Outside tests of the equaliser: an implementation of the section, of its
-//! preview and of the unit written from document 01 alone, and the comparison of
-//! the library and of the play program with it.
+//! Outside tests of the equaliser: an implementation of the section, of its preview and of the unit written from the
+//! specification alone, and the comparison of the library and of the programs with it.
 
 pub mod calls;
 pub mod checks;

@@ -1,4 +1,4 @@
-//! The floating preview of a section. Quoted sentences are document 01's.
+//! The floating preview of a section. Quoted sentences are the specification's.
 //!
 //! Two forms stand side by side, as for the section. `exact` is the plain meaning: the exact section, stepped over the
 //! list. `fast` is what one would write for use, in f64.

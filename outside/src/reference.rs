@@ -1,5 +1,5 @@
-//! The section, the rounding, the limiting, the refusals and the house set, written from document 01. Quoted sentences
-//! are that document's.
+//! The section, the rounding, the limiting, the refusals and the house set, written from the specification. Quoted
+//! sentences are the specification's.
 //!
 //! Two forms stand side by side. `exact` is the plain meaning, in i128 with floor division. `fast` is what one would
 //! write for use, in i64 with shifts. The comparison holds them against each other as well as against the library.
@@ -18,7 +18,7 @@ pub const REFUSED_B: u32 = 9;
 pub const REFUSED_G: u32 = 10;
 pub const NO_WORD: u32 = 15;
 
-/// Table 1 of source document 002: alpha, beta, gamma for the centre frequencies 31, 62, 125, 250, 500, 1000, 2000,
+/// Table 1 of the note: alpha, beta, gamma for the centre frequencies 31, 62, 125, 250, 500, 1000, 2000,
 /// 4000, 8000, 16000 Hz. The listing's figures, which differ from these, are not used.
 pub const TABLE_1: [[&str; 3]; 10] = [
     ["0.000787462865", "0.498425074", "0.998415336"],
@@ -33,8 +33,7 @@ pub const TABLE_1: [[&str; 3]; 10] = [
     ["0.159603", "0.1800994", "-0.4435172"],
 ];
 
-/// "The house set is Table 1 of source document 002, each figure × 2^23 to the nearest whole number": A, B, G of each
-/// band in turn.
+/// "The house set is Table 1 of the note, each figure × 2^23 to the nearest whole number": A, B, G of each band in turn.
 pub fn house_set() -> [i32; 30] {
     std::array::from_fn(|n| figure_to_word(TABLE_1[n / 3][n % 3]))
 }

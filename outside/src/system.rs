@@ -23,25 +23,14 @@ mod raw {
     extern "C" {
         pub fn fcntl(descriptor: c_int, command: c_int, ...) -> c_int;
         pub fn ioctl(descriptor: c_int, request: c_ulong, ...) -> c_int;
-        pub fn signal(number: c_int, handler: usize) -> usize;
         pub fn wait4(process: c_int, status: *mut c_int, options: c_int, usage: *mut Rusage) -> c_int;
         pub fn getrusage(who: c_int, usage: *mut Rusage) -> c_int;
     }
 }
 
-const F_GETFD: c_int = 1;
 const F_SETPIPE_SZ: c_int = 1_031;
 const FIONREAD: std::ffi::c_ulong = 0x541B;
 const RUSAGE_SELF: c_int = 0;
-
-pub const SIGPIPE: c_int = 13;
-pub const SIG_DFL: usize = 0;
-
-/// True where this descriptor is open.
-pub fn is_open(descriptor: c_int) -> bool {
-    // SAFETY: asks for the flags of a descriptor and changes nothing.
-    unsafe { raw::fcntl(descriptor, F_GETFD) != -1 }
-}
 
 /// Gives a pipe this much room; where that is refused it stays as it was.
 pub fn widen_pipe(pipe: BorrowedFd, bytes: c_int) {
@@ -57,32 +46,14 @@ pub fn unread(pipe: BorrowedFd) -> usize {
     bytes as usize
 }
 
-/// Sets what a signal does and gives what it did before.
-///
-/// # Safety
-/// `action` is one that this function gave, or `SIG_DFL`.
-pub unsafe fn set_signal(number: c_int, action: usize) -> usize {
-    unsafe { raw::signal(number, action) }
-}
+/// The time that a process has used: the user's, and the user's and the system's.
+pub type Used = [Duration; 2];
 
-/// The time that a process has used.
-#[derive(Clone, Copy)]
-pub struct Used {
-    pub user: Duration,
-    pub system: Duration,
-}
-
-impl Used {
-    fn of(raw::Rusage(times, _): raw::Rusage) -> Used {
-        let [user, system] = times.map(|raw::Timeval { seconds, microseconds }| {
-            Duration::from_secs(seconds as u64) + Duration::from_micros(microseconds as u64)
-        });
-        Used { user, system }
-    }
-
-    pub fn total(&self) -> Duration {
-        self.user + self.system
-    }
+fn used_by(raw::Rusage(times, _): raw::Rusage) -> Used {
+    let [user, system] = times.map(|raw::Timeval { seconds, microseconds }| {
+        Duration::from_secs(seconds as u64) + Duration::from_micros(microseconds as u64)
+    });
+    [user, user + system]
 }
 
 /// The time that this process has used up to now.
@@ -90,7 +61,7 @@ pub fn used() -> Used {
     let mut usage = raw::Rusage::default();
     // SAFETY: fills what is this function's own.
     unsafe { raw::getrusage(RUSAGE_SELF, &mut usage) };
-    Used::of(usage)
+    used_by(usage)
 }
 
 /// Waits for the end of a child: the status as the system packs it, which is 0 for an exit status of 0, and the time it
@@ -102,5 +73,5 @@ pub fn wait_for(process: u32) -> io::Result<(i32, Used)> {
     if ended == -1 {
         return Err(io::Error::last_os_error());
     }
-    Ok((status, Used::of(usage)))
+    Ok((status, used_by(usage)))
 }

@@ -38,6 +38,11 @@ pub fn in_turns<const N: usize>(
     Ok(best)
 }
 
+/// True where one of the measured pairs of times has at most this ratio.
+pub fn within(name: &str, most: f64, mut times: impl FnMut() -> Result<[f64; 2], String>) -> Result<bool, String> {
+    kept(&format!("{name}, ratio over {most:.2}"), || times().map(|[one, other]| one / other <= most))
+}
+
 /// True where one of the measurements keeps the limit; otherwise that is told.
 pub fn kept(limit: &str, mut measure: impl FnMut() -> Result<bool, String>) -> Result<bool, String> {
     for _ in 0..TRIALS {

@@ -1,13 +1,11 @@
-//! Compares the library with the independent reference. Exit status 0 only if
-//! every answer agrees and every wrong implementation is found out.
+//! Compares the library with the independent reference. Exit status 0 only if every answer agrees and every wrong
+//! implementation is found out.
 
 use std::process::ExitCode;
 
-use outside::checks::groups::{
-    Group, BLOCKS, CORNERS, CUTS, FITNESS, FRAMES, GROUPS, LISTS, MANY_SHEETS, REFUSED, REFUSED_BLOCKS,
-};
+use outside::checks::groups::*;
 use outside::checks::report::report;
-use outside::checks::{big_numbers, distance, Difference, Tally};
+use outside::checks::{Difference, Tally};
 use outside::exact_sound::judge::Distances;
 use outside::faults::{Wrong, RIGHT, WRONG};
 use outside::lent;
@@ -17,16 +15,14 @@ use outside::subject::{Form, FAST, LIBRARY};
 const NEAR: f64 = 0.9;
 
 fn main() -> ExitCode {
-    let of_group = |group: &Group| Some((group.name, group.seed?));
-    let mut seeds: Vec<(&str, u64)> = GROUPS.iter().chain([&MANY_SHEETS]).filter_map(of_group).collect();
-    seeds.extend([("big numbers", big_numbers::BIG_SEED), ("one step", distance::ONE_STEP_SEED)]);
+    let groups = GROUPS.iter().chain(OTHERS).filter(|group| group.seed != 0);
+    let seeds: Vec<(&str, u64)> = groups.map(|group| (group.name, group.seed)).collect();
     report(&seeds, "All agree.", everything)
 }
 
 fn everything() -> Result<(), Difference> {
-    let numbers = big_numbers::agree().map_err(|difference| format!("big numbers: {difference}"))?;
     println!("The arithmetic of the exact sound:");
-    println!("  {} answers agree", numbers.answers);
+    println!("  {} answers agree", run(&BIG_NUMBERS, &FAST)?.answers);
     println!("The fast Rust form against the exact one:");
     every_group(&FAST, &[])?;
     println!("The library against the exact Rust form:");
@@ -39,12 +35,16 @@ fn everything() -> Result<(), Difference> {
     every_wrong_one()
 }
 
-/// Runs all groups and these more against one subject and prints a line for
-/// each.
+/// Runs a group against one subject. A difference is told with its name.
+fn run(group: &Group, subject: &Form) -> Result<Tally, Difference> {
+    group.run(subject).map_err(|difference| format!("{}: {difference}", group.name))
+}
+
+/// Runs all groups and these more against one subject and prints a line for each.
 fn every_group(subject: &Form, more: &[Group]) -> Result<(), Difference> {
     let mut total = Tally::default();
     for group in GROUPS.iter().chain(more) {
-        let tally = (group.run)(subject).map_err(|difference| format!("{}: {difference}", group.name))?;
+        let tally = run(group, subject)?;
         println!("  {} ({}): {} answers agree{}", group.name, group.what, tally.answers, sound_of(&tally));
         total.add(&tally);
     }
@@ -60,7 +60,7 @@ fn every_group(subject: &Form, more: &[Group]) -> Result<(), Difference> {
 
 /// The frames played and the words previewed, where there are any.
 fn sound_of(tally: &Tally) -> String {
-    let counts = [(tally.frames, "frames"), (tally.previews.words, "words")];
+    let counts = [(tally.frames, "frames"), (tally.words, "words")];
     counts.iter().filter(|(count, _)| *count > 0).map(|(count, what)| format!(", {count} {what}")).collect()
 }
 
@@ -81,17 +81,17 @@ fn near_the_bound(distances: &Distances) -> Result<(), Difference> {
 /// else than what is wrong in them.
 fn every_wrong_one() -> Result<(), Difference> {
     for group in [LISTS, CORNERS, REFUSED, FITNESS, BLOCKS, FRAMES, CUTS, REFUSED_BLOCKS] {
-        (group.run)(&RIGHT).map_err(|difference| format!("nothing wrong, {}: {difference}", group.name))?;
+        run(&group, &RIGHT).map_err(|difference| format!("nothing wrong, {difference}"))?;
     }
     WRONG.iter().try_for_each(find)?;
-    let found = distance::found_everywhere()?.answers;
+    let found = run(&ONE_STEP, &FAST)?.answers;
     println!("  a sample one step away: found by distance at each of {found} places");
     Ok(())
 }
 
 /// Every group that ought to find this wrong implementation must do so.
 fn find(wrong: &Wrong) -> Result<(), Difference> {
-    if let Some(group) = wrong.found_by.iter().find(|group| (group.run)(&wrong.form).is_ok()) {
+    if let Some(group) = wrong.found_by.iter().find(|group| group.run(&wrong.form).is_ok()) {
         return Err(format!("{}: not found by {}", wrong.name, group.name));
     }
     let groups: Vec<&str> = wrong.found_by.iter().map(|group| group.name).collect();

@@ -1,11 +1,8 @@
 //! Which bands are refused, the house set, and the bands the section is stepped with.
 
-use super::run::{Checked, Outcome, Run, Subject};
-use super::{same, Tally};
+use super::run::{Checked, Run};
 use crate::random::Random;
 use crate::reference::{band_refusal, house_set, ACCEPTED};
-
-pub const BANDS_SEED: u64 = 0xF0DD_0003;
 
 /// A, B, G.
 pub type Band = [i32; 3];
@@ -42,8 +39,7 @@ fn same_refusal(run: &mut Run, [a, b, g]: Band) -> Checked {
     run.same(band_refusal(a, b, g), got, || format!("band A = {a}, B = {b}, G = {g}"))
 }
 
-pub fn refusals(subject: &dyn Subject) -> Outcome {
-    let run = &mut Run::new(subject, BANDS_SEED);
+pub fn refusals(run: &mut Run) -> Checked {
     for band in corner_bands() {
         same_refusal(run, band)?;
     }
@@ -61,22 +57,21 @@ pub fn refusals(subject: &dyn Subject) -> Outcome {
         let accepted = random_accepted(&mut run.random);
         same_refusal(run, accepted)?;
     }
-    Ok(run.tally)
+    Ok(())
 }
 
-pub fn house(subject: &dyn Subject) -> Outcome {
-    let tally = &mut Tally::default();
-    let (expected, got) = (house_set(), subject.house_set());
+pub fn house(run: &mut Run) -> Checked {
+    let (expected, got) = (house_set(), run.subject.house_set());
     for place in 0..30 {
         let name = ["A", "B", "G"][place % 3];
-        same(tally, expected[place], got[place], || format!("house set, {name} of band {}", place / 3))?;
+        run.same(expected[place], got[place], || format!("house set, {name} of band {}", place / 3))?;
     }
     for band in got.chunks_exact(3) {
         let [a, b, g] = [band[0], band[1], band[2]];
-        same(tally, ACCEPTED, band_refusal(a, b, g), || format!("house band {band:?}"))?;
-        same(tally, ACCEPTED, subject.band_refusal(a, b, g), || format!("house band {band:?}"))?;
+        run.same(ACCEPTED, band_refusal(a, b, g), || format!("house band {band:?}"))?;
+        same_refusal(run, [a, b, g])?;
     }
-    Ok(*tally)
+    Ok(())
 }
 
 /// The ten bands of the house set.

@@ -1,8 +1,7 @@
 //! The arithmetic of the exact sound by itself: small numbers against i128, large ones by what they leave when divided,
 //! and figures worked by hand.
 
-use super::run::{Checked, Outcome};
-use super::{same, Tally};
+use super::run::{Checked, Run};
 use crate::exact_sound::big::Big;
 use crate::exact_sound::fraction::Fraction;
 use crate::exact_sound::response::Responses;
@@ -10,8 +9,6 @@ use crate::exact_sound::ExactSound;
 use crate::random::Random;
 use crate::reference::house_set;
 use crate::unit::orders::{Order, VOLUME_BAND};
-
-pub const BIG_SEED: u64 = 0xF0DD_001C;
 
 /// Divisors, each under 2^63.
 const DIVISORS: [u128; 4] = [(1 << 61) - 1, 1_000_000_007, 3, (1 << 62) - 57];
@@ -56,56 +53,56 @@ fn wide(number: i128) -> Big {
 }
 
 /// a + c × b × 2^shift in numbers that fit into an i128.
-fn small(random: &mut Random, tally: &mut Tally) -> Checked {
-    let [a, b] = [(); 2].map(|()| i128::from(random.any_size()) >> random.below(20));
-    let coefficient = random.any_size() >> 22;
-    let shift = random.below(20) as usize;
+fn small(run: &mut Run) -> Checked {
+    let [a, b] = [(); 2].map(|()| i128::from(run.random.any_size()) >> run.random.below(20));
+    let coefficient = run.random.any_size() >> 22;
+    let shift = run.random.below(20) as usize;
     let mut sum = wide(a << 40);
     sum.add_scaled(coefficient, &wide(b), shift);
     let expected = (a << 40) + ((i128::from(coefficient) * b) << shift);
     let inputs = || format!("{a} × 2^40 + {coefficient} × {b} × 2^{shift}");
-    same(tally, Some(expected), narrow(&sum), inputs)?;
-    same(tally, &wide(expected), &sum, inputs)?;
-    same(tally, wide(expected.abs()), sum.size(), inputs)?;
-    same(tally, expected < 0, sum.is_negative(), inputs)
+    run.same(Some(expected), narrow(&sum), inputs)?;
+    run.same(&wide(expected), &sum, inputs)?;
+    run.same(wide(expected.abs()), sum.size(), inputs)?;
+    run.same(expected < 0, sum.is_negative(), inputs)
 }
 
 /// a + c × b × 2^shift in large numbers: what is left of the sum, and the way back.
-fn large(random: &mut Random, tally: &mut Tally) -> Checked {
-    let [a, b] = [(); 2].map(|()| any_big(random, 30));
-    let coefficient = random.any_size() >> 1;
-    let shift = random.below(700) as usize;
+fn large(run: &mut Run) -> Checked {
+    let [a, b] = [(); 2].map(|()| any_big(&mut run.random, 30));
+    let coefficient = run.random.any_size() >> 1;
+    let shift = run.random.below(700) as usize;
     let mut sum = a.clone();
     sum.add_scaled(coefficient, &b, shift);
     let inputs = || format!("{a:?} + {coefficient} × {b:?} × 2^{shift}");
     for divisor in DIVISORS {
         let factor = i128::from(coefficient).rem_euclid(divisor as i128) as u128;
         let product = factor * power_residue(shift, divisor) % divisor * residue(&b, divisor) % divisor;
-        same(tally, (product + residue(&a, divisor)) % divisor, residue(&sum, divisor), inputs)?;
+        run.same((product + residue(&a, divisor)) % divisor, residue(&sum, divisor), inputs)?;
     }
     sum.add_scaled(-coefficient, &b, shift);
-    same(tally, &a, &sum, inputs)
+    run.same(&a, &sum, inputs)
 }
 
 /// Sums, sizes and comparisons of fractions, against i128 over 2^44.
-fn fractions(random: &mut Random, tally: &mut Tally) -> Checked {
-    let numbers = [(); 2].map(|()| random.any_size() >> 16);
-    let powers = [(); 2].map(|()| random.below(3) as u32);
+fn fractions(run: &mut Run) -> Checked {
+    let numbers = [(); 2].map(|()| run.random.any_size() >> 16);
+    let powers = [(); 2].map(|()| run.random.below(3) as u32);
     let [a, b] = [0, 1].map(|n| (0..powers[n]).fold(Fraction::whole(numbers[n]), |sum, _| sum.over_2_22()));
     let [wide_a, wide_b] = [0, 1].map(|n| i128::from(numbers[n]) << (22 * (2 - powers[n])));
     let inputs = || format!("{numbers:?} over 2^22 to the powers {powers:?}");
-    same(tally, wide_a.cmp(&wide_b), a.compared_with(&b), inputs)?;
+    run.same(wide_a.cmp(&wide_b), a.compared_with(&b), inputs)?;
     let sum = Fraction::sum(&[(3, &a), (-5, &b)]);
     let expected = 3 * wide_a - 5 * wide_b;
-    same(tally, expected < 0, sum.is_negative(), inputs)?;
-    same(tally, expected == 0, sum.is_zero(), inputs)?;
+    run.same(expected < 0, sum.is_negative(), inputs)?;
+    run.same(expected == 0, sum.is_zero(), inputs)?;
     let about = expected.abs() as f64 / 2_f64.powi(44);
     let close = (sum.size().approximately() - about).abs() <= about * 1e-12;
-    same(tally, true, close, inputs)
+    run.same(true, close, inputs)
 }
 
 /// H after so many frames: with B = 0 the sum of |G / 2^22|^k, and one with a B by hand: 1 + |3/2| + |9/4 - 1/2|.
-fn responses(tally: &mut Tally) -> Checked {
+fn responses(run: &mut Run) -> Checked {
     let figures =
         [(0, 1 << 21, [4, 6, 7]), (0, -(1 << 21), [4, 6, 7]), (0, 0, [4, 4, 4]), (1 << 21, -3 << 21, [4, 10, 17])];
     for (b, g, quarters) in figures {
@@ -114,7 +111,7 @@ fn responses(tally: &mut Tally) -> Checked {
             responses.grow();
             let got = responses.weighted(&[4, 0, 0, 0, 0, 0, 0, 0, 0, 0]);
             let equal = got.compared_with(&Fraction::whole(quarter)).is_eq();
-            same(tally, true, equal, || format!("H of B = {b}, G = {g}"))?;
+            run.same(true, equal, || format!("H of B = {b}, G = {g}"))?;
         }
     }
     Ok(())
@@ -122,7 +119,7 @@ fn responses(tally: &mut Tally) -> Checked {
 
 /// "V = 419, gains 0, s = 32,767": the exact output is 419 × 256 × 32,767 / 2^31. With the 31 Hz band's gain at 839
 /// too, it has 839 × 6,606 × 256 × 32,767 / 2^45 more in the mix.
-fn first_frame(tally: &mut Tally) -> Checked {
+fn first_frame(run: &mut Run) -> Checked {
     let mut sound = ExactSound::new(&house_set());
     sound.order(&Order::position(2, VOLUME_BAND, 31));
     sound.order(&Order::position(1, 0, 31));
@@ -133,22 +130,19 @@ fn first_frame(tally: &mut Tally) -> Checked {
     let more = Fraction::sum(&[(1, &plain), (419 * 839, &y)]);
     for (side, expected) in [plain, more].iter().enumerate() {
         let equal = sound.output(side).compared_with(expected).is_eq();
-        same(tally, true, equal, || format!("first frame, side {side}"))?;
+        run.same(true, equal, || format!("first frame, side {side}"))?;
     }
     Ok(())
 }
 
-pub fn agree() -> Outcome {
-    let mut tally = Tally::default();
-    let mut random = Random::new(BIG_SEED);
+pub fn agree(run: &mut Run) -> Checked {
     for _ in 0..100_000 {
-        small(&mut random, &mut tally)?;
-        fractions(&mut random, &mut tally)?;
+        small(run)?;
+        fractions(run)?;
     }
     for _ in 0..5_000 {
-        large(&mut random, &mut tally)?;
+        large(run)?;
     }
-    responses(&mut tally)?;
-    first_frame(&mut tally)?;
-    Ok(tally)
+    responses(run)?;
+    first_frame(run)
 }

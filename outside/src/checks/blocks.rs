@@ -2,18 +2,12 @@
 //! blocks of wrong lengths: "5 input bytes no multiple of four; 6 output shorter than input. Unit and output
 //! unchanged."
 
-use super::run::{Checked, Outcome, Run, Subject};
-use super::same_block::marks;
+use super::run::{marks, Checked, Run};
 use super::sounds::{Sound, SOUNDS};
 use super::units::{half_unit, random_fit, strips};
 use crate::random::Random;
 use crate::reference::{ACCEPTED, WORD_MAX, WORD_MIN};
 use crate::unit::{cleared, house_unit, Numbers, OUTPUT_TOO_SHORT, PART_OF_A_FRAME};
-
-pub const BLOCKS_SEED: u64 = 0xF0DD_0014;
-pub const FRAMES_SEED: u64 = 0xF0DD_0015;
-pub const CUTS_SEED: u64 = 0xF0DD_0016;
-pub const BLOCK_REFUSALS_SEED: u64 = 0xF0DD_0017;
 
 /// One block with a few bytes of room behind it.
 fn block(run: &mut Run, numbers: &mut Numbers, sound: Sound, frames: usize) -> Checked {
@@ -63,8 +57,7 @@ fn every_sound(run: &mut Run, turn: u64) -> Checked {
     Ok(())
 }
 
-pub fn long(subject: &dyn Subject) -> Outcome {
-    let run = &mut Run::new(subject, BLOCKS_SEED);
+pub fn long(run: &mut Run) -> Checked {
     long_sound(run, &mut house_unit())?;
     for turn in 0..10 {
         let mut numbers = run.fit_unit(turn);
@@ -78,12 +71,11 @@ pub fn long(subject: &dyn Subject) -> Outcome {
         let mut halves = half_unit(&run.sets, &mut run.random);
         block(run, &mut halves, sound, 500)?;
     }
-    Ok(run.tally)
+    Ok(())
 }
 
 /// Single frames from random fit units.
-pub fn frames(subject: &dyn Subject) -> Outcome {
-    let run = &mut Run::new(subject, FRAMES_SEED);
+pub fn frames(run: &mut Run) -> Checked {
     for turn in 0..200_000 {
         let mut numbers = run.fit_unit(turn);
         let sound = run.random.pick(&[Sound::Noise, Sound::Ends, Sound::Faint]);
@@ -93,7 +85,7 @@ pub fn frames(subject: &dyn Subject) -> Outcome {
             block(run, &mut halves, sound, 1)?;
         }
     }
-    Ok(run.tally)
+    Ok(())
 }
 
 /// Every size from 0 to 64 frames, with 0 to 7 bytes of room behind.
@@ -122,8 +114,7 @@ fn cut(run: &mut Run, start: &Numbers, sound: &[u8], next: impl Fn(&mut Random) 
     run.same((whole, expected), (parts, got), || format!("a sound of {} bytes cut into blocks", sound.len()))
 }
 
-pub fn sizes_and_cuts(subject: &dyn Subject) -> Outcome {
-    let run = &mut Run::new(subject, CUTS_SEED);
+pub fn sizes_and_cuts(run: &mut Run) -> Checked {
     for turn in 0..20 {
         let start = run.fit_unit(turn);
         sizes(run, &start)?;
@@ -134,11 +125,11 @@ pub fn sizes_and_cuts(subject: &dyn Subject) -> Outcome {
         // Empty blocks between the others too.
         cut(run, &start, &sound, |random| random.below(40) as usize)?;
     }
-    Ok(run.tally)
+    Ok(())
 }
 
-/// One block: compared with the reference, its number as document 01 states it, "The first that applies, in numerical
-/// order", and after a refusal unit and output unchanged.
+/// One block: compared with the reference, its number as the specification states it, "The first that applies, in
+/// numerical order", and after a refusal unit and output unchanged.
 fn stated(run: &mut Run, numbers: &Numbers, length: usize, room: usize) -> Checked {
     let input = vec![0x5A; length];
     run.block(&mut numbers.clone(), &input, room)?;
@@ -157,8 +148,7 @@ fn stated(run: &mut Run, numbers: &Numbers, length: usize, room: usize) -> Check
     Ok(())
 }
 
-pub fn lengths(subject: &dyn Subject) -> Outcome {
-    let run = &mut Run::new(subject, BLOCK_REFUSALS_SEED);
+pub fn lengths(run: &mut Run) -> Checked {
     let mut units = vec![house_unit()];
     units.extend((0..10).map(|turn| run.fit_unit(turn)));
     for numbers in &units {
@@ -177,5 +167,5 @@ pub fn lengths(subject: &dyn Subject) -> Outcome {
             stated(run, numbers, length, room)?;
         }
     }
-    Ok(run.tally)
+    Ok(())
 }

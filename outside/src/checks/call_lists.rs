@@ -2,15 +2,11 @@
 //! numbers and every byte of the output.
 
 use super::makers::Maker;
-use super::run::{Checked, Outcome, Run, Subject};
-use super::same_sheet::same_back;
+use super::run::{Checked, Run};
 use crate::calls::List;
 use crate::reference::ACCEPTED;
 use crate::unit::cleared;
 use crate::unit::sheet::{exact, SHEET};
-
-pub const CALLS_SEED: u64 = 0xF0DD_001A;
-pub const SHEET_LISTS_SEED: u64 = 0xF0DD_0024;
 
 /// One list, from the loading of its band set on.
 fn play(run: &mut Run, list: &List) -> Checked {
@@ -23,9 +19,8 @@ fn play(run: &mut Run, list: &List) -> Checked {
     Ok(())
 }
 
-pub fn lists(subject: &dyn Subject) -> Outcome {
-    let run = &mut Run::new(subject, CALLS_SEED);
-    let mut maker = Maker::new(CALLS_SEED);
+pub fn lists(run: &mut Run) -> Checked {
+    let mut maker = Maker::new(run.seed);
     for turn in 0..1_200 {
         let set = maker.set(turn);
         play(run, &maker.list(set, turn % 4 == 0, 40, 30))?;
@@ -34,7 +29,7 @@ pub fn lists(subject: &dyn Subject) -> Outcome {
         let set = maker.set(turn);
         play(run, &maker.list(set, true, 12, 2_000))?;
     }
-    Ok(run.tally)
+    Ok(())
 }
 
 /// One list: "Reading back the sheet that a list wrote under these same rules continues that list". Before each call
@@ -43,18 +38,17 @@ fn carry_on(run: &mut Run, list: &List) -> Checked {
     let mut numbers = cleared(&list.set);
     let lent = [0x33; SHEET + 1];
     for call in &list.calls {
-        same_back(run.subject, exact::write, &numbers, &lent, &[-1; 118], &mut run.tally)?;
+        run.write_and_read(exact::write, &numbers, &lent, &[-1; 118])?;
         run.call(&mut numbers, call)?;
     }
-    same_back(run.subject, exact::write, &numbers, &lent, &[-1; 118], &mut run.tally)
+    run.write_and_read(exact::write, &numbers, &lent, &[-1; 118])
 }
 
-pub fn carried_on(subject: &dyn Subject) -> Outcome {
-    let run = &mut Run::new(subject, SHEET_LISTS_SEED);
-    let mut maker = Maker::new(SHEET_LISTS_SEED);
+pub fn carried_on(run: &mut Run) -> Checked {
+    let mut maker = Maker::new(run.seed);
     for turn in 0..300 {
         let set = maker.set(turn);
         carry_on(run, &maker.list(set, turn % 2 == 0, 30, 60))?;
     }
-    Ok(run.tally)
+    Ok(())
 }

@@ -3,17 +3,15 @@
 
 use super::distance_lists::lists;
 use super::makers::Maker;
-use super::same_block::marks;
+use super::run::{marks, Checked, Run};
 use super::sounds::Sound;
-use super::{Difference, Outcome, Tally};
+use super::Tally;
 use crate::calls::{Call, List};
-use crate::exact_sound::judge::{judge, Distances};
+use crate::exact_sound::judge::judge;
 use crate::reference::house_set;
-use crate::subject::{Subject, FAST};
+use crate::subject::Subject;
 use std::sync::atomic::{AtomicUsize, Ordering};
 use std::thread;
-
-pub const ONE_STEP_SEED: u64 = 0xF0DD_001D;
 
 const THREADS: usize = 2;
 
@@ -41,42 +39,40 @@ fn played(subject: &dyn Subject, list: &List) -> Vec<Vec<u8>> {
 type Played = (List, Vec<Vec<u8>>);
 
 /// Judges the next list that nobody has taken, until none is left or one lies beyond the bound.
-fn judge_in_turn(every: &[Played], next: &AtomicUsize) -> Result<Distances, Difference> {
-    let mut distances = Distances::default();
+fn judge_in_turn(every: &[Played], next: &AtomicUsize) -> Checked<Tally> {
+    let mut tally = Tally::default();
     while let Some((list, outputs)) = every.get(next.fetch_add(1, Ordering::Relaxed)) {
         let judged = judge(list, outputs).inspect_err(|_| next.store(every.len(), Ordering::Relaxed));
-        distances.add(&judged.map_err(|what| format!("{what}; band set {:?}", list.set))?);
+        tally.count_distances(judged.map_err(|what| format!("{what}; band set {:?}", list.set))?);
     }
-    Ok(distances)
+    Ok(tally)
 }
 
 /// Judges them all, several at a time.
-fn judge_all(every: &[Played]) -> Result<Distances, Difference> {
+fn judge_all(every: &[Played], tally: &mut Tally) -> Checked {
     let next = AtomicUsize::new(0);
-    let mut distances = Distances::default();
     thread::scope(|scope| {
         let begin = |_| scope.spawn(|| judge_in_turn(every, &next));
         let threads: Vec<_> = (0..THREADS).map(begin).collect();
         for thread in threads {
-            distances.add(&thread.join().expect("no thread gives up")?);
+            tally.add(&thread.join().expect("no thread gives up")?);
         }
-        Ok(distances)
+        Ok(())
     })
 }
 
-pub fn from_the_exact(subject: &dyn Subject) -> Outcome {
+pub fn from_the_exact(run: &mut Run) -> Checked {
     let play = |list: List| {
-        let outputs = played(subject, &list);
+        let outputs = played(run.subject, &list);
         (list, outputs)
     };
-    let every: Vec<Played> = lists().into_iter().map(play).collect();
-    let distances = judge_all(&every)?;
-    Ok(Tally { answers: distances.judged, distances, ..Tally::default() })
+    let every: Vec<Played> = lists(run.seed).into_iter().map(play).collect();
+    judge_all(&every, &mut run.tally)
 }
 
 /// Levels rising, and soft noise that limits nothing; the bound stays under 1.
-fn list() -> List {
-    let mut maker = Maker::new(ONE_STEP_SEED);
+fn list(seed: u64) -> List {
+    let mut maker = Maker::new(seed);
     let mut calls: Vec<Call> = (0..11).map(|band| Call::Order(maker.level(band))).collect();
     for _ in 0..3 {
         let input = Sound::Soft(14).block(20, &mut maker.random);
@@ -97,19 +93,18 @@ fn is_found(list: &List, outputs: &[Vec<u8>], [block, at]: [usize; 2], step: i16
 }
 
 /// Every sample must be found when moved away from the exact sound, which is one step up or one step down.
-pub fn found_everywhere() -> Outcome {
-    let list = list();
-    let outputs = played(&FAST, &list);
+pub fn found_everywhere(run: &mut Run) -> Checked {
+    let list = list(run.seed);
+    let outputs = played(run.subject, &list);
     judge(&list, &outputs)?;
-    let mut tally = Tally::default();
     for (block, output) in outputs.iter().enumerate() {
         for at in (0..output.len()).step_by(2) {
             let place = [block, at];
             if ![1, -1].iter().any(|&step| is_found(&list, &outputs, place, step)) {
                 return Err(format!("a sample one step away isn't found: byte {at} of block {block}"));
             }
-            tally.answers += 1;
+            run.tally.answers += 1;
         }
     }
-    Ok(tally)
+    Ok(())
 }

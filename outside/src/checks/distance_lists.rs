@@ -7,8 +7,6 @@ use crate::calls::{Call, List};
 use crate::reference::house_set;
 use crate::unit::orders::{Order, VOLUME_BAND};
 
-pub const DISTANCE_SEED: u64 = 0xF0DD_001B;
-
 /// Without memory, so that H stays 1 and the numbers stay short.
 const PLAIN: Band = [2_097_153, 0, 0];
 
@@ -87,8 +85,8 @@ impl Maker {
 }
 
 /// Every list, the short ones first.
-pub fn lists() -> Vec<List> {
-    let mut maker = Maker::new(DISTANCE_SEED);
+pub fn lists(seed: u64) -> Vec<List> {
+    let mut maker = Maker::new(seed);
     let mut lists = Vec::new();
     for turn in 0..1_200 {
         let set = maker.set(turn);

@@ -2,12 +2,10 @@
 
 use super::fitness::spoilt;
 use super::orders::every_side_and_band;
-use super::run::{Checked, Outcome, Run, Subject};
+use super::run::{Checked, Run};
 use crate::random::Random;
 use crate::unit::orders::Order;
 use crate::unit::{house_unit, Numbers};
-
-pub const FACTORS_SEED: u64 = 0xF0DD_0019;
 
 /// Sides and bands for every edge: those that there are, and others.
 const PLACES: [(u32, u32); 7] = [(0, 0), (1, 9), (2, 5), (2, 10), (0, 10), (3, 0), (2, 11)];
@@ -65,8 +63,7 @@ fn in_turn(run: &mut Run, mut numbers: Numbers, count: u32) -> Checked {
     Ok(())
 }
 
-pub fn factors(subject: &dyn Subject) -> Outcome {
-    let run = &mut Run::new(subject, FACTORS_SEED);
+pub fn factors(run: &mut Run) -> Checked {
     let edges = edges(&mut run.random);
     let fit = run.fit_unit(2);
     for numbers in [house_unit(), fit, spoilt(&fit, &mut run.random)] {
@@ -82,5 +79,5 @@ pub fn factors(subject: &dyn Subject) -> Outcome {
         let unfit = spoilt(&fit, &mut run.random);
         in_turn(run, unfit, 30)?;
     }
-    Ok(run.tally)
+    Ok(())
 }

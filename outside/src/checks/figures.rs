@@ -1,13 +1,11 @@
-//! The figures of document 01, asked of a subject. Whatever is asked is compared with the reference as well.
+//! The figures of the specification, asked of a subject. Whatever is asked is compared with the reference as well.
 
-use super::run::{Checked, Outcome, Run, Subject};
-use super::same_preview::same_preview;
-use super::same_sheet::{same_read, same_write};
+use super::run::{Checked, Run};
 use crate::figures::*;
-use crate::reference::{house_set, pack, Section, ACCEPTED};
+use crate::reference::{pack, Section, ACCEPTED};
 use crate::unit::orders::{Order, BOTH, VOLUME_BAND};
 use crate::unit::sheet::{exact, SHEET};
-use crate::unit::{cleared, Numbers, LEFT, RIGHT, STRIPS, VOLUME};
+use crate::unit::{cleared, house_unit, Numbers, LEFT, RIGHT, STRIPS, VOLUME};
 
 /// The present gain of a band; its target stands behind it.
 fn gain(side: usize, band: usize) -> usize {
@@ -25,7 +23,7 @@ impl Run<'_> {
     /// A list with its results, and an entry behind them.
     fn preview_gives(&mut self, band: [i32; 3], words: &[i32], results: &[i32]) -> Checked {
         let mut lent = vec![i32::MIN; words.len() + 1];
-        same_preview(self.subject, band, words, &lent, &mut self.tally)?;
+        self.preview_into(band, words, &lent)?;
         let answer = self.subject.preview(band, words, &mut lent);
         let expected = [results, &[i32::MIN]].concat();
         self.same((ACCEPTED, expected), (answer, lent), || format!("preview with {band:?} of {words:?}"))
@@ -58,7 +56,7 @@ impl Run<'_> {
 
     /// One order on a unit: the answer, and the unit with the target at exactly these places, or as it was.
     fn order_gives(&mut self, order: &Order, wanted: Wanted, targets: &[usize]) -> Checked {
-        let mut expected = cleared(&house_set());
+        let mut expected = house_unit();
         (0..).zip(&mut expected[LEFT + STRIPS..RIGHT]).for_each(|(n, number)| *number = n);
         expected[VOLUME + 1] = 7;
         let mut got = expected;
@@ -85,51 +83,48 @@ impl Run<'_> {
     fn sheet_gives(&mut self, numbers: &Numbers, lines: Lines) -> Checked {
         let mut expected = sheet(lines);
         expected.extend([0xAA; 7]);
-        let buffer = same_write(self.subject, exact::write, numbers, &[0xAA; SHEET + 7], &mut self.tally)?;
+        let buffer = self.write(exact::write, numbers, &[0xAA; SHEET + 7])?;
         self.same(&expected, &buffer, || format!("sheet of {numbers:?}"))?;
-        same_read(self.subject, &[-1; 118], &expected[..SHEET], &mut self.tally)?;
+        self.read_into(&[-1; 118], &expected[..SHEET])?;
         let mut read = [-1; 118];
         let answer = self.subject.sheet_read(&mut read, &expected[..SHEET]);
         self.same((ACCEPTED, *numbers), (answer, read), || format!("sheet of {numbers:?} read back"))
     }
 }
 
-pub fn of_sections(subject: &dyn Subject) -> Outcome {
-    let mut run = Run::new(subject, 0);
+pub fn of_sections(run: &mut Run) -> Checked {
     for (s, y) in ROUNDED {
-        run.same(y.into(), subject.nearest(s.into(), 22), || format!("S = {s}"))?;
+        run.same(y.into(), run.subject.nearest(s.into(), 22), || format!("S = {s}"))?;
         // With B = G = 0 and x = 1 or -1, S is A or -A.
         run.step_gives(&mut [s.abs(), 0, 0, 0, 0, 0, 0], s.signum(), (false, y))?;
     }
     for (mut section, x, limited, y) in STEPS_AT_THE_ENDS {
         run.step_gives(&mut section, x, (limited, y))?;
     }
-    let house = subject.house_set();
+    let house = run.subject.house_set();
     run.same(&FIRST_TWO[..], &house[..6], || "house set".to_string())?;
     let mut section = [house[0], house[1], house[2], 0, 0, 0, 0];
     for (x, y) in RUN_WORDS.into_iter().zip(RUN_RESULTS) {
         run.step_gives(&mut section, x, (false, y))?;
     }
-    Ok(run.tally)
+    Ok(())
 }
 
-pub fn of_previews(subject: &dyn Subject) -> Outcome {
-    let mut run = Run::new(subject, 0);
+pub fn of_previews(run: &mut Run) -> Checked {
     for (s, y) in ROUNDED {
         run.preview_gives([s.abs(), 0, 0], &[s.signum()], &[y])?;
     }
     for (band, words, results) in PREVIEWS_AT_THE_ENDS {
         run.preview_gives(band, &words, &results)?;
     }
-    let house = subject.house_set();
+    let house = run.subject.house_set();
     run.preview_gives([house[0], house[1], house[2]], &RUN_WORDS, &RUN_RESULTS)?;
-    Ok(run.tally)
+    Ok(())
 }
 
-pub fn of_units(subject: &dyn Subject) -> Outcome {
-    let mut run = Run::new(subject, 0);
+pub fn of_units(run: &mut Run) -> Checked {
     for (target, volume, sample) in QUIET {
-        let mut numbers = cleared(&house_set());
+        let mut numbers = house_unit();
         numbers[VOLUME + 1] = target;
         let output = run.block(&mut numbers, &[255, 127, 255, 127], 4)?;
         let expected = (vec![sample, 0, sample, 0], volume);
@@ -137,13 +132,13 @@ pub fn of_units(subject: &dyn Subject) -> Outcome {
     }
     let bands = [gain(LEFT, 0), gain(LEFT, 9), gain(RIGHT, 9)].map(|level| (level, BAND_31));
     for (level, figure) in bands.into_iter().chain([(VOLUME, VOLUME_31)]) {
-        let mut numbers = cleared(&house_set());
+        let mut numbers = house_unit();
         numbers[level + 1] = figure.0;
         run.slope(numbers, level, figure)?;
     }
     run.ten_alike()?;
     for (side, frame) in [(LEFT, FRAME), (RIGHT, [0, 0, FRAME[0], FRAME[1]])] {
-        let mut numbers = cleared(&house_set());
+        let mut numbers = house_unit();
         let mut results = Vec::new();
         for input in [frame, frame, [0; 4]] {
             run.block(&mut numbers, &input, 4)?;
@@ -151,11 +146,10 @@ pub fn of_units(subject: &dyn Subject) -> Outcome {
         }
         run.same(&RUN_RESULTS[..], &results, || "three frames through the 31 Hz band".to_string())?;
     }
-    Ok(run.tally)
+    Ok(())
 }
 
-pub fn of_orders(subject: &dyn Subject) -> Outcome {
-    let mut run = Run::new(subject, 0);
+pub fn of_orders(run: &mut Run) -> Checked {
     for (bits, of_band, of_volume) in FACTORS {
         run.every_place(|side, band| Order::factor(side, band, f32::from_bits(bits)), of_band, of_volume)?;
     }
@@ -170,11 +164,11 @@ pub fn of_orders(subject: &dyn Subject) -> Outcome {
         (BOTH, 4, gain(RIGHT, 4), BAND_31),
         (BOTH, VOLUME_BAND, VOLUME, VOLUME_31),
     ] {
-        let mut numbers = cleared(&house_set());
+        let mut numbers = house_unit();
         run.order(&mut numbers, &Order::position(side, band, 31))?;
         run.slope(numbers, level, figure)?;
     }
-    Ok(run.tally)
+    Ok(())
 }
 
 /// The numbers of a sheet, by the standard library.
@@ -185,16 +179,15 @@ fn numbers_of(lines: Lines) -> Numbers {
 }
 
 /// The frame is played by a unit that comes from a sheet.
-pub fn of_sheets(subject: &dyn Subject) -> Outcome {
-    let mut run = Run::new(subject, 0);
+pub fn of_sheets(run: &mut Run) -> Checked {
     let mut numbers = [-1; 118];
-    subject.load(&mut numbers, &FIRST_TWO[..3].repeat(10));
+    run.subject.load(&mut numbers, &FIRST_TWO[..3].repeat(10));
     run.sheet_gives(&numbers, CLEARED)?;
-    subject.sheet_read(&mut numbers, &sheet(CLEARED));
+    run.subject.sheet_read(&mut numbers, &sheet(CLEARED));
     let mut sound = [7; 4];
-    let answer = subject.block(&mut numbers, &FRAME, &mut sound);
+    let answer = run.subject.block(&mut numbers, &FRAME, &mut sound);
     run.same((ACCEPTED, [0; 4]), (answer, sound), || "the frame (1000, 0)".to_string())?;
     run.sheet_gives(&numbers, PLAYED)?;
     run.sheet_gives(&numbers_of(ENDS), ENDS)?;
-    Ok(run.tally)
+    Ok(())
 }

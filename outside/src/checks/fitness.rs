@@ -1,13 +1,10 @@
 //! Which units are fit, and blocks on unfit ones: "an unfit one is 14, and unit and output are unchanged."
 
-use super::refusals::wrong_numbers;
-use super::run::{Checked, Outcome, Run, Subject};
-use super::same_block::marks;
+use super::run::{marks, Checked, Run};
+use super::steps::wrong_numbers;
 use super::units::{kind, Kind};
 use crate::random::Random;
 use crate::unit::{exact, house_unit, Numbers, BANDS, UNFIT};
-
-pub const FITNESS_SEED: u64 = 0xF0DD_0013;
 
 /// Lengths of input and output: right ones, and those that are 5, 6 or both for a fit unit.
 const LENGTHS: [(usize, usize); 6] = [(0, 0), (4, 4), (8, 11), (3, 8), (8, 7), (7, 2)];
@@ -100,8 +97,7 @@ fn each_number(run: &mut Run, numbers: &Numbers) -> Checked {
     Ok(())
 }
 
-pub fn units(subject: &dyn Subject) -> Outcome {
-    let run = &mut Run::new(subject, FITNESS_SEED);
+pub fn units(run: &mut Run) -> Checked {
     fit(run, &house_unit(), true)?;
     each_number(run, &house_unit())?;
     for turn in 0..10_000 {
@@ -121,5 +117,5 @@ pub fn units(subject: &dyn Subject) -> Outcome {
         let anything = [(); 118].map(|()| run.random.any_i32());
         fit(run, &anything, exact::fit(&anything))?;
     }
-    Ok(run.tally)
+    Ok(())
 }

@@ -1,11 +1,9 @@
 //! Loading a band set: the refusals 7 to 10 and the unit that comes of it, whatever the lent numbers held before.
 
-use super::refusals::wrong_numbers;
-use super::run::{Checked, Outcome, Run, Subject};
+use super::run::{Checked, Run};
+use super::steps::wrong_numbers;
 use crate::reference::{house_set, ACCEPTED, REFUSED_A};
 use crate::unit::{self, cleared, house_unit, Numbers, NOT_THIRTY};
-
-pub const LOADS_SEED: u64 = 0xF0DD_0012;
 
 const WRONG_LENGTHS: [usize; 14] = [0, 1, 2, 3, 10, 27, 28, 29, 31, 32, 33, 60, 118, 300];
 
@@ -28,8 +26,8 @@ fn load(run: &mut Run, set: &[i32]) -> Checked<(u32, Numbers)> {
     Ok((answer, got))
 }
 
-/// One loading with the number that document 01 gives for it: "a cleared unit", or "The answer holds the cleared house
-/// unit."
+/// One loading with the number that the specification gives for it: "a cleared unit", or "The answer holds the cleared
+/// house unit."
 fn stated(run: &mut Run, set: &[i32], number: u32) -> Checked {
     let loaded = load(run, set)?;
     let held = match set.try_into() {
@@ -81,8 +79,7 @@ fn several_wrong(run: &mut Run, set: &[i32; 30]) -> Checked {
     stated(run, &spoilt, REFUSED_A + places.trailing_zeros() % 3)
 }
 
-pub fn sets(subject: &dyn Subject) -> Outcome {
-    let run = &mut Run::new(subject, LOADS_SEED);
+pub fn sets(run: &mut Run) -> Checked {
     stated(run, &house_set(), ACCEPTED)?;
     for length in WRONG_LENGTHS {
         let right: Vec<i32> = house_set().into_iter().cycle().take(length).collect();
@@ -106,5 +103,5 @@ pub fn sets(subject: &dyn Subject) -> Outcome {
         let small = [(); 30].map(|()| run.random.between(0, 4_300_000));
         load(run, &small)?;
     }
-    Ok(run.tally)
+    Ok(())
 }

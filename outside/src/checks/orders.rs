@@ -1,12 +1,10 @@
 //! Orders to every side and band, with positions and mute.
 
 use super::fitness::spoilt;
-use super::run::{Checked, Outcome, Run, Subject};
+use super::run::{Checked, Run};
 use crate::reference::ACCEPTED;
 use crate::unit::orders::{Order, NO_SIDE_AND_BAND, POSITION_OVER_31};
 use crate::unit::{house_unit, Numbers, UNFIT};
-
-pub const ORDERS_SEED: u64 = 0xF0DD_0018;
 
 /// Sides and bands that there are, the next ones, and larger ones that equal one of them modulo 2^8, 2^16 or 2^31.
 const SIDES: [u32; 15] =
@@ -19,7 +17,7 @@ pub fn every_side_and_band() -> impl Iterator<Item = (u32, u32)> {
     SIDES.into_iter().flat_map(|side| BANDS.into_iter().chain(LARGE_BANDS).map(move |band| (side, band)))
 }
 
-/// One order: compared with the reference, and its number as document 01 states it.
+/// One order: compared with the reference, and its number as the specification states it.
 fn stated(run: &mut Run, numbers: &Numbers, order: &Order, number: u32) -> Checked {
     let answer = run.order(&mut numbers.clone(), order)?;
     run.same(number, answer, || format!("{order:?}"))
@@ -55,8 +53,7 @@ fn in_turn(run: &mut Run, mut numbers: Numbers) -> Checked {
     Ok(())
 }
 
-pub fn places(subject: &dyn Subject) -> Outcome {
-    let run = &mut Run::new(subject, ORDERS_SEED);
+pub fn places(run: &mut Run) -> Checked {
     let numbers = run.fit_unit(2);
     let unfit = spoilt(&numbers, &mut run.random);
     for (numbers, fit) in [(&house_unit(), true), (&numbers, true), (&unfit, false)] {
@@ -68,5 +65,5 @@ pub fn places(subject: &dyn Subject) -> Outcome {
         let unfit = spoilt(&numbers, &mut run.random);
         in_turn(run, unfit)?;
     }
-    Ok(run.tally)
+    Ok(())
 }

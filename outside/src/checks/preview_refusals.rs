@@ -2,13 +2,11 @@
 //! word. The buffer is unchanged".
 
 use super::bands::{corner_bands, random_accepted, Band};
-use super::refusals::{number_for, spoil, wrong_numbers};
-use super::run::{Checked, Outcome, Run, Subject};
+use super::run::{Checked, Run};
 use super::sounds::{Sound, WORD_SOUNDS};
+use super::steps::{number_for, spoil, wrong_numbers};
 use crate::preview::RESULTS_TOO_SHORT;
 use crate::reference::{NO_WORD, WORD_MAX, WORD_MIN};
-
-pub const PREVIEW_REFUSALS_SEED: u64 = 0xF0DD_0027;
 
 /// Accepted bands, into which wrong numbers are put.
 const FIT_BANDS: [Band; 4] =
@@ -101,23 +99,22 @@ fn any_band(run: &mut Run, band: Band) -> Checked {
     Ok(())
 }
 
-pub fn calls(subject: &dyn Subject) -> Outcome {
-    let mut run = Run::new(subject, PREVIEW_REFUSALS_SEED);
+pub fn calls(run: &mut Run) -> Checked {
     for fit in FIT_BANDS {
-        together(&mut run, fit)?;
-        each_place(&mut run, fit)?;
-        long(&mut run, fit)?;
+        together(run, fit)?;
+        each_place(run, fit)?;
+        long(run, fit)?;
     }
     for band in corner_bands() {
-        any_band(&mut run, band)?;
+        any_band(run, band)?;
     }
     for _ in 0..30_000 {
         let anything = [(); 3].map(|()| run.random.any_i32());
-        any_band(&mut run, anything)?;
+        any_band(run, anything)?;
         let words = [(); 3].map(|()| run.random.word());
-        any_band(&mut run, words)?;
+        any_band(run, words)?;
         let accepted = random_accepted(&mut run.random);
-        any_band(&mut run, accepted)?;
+        any_band(run, accepted)?;
     }
-    Ok(run.tally)
+    Ok(())
 }

@@ -3,23 +3,16 @@
 //! than the words)"; "after an accepted call its entries past the results keep their contents."
 
 use super::bands::{extreme_accepted, half_accepted, house_bands, random_accepted, slow_accepted, Band};
-use super::run::{Checked, Outcome, Run, Subject};
-use super::same_preview::{buffer, same_as_section};
+use super::run::{Checked, Run};
+use super::same_preview::buffer;
 use super::sounds::{Sound, WORD_SOUNDS};
 use crate::preview::RESULTS_TOO_SHORT;
 use crate::reference::{ACCEPTED, WORD_MAX, WORD_MIN};
 
-pub const PREVIEWS_SEED: u64 = 0xF0DD_0025;
-pub const PREVIEW_LENGTHS_SEED: u64 = 0xF0DD_0026;
-pub const PREVIEW_SECTION_SEED: u64 = 0xF0DD_0028;
-
 const MILLION: usize = 1_000_000;
 
-/// Lists previewed, and how they are compared.
-struct Lists<'a> {
-    run: Run<'a>,
-    compare: fn(&mut Run, Band, &[i32]) -> Checked,
-}
+/// How a list is compared.
+type Compare = fn(&mut Run, Band, &[i32]) -> Checked;
 
 /// With the exact reference, a few entries of room behind the results.
 fn with_the_exact(run: &mut Run, band: Band, words: &[i32]) -> Checked {
@@ -32,73 +25,68 @@ fn with_the_section(run: &mut Run, band: Band, words: &[i32]) -> Checked {
     let mut results = buffer(words.len(), &mut run.random);
     let answer = run.subject.preview(band, words, &mut results);
     run.same(ACCEPTED, answer, || format!("preview with {band:?} of {} words", words.len()))?;
-    run.tally.previews.words += words.len() as u64;
-    same_as_section(run.subject, band, words, &results, &mut run.tally)
+    run.tally.words += words.len() as u64;
+    run.as_the_section(band, words, &results)
 }
 
-impl Lists<'_> {
-    fn list(&mut self, band: Band, sound: Sound, length: usize) -> Checked {
-        let words = sound.list(length, &mut self.run.random);
-        (self.compare)(&mut self.run, band, &words)
-    }
-
-    /// Every sound and silence with each band.
-    fn every_sound(&mut self, bands: &[Band], length: usize) -> Checked {
-        for &band in bands {
-            for &sound in WORD_SOUNDS.iter().chain(&[Sound::Silence]) {
-                self.list(band, sound, length)?;
-            }
-        }
-        Ok(())
-    }
-
-    /// Any sound with random bands and with slow ones.
-    fn random_bands(&mut self, length: usize) -> Checked {
-        for _ in 0..4_000 {
-            let sound = self.run.random.pick(WORD_SOUNDS);
-            for draw in [random_accepted, slow_accepted] {
-                let band = draw(&mut self.run.random);
-                self.list(band, sound, length)?;
-            }
-        }
-        Ok(())
-    }
+fn list(run: &mut Run, compare: Compare, band: Band, sound: Sound, length: usize) -> Checked {
+    let words = sound.list(length, &mut run.random);
+    compare(run, band, &words)
 }
 
-pub fn lists(subject: &dyn Subject) -> Outcome {
-    let mut lists = Lists { run: Run::new(subject, PREVIEWS_SEED), compare: with_the_exact };
+/// Every sound and silence with each band.
+fn every_sound(run: &mut Run, compare: Compare, bands: &[Band], length: usize) -> Checked {
+    for &band in bands {
+        for &sound in WORD_SOUNDS.iter().chain(&[Sound::Silence]) {
+            list(run, compare, band, sound, length)?;
+        }
+    }
+    Ok(())
+}
+
+/// Any sound with random bands and with slow ones.
+fn random_bands(run: &mut Run, compare: Compare, length: usize) -> Checked {
+    for _ in 0..4_000 {
+        let sound = run.random.pick(WORD_SOUNDS);
+        for draw in [random_accepted, slow_accepted] {
+            let band = draw(&mut run.random);
+            list(run, compare, band, sound, length)?;
+        }
+    }
+    Ok(())
+}
+
+pub fn lists(run: &mut Run) -> Checked {
     let house = house_bands();
-    lists.every_sound(&extreme_accepted(), 100)?;
-    lists.every_sound(&half_accepted(), 200)?;
-    lists.every_sound(&house, 2_000)?;
-    lists.random_bands(500)?;
-    for &band in &house {
-        lists.list(band, Sound::Noise, MILLION)?;
+    for (bands, length) in [(&extreme_accepted(), 100), (&half_accepted(), 200), (&house, 2_000)] {
+        every_sound(run, with_the_exact, bands, length)?;
     }
-    lists.list(house[5], Sound::Samples, MILLION)?;
-    lists.list([8_388_607, 4_194_303, 8_388_606], Sound::Noise, MILLION)?;
-    lists.list([8_388_607, -4_194_303, 0], Sound::Ends, MILLION)?;
-    Ok(lists.run.tally)
+    random_bands(run, with_the_exact, 500)?;
+    for &band in &house {
+        list(run, with_the_exact, band, Sound::Noise, MILLION)?;
+    }
+    list(run, with_the_exact, house[5], Sound::Samples, MILLION)?;
+    list(run, with_the_exact, [8_388_607, 4_194_303, 8_388_606], Sound::Noise, MILLION)?;
+    list(run, with_the_exact, [8_388_607, -4_194_303, 0], Sound::Ends, MILLION)
 }
 
-pub fn beside_section(subject: &dyn Subject) -> Outcome {
-    let mut lists = Lists { run: Run::new(subject, PREVIEW_SECTION_SEED), compare: with_the_section };
+pub fn beside_section(run: &mut Run) -> Checked {
     let house = house_bands();
     for bands in [&house, &extreme_accepted(), &half_accepted()] {
-        lists.every_sound(bands, 600)?;
+        every_sound(run, with_the_section, bands, 600)?;
     }
-    lists.random_bands(1_000)?;
+    random_bands(run, with_the_section, 1_000)?;
     for &band in &house {
-        lists.list(band, Sound::Noise, 500_000)?;
+        list(run, with_the_section, band, Sound::Noise, 500_000)?;
     }
-    Ok(lists.run.tally)
+    Ok(())
 }
 
 /// What lies behind a list in memory: no words.
 const BEHIND: [i32; 4] = [WORD_MAX + 1, i32::MIN, i32::MAX, WORD_MIN - 1];
 
 /// A list of so many words with buffers of these lengths.
-fn list(run: &mut Run, band: Band, length: usize, rooms: impl IntoIterator<Item = usize>) -> Checked {
+fn with_rooms(run: &mut Run, band: Band, length: usize, rooms: impl IntoIterator<Item = usize>) -> Checked {
     let sound = match run.random.below(3) {
         0 => Sound::Ends,
         _ => run.random.pick(WORD_SOUNDS),
@@ -112,21 +100,20 @@ fn list(run: &mut Run, band: Band, length: usize, rooms: impl IntoIterator<Item 
     Ok(())
 }
 
-pub fn lengths(subject: &dyn Subject) -> Outcome {
-    let mut run = Run::new(subject, PREVIEW_LENGTHS_SEED);
+pub fn lengths(run: &mut Run) -> Checked {
     let mut bands = house_bands();
     bands.extend(extreme_accepted().into_iter().step_by(8));
     bands.extend(half_accepted().into_iter().step_by(8));
     for band in bands {
         for length in 0..=48 {
             let rooms = (0..length + 8).chain([length + 40, length + 500]);
-            list(&mut run, band, length, rooms)?;
+            with_rooms(run, band, length, rooms)?;
         }
     }
     for length in [255, 256, 257, 1_024, 4_095, 4_096, 4_097, 65_535, 65_536, 65_537] {
         let rooms = [0, 1, length / 2, length - 1, length, length + 1, 2 * length];
         let band = random_accepted(&mut run.random);
-        list(&mut run, band, length, rooms)?;
+        with_rooms(run, band, length, rooms)?;
     }
-    Ok(run.tally)
+    Ok(())
 }

@@ -5,8 +5,7 @@ use std::time::Instant;
 
 use super::Difference;
 
-/// Prints the seeds, runs the tests, and prints how long they took and how they
-/// went, in these words where nothing differs.
+/// Prints the seeds, runs the tests, and prints how long they took and how they went, in these words if all agree.
 pub fn report(seeds: &[(&str, u64)], right: &str, run: impl FnOnce() -> Result<(), Difference>) -> ExitCode {
     let begun = Instant::now();
     let named = |&(name, seed): &(&str, u64)| format!("{name} {seed:#x}");

@@ -1,16 +1,16 @@
-//! What the groups share: the comparison under way.
+//! The comparison under way. Whatever is asked of the subject is asked of the exact reference too; the answers are
+//! compared, and what they met is counted.
 
-use super::same_block::same_block;
-use super::same_order::same_order;
+use super::sheet_makers::SheetMaker;
+use super::sheet_texts::{badly_written, Field};
 use super::units::{random_fit, Sets};
-pub use super::Outcome;
-use super::{same, same_step, Difference, Tally};
+use super::{Difference, Tally};
 use crate::calls::Call;
 use crate::random::Random;
-use crate::reference::Section;
-pub use crate::subject::Subject;
-use crate::unit::orders::Order;
-use crate::unit::Numbers;
+use crate::reference::{exact, unpack, Section};
+use crate::subject::Subject;
+use crate::unit::orders::{self, Order};
+use crate::unit::{self, Numbers};
 use std::fmt::Debug;
 
 /// What a check gives where nothing differs.
@@ -19,30 +19,70 @@ pub type Checked<T = ()> = Result<T, Difference>;
 /// A subject, what its inputs are drawn with, and what they met.
 pub struct Run<'a> {
     pub subject: &'a dyn Subject,
+    pub seed: u64,
     pub random: Random,
     pub sets: Sets,
+    /// What sheets are drawn with, and badly written fields.
+    pub maker: SheetMaker,
+    pub badly: Vec<Field>,
     pub tally: Tally,
 }
 
 impl<'a> Run<'a> {
     pub fn new(subject: &'a dyn Subject, seed: u64) -> Run<'a> {
-        Run { subject, random: Random::new(seed), sets: Sets::all(), tally: Tally::default() }
+        let (random, sets, maker) = (Random::new(seed), Sets::all(), SheetMaker::new(seed));
+        Run { subject, seed, random, sets, maker, badly: badly_written(), tally: Tally::default() }
     }
 
+    /// Counts one answer, or says how it differs.
     pub fn same<T: PartialEq + Debug>(&mut self, expected: T, got: T, inputs: impl FnOnce() -> String) -> Checked {
-        same(&mut self.tally, expected, got, inputs)
+        self.tally.answers += 1;
+        if expected == got {
+            Ok(())
+        } else {
+            Err(format!("{}: expected {expected:?}, got {got:?}", inputs()))
+        }
     }
 
+    /// One step: compares 2 × refusal + limited, y and all seven numbers afterwards.
     pub fn step(&mut self, section: &mut Section, x: i32) -> Checked {
-        same_step(self.subject, section, x, &mut self.tally)
+        let before = *section;
+        let mut other = before;
+        let (status, y) = unpack(exact::step(section, x));
+        let got = unpack(self.subject.section_step(&mut other, x));
+        let inputs = || format!("step of A, B, G, x1, x2, y1, y2 = {before:?} with x = {x}");
+        self.same(((status, y), *section), (got, other), inputs)?;
+        if status > 1 {
+            self.tally.refused += 1;
+        } else {
+            self.tally.steps.count(&before, x, status == 1, y);
+        }
+        Ok(())
     }
 
+    /// One block into a buffer of `room` bytes: compares the answer, all 118 numbers and every byte of the buffer, and
+    /// gives the buffer.
     pub fn block(&mut self, numbers: &mut Numbers, input: &[u8], room: usize) -> Checked<Vec<u8>> {
-        same_block(self.subject, numbers, input, room, &mut self.tally)
+        let before = *numbers;
+        let (mut expected, mut got, mut unit) = (marks(room), marks(room), before);
+        let refusal = unit::exact::block(numbers, input, &mut expected, &mut self.tally.met);
+        let answers = [refusal, self.subject.block(&mut unit, input, &mut got)];
+        let inputs = || format!("block of bytes, {}, into {room} on the unit {before:?}", briefly(input));
+        same_left(answers, [&*numbers, &unit], inputs)?;
+        same_left(answers, [&expected, &got], inputs)?;
+        self.tally.count_block(input, refusal);
+        Ok(expected)
     }
 
+    /// One order: compares the answer and all 118 numbers, and gives the answer.
     pub fn order(&mut self, numbers: &mut Numbers, order: &Order) -> Checked<u32> {
-        same_order(self.subject, numbers, order, &mut self.tally)
+        let before = *numbers;
+        let mut got = before;
+        let expected = orders::exact::order(numbers, order);
+        let answer = self.subject.order(&mut got, order);
+        same_left([expected, answer], [&*numbers, &got], || format!("{order:?} on the unit {before:?}"))?;
+        self.tally.count_order(order, expected);
+        Ok(expected)
     }
 
     pub fn call(&mut self, numbers: &mut Numbers, call: &Call) -> Checked {
@@ -77,4 +117,9 @@ pub fn same_left<A: PartialEq + Debug, T: PartialEq + Debug>(
 /// A list by its length and its beginning.
 pub fn briefly<T: Debug>(list: &[T]) -> String {
     format!("{} beginning {:?}", list.len(), &list[..list.len().min(16)])
+}
+
+/// A buffer of so many bytes, no two neighbours alike.
+pub fn marks(room: usize) -> Vec<u8> {
+    (0..room).map(|n| (n * 151 + 97) as u8).collect()
 }

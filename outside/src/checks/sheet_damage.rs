@@ -1,34 +1,31 @@
 //! Sheets with bytes changed anywhere: one byte, two, several fields, letters and line ends, and bytes put in or left
 //! out.
 
-use super::run::{Checked, Outcome, Subject};
-use super::same_sheet::SheetRun;
+use super::run::{Checked, Run};
 use super::sheet_makers::sheet_of;
 use super::sheet_texts::any_field;
 use crate::figures::typed_sheets;
 use crate::reference::ACCEPTED;
 use crate::unit::house_unit;
-use crate::unit::sheet::places::lines;
+use crate::unit::sheet::places::LINES;
 use crate::unit::sheet::SHEET;
-
-pub const DAMAGE_SEED: u64 = 0xF0DD_0022;
 
 /// What each byte is changed into, its neighbours and random bytes apart.
 const BYTES: &[u8] = b" -+09158\n\r\tVCLSRX/:\0\x7F\x80\xB0\xFF";
 
 /// Any place of a sheet.
-fn any_place(run: &mut SheetRun) -> usize {
+fn any_place(run: &mut Run) -> usize {
     run.maker.random.below(SHEET as u64) as usize
 }
 
-fn read(run: &mut SheetRun, right: &[u8], sheet: &[u8]) -> Checked {
+fn read(run: &mut Run, right: &[u8], sheet: &[u8]) -> Checked {
     let answer = run.read(sheet)?;
-    run.tally.sheets.accepted_changed += u64::from(answer == ACCEPTED && right != sheet);
+    run.tally.accepted_changed += u64::from(answer == ACCEPTED && right != sheet);
     Ok(())
 }
 
 /// Each byte in turn, changed into many others.
-fn each_byte(run: &mut SheetRun, right: &[u8]) -> Checked {
+fn each_byte(run: &mut Run, right: &[u8]) -> Checked {
     for (place, &byte) in right.iter().enumerate() {
         let beside = [byte.wrapping_sub(1), byte.wrapping_add(1), byte ^ 0x20, byte ^ 0x80];
         let mut sheet = right.to_vec();
@@ -41,7 +38,7 @@ fn each_byte(run: &mut SheetRun, right: &[u8]) -> Checked {
 }
 
 /// Two bytes, often close together.
-fn two_bytes(run: &mut SheetRun, right: &[u8]) -> Checked {
+fn two_bytes(run: &mut Run, right: &[u8]) -> Checked {
     let mut sheet = right.to_vec();
     let first = any_place(run);
     let second = match run.maker.random.below(2) {
@@ -57,14 +54,14 @@ fn two_bytes(run: &mut SheetRun, right: &[u8]) -> Checked {
 }
 
 /// Several fields, letters and line ends, often of the same line.
-fn several_parts(run: &mut SheetRun, right: &[u8]) -> Checked {
-    let (mut sheet, lines) = (right.to_vec(), lines());
+fn several_parts(run: &mut Run, right: &[u8]) -> Checked {
+    let mut sheet = right.to_vec();
     let random = &mut run.maker.random;
     let same_line = random.below(2) == 0;
-    let mut line = random.pick(&lines);
+    let mut line = random.pick(&LINES);
     for _ in 0..=random.below(5) {
         if !same_line {
-            line = random.pick(&lines);
+            line = random.pick(&LINES);
         }
         match random.below(6) {
             0 => line.spoil_letter(&mut sheet, random),
@@ -79,7 +76,7 @@ fn several_parts(run: &mut SheetRun, right: &[u8]) -> Checked {
 }
 
 /// A byte put in and the last one dropped, a byte left out and one put behind, two lines exchanged.
-fn shifted(run: &mut SheetRun, right: &[u8]) -> Checked {
+fn shifted(run: &mut Run, right: &[u8]) -> Checked {
     let (place, byte) = (any_place(run), run.maker.random.pick(BYTES));
     let mut longer = right.to_vec();
     longer.insert(place, byte);
@@ -88,7 +85,7 @@ fn shifted(run: &mut SheetRun, right: &[u8]) -> Checked {
     shorter.remove(place);
     shorter.push(byte);
     read(run, right, &shorter)?;
-    let [one, other] = [(); 2].map(|()| run.maker.random.pick(&lines()));
+    let [one, other] = [(); 2].map(|()| run.maker.random.pick(&LINES));
     let mut exchanged = right.to_vec();
     if one.count == other.count {
         exchanged[one.begin..=one.end()].copy_from_slice(&right[other.begin..=other.end()]);
@@ -97,8 +94,7 @@ fn shifted(run: &mut SheetRun, right: &[u8]) -> Checked {
     read(run, right, &exchanged)
 }
 
-pub fn anywhere(subject: &dyn Subject) -> Outcome {
-    let run = &mut SheetRun::new(subject, DAMAGE_SEED);
+pub fn anywhere(run: &mut Run) -> Checked {
     for turn in 0..2_000 {
         let sheet = run.maker.sheet(turn);
         for _ in 0..50 {
@@ -115,5 +111,5 @@ pub fn anywhere(subject: &dyn Subject) -> Outcome {
     for sheet in right {
         each_byte(run, &sheet)?;
     }
-    Ok(run.tally)
+    Ok(())
 }

@@ -2,43 +2,40 @@
 //! them.
 
 use super::fitness::{edge_numbers, with};
-use super::run::{Checked, Outcome, Subject};
-use super::same_sheet::SheetRun;
+use super::run::{Checked, Run};
 use super::sheet_makers::sheet_of;
 use super::sheet_texts::{outside_numbers, well_written};
 use super::units::{kind, Kind};
 use crate::reference::{ACCEPTED, REFUSED_A, REFUSED_B, REFUSED_G};
-use crate::unit::sheet::places::{fields, lines};
+use crate::unit::sheet::places::{fields, LINES};
 use crate::unit::sheet::{BADLY_WRITTEN, OUTSIDE};
 use crate::unit::{house_unit, Numbers};
-
-pub const FIELDS_SEED: u64 = 0xF0DD_0020;
 
 /// B at its ends and past them.
 const EVERY_B: [i32; 13] =
     [-4_194_304, -4_194_303, -4_194_302, -1_000_000, -10, -1, 0, 1, 99_999, 3_000_000, 4_194_302, 4_194_303, 4_194_304];
 
 /// Each field badly written in every way.
-fn badly(run: &mut SheetRun, numbers: &Numbers) -> Checked {
+fn badly(run: &mut Run, numbers: &Numbers) -> Checked {
     let right = sheet_of(numbers);
     for field in fields() {
         let mut sheet = right.clone();
         for text in run.badly.clone() {
             sheet[field.clone()].copy_from_slice(&text);
-            run.stated(&sheet, BADLY_WRITTEN)?;
+            run.stated_sheet(&sheet, BADLY_WRITTEN)?;
         }
     }
     Ok(())
 }
 
 /// Each number at the ends of its range, and outside: 14, or "8 to 10" in its place.
-fn ranges(run: &mut SheetRun, numbers: &Numbers) -> Checked {
+fn ranges(run: &mut Run, numbers: &Numbers) -> Checked {
     let right = sheet_of(numbers);
     for (place, field) in fields().enumerate() {
         let mut sheet = right.clone();
         for number in edge_numbers(numbers, place) {
             sheet[field.clone()].copy_from_slice(&well_written(number));
-            run.stated(&sheet, ACCEPTED)?;
+            run.stated_sheet(&sheet, ACCEPTED)?;
             let given = run.maker.given();
             run.leaves(&sheet, &given, (ACCEPTED, with(numbers, place, number)))?;
         }
@@ -48,16 +45,16 @@ fn ranges(run: &mut SheetRun, numbers: &Numbers) -> Checked {
         };
         for number in outside_numbers(numbers, place) {
             sheet[field.clone()].copy_from_slice(&well_written(number));
-            run.stated(&sheet, refusal)?;
+            run.stated_sheet(&sheet, refusal)?;
         }
     }
     Ok(())
 }
 
 /// "|G| less than 4,194,304 + B", in each C line.
-fn g_beside_b(run: &mut SheetRun, numbers: &Numbers) -> Checked {
+fn g_beside_b(run: &mut Run, numbers: &Numbers) -> Checked {
     let mut sheet = sheet_of(numbers);
-    for line in lines().iter().filter(|line| line.letter == b'C') {
+    for line in LINES.iter().filter(|line| line.letter == b'C') {
         let right = sheet.clone();
         for b in EVERY_B {
             let edge = 4_194_304 + b;
@@ -69,7 +66,7 @@ fn g_beside_b(run: &mut SheetRun, numbers: &Numbers) -> Checked {
                 };
                 sheet[line.field(1)].copy_from_slice(&well_written(b));
                 sheet[line.field(2)].copy_from_slice(&well_written(g));
-                run.stated(&sheet, number)?;
+                run.stated_sheet(&sheet, number)?;
             }
         }
         sheet = right;
@@ -77,8 +74,7 @@ fn g_beside_b(run: &mut SheetRun, numbers: &Numbers) -> Checked {
     Ok(())
 }
 
-pub fn each(subject: &dyn Subject) -> Outcome {
-    let run = &mut SheetRun::new(subject, FIELDS_SEED);
+pub fn each(run: &mut Run) -> Checked {
     for turn in 0..12 {
         let numbers = run.maker.unit(turn);
         ranges(run, &numbers)?;
@@ -88,5 +84,5 @@ pub fn each(subject: &dyn Subject) -> Outcome {
     for numbers in [house_unit(), ends, mixed] {
         badly(run, &numbers)?;
     }
-    Ok(run.tally)
+    Ok(())
 }

@@ -1,26 +1,23 @@
 //! Bytes that are no sheet for their count: "11 not 1,128 bytes", ahead of what they hold. "The given unit comes back,
 //! unexamined."
 
-use super::run::{Checked, Outcome, Subject};
-use super::same_sheet::SheetRun;
+use super::run::{Checked, Run};
 use super::sheet_makers::sheet_of;
 use crate::unit::house_unit;
 use crate::unit::sheet::{NOT_A_SHEET, SHEET};
-
-pub const LENGTHS_SEED: u64 = 0xF0DD_0023;
 
 /// Counts beyond a sheet's, among them those that equal it modulo 2^12 and 2^16.
 const LONG: [usize; 9] = [1_160, 1_161, 2_255, 2_256, 2_257, 4_096, 5_224, 65_536, 66_664];
 
 /// One refused reading into a given unit, and into one unfit in all.
-fn refused(run: &mut SheetRun, bytes: &[u8]) -> Checked {
+fn refused(run: &mut Run, bytes: &[u8]) -> Checked {
     run.read(bytes)?;
     run.leaves(bytes, &[-1; 118], (NOT_A_SHEET, [-1; 118]))
 }
 
 /// A sheet cut short at every count, and with something behind it; right from its first byte on, and wrong. Then with
 /// other line ends.
-fn sheet(run: &mut SheetRun, sheet: &[u8]) -> Checked {
+fn sheet(run: &mut Run, sheet: &[u8]) -> Checked {
     let wrong = [b"X", &sheet[1..]].concat();
     for bytes in [sheet, wrong.as_slice()] {
         for length in 0..SHEET {
@@ -41,8 +38,7 @@ fn sheet(run: &mut SheetRun, sheet: &[u8]) -> Checked {
     refused(run, text.trim_end().as_bytes())
 }
 
-pub fn wrong(subject: &dyn Subject) -> Outcome {
-    let run = &mut SheetRun::new(subject, LENGTHS_SEED);
+pub fn wrong(run: &mut Run) -> Checked {
     sheet(run, &sheet_of(&house_unit()))?;
     for turn in 0..6 {
         let right = run.maker.sheet(turn);
@@ -55,5 +51,5 @@ pub fn wrong(subject: &dyn Subject) -> Outcome {
             refused(run, &bytes)?;
         }
     }
-    Ok(run.tally)
+    Ok(())
 }

@@ -1,18 +1,14 @@
 //! Every line with a wrong letter, wrong fields and a wrong line end, in all ways together: the first from the left
 //! gives the refusal, but "a C line tests 8 to 10 after its three fields, in place of 14 and ahead of its line end."
 
-use super::same_sheet::SheetRun;
+use super::run::{Checked, Run};
 use super::sheet_makers::sheet_of;
 use super::sheet_texts::{outside_numbers, well_written};
-use super::Outcome;
 use crate::random::Random;
 use crate::reference::{ACCEPTED, REFUSED_A};
-use crate::subject::Subject;
-use crate::unit::sheet::places::{lines, Line};
+use crate::unit::sheet::places::{Line, LINES};
 use crate::unit::sheet::{BADLY_WRITTEN, LETTER_OR_END, LINE_FEED, OUTSIDE};
 use crate::unit::Numbers;
-
-pub const LINES_SEED: u64 = 0xF0DD_0021;
 
 /// What stands for a letter, and for a line feed.
 const WRONG_LETTERS: &[u8] = b"VCLSRvclsrXD \n-0\0\xD6\xFF";
@@ -89,7 +85,7 @@ impl Wrong {
     }
 
     /// The sheet of a unit with this line wrong.
-    fn sheet(&self, line: &Line, numbers: &Numbers, right: &[u8], run: &mut SheetRun) -> Vec<u8> {
+    fn sheet(&self, line: &Line, numbers: &Numbers, right: &[u8], run: &mut Run) -> Vec<u8> {
         let (mut sheet, random) = (right.to_vec(), &mut run.maker.random);
         if self.letter {
             line.spoil_letter(&mut sheet, random);
@@ -109,17 +105,16 @@ impl Wrong {
     }
 }
 
-pub fn every(subject: &dyn Subject) -> Outcome {
-    let run = &mut SheetRun::new(subject, LINES_SEED);
+pub fn every(run: &mut Run) -> Checked {
     for turn in 0..12 {
         let numbers = run.maker.unit(turn);
         let right = sheet_of(&numbers);
-        for line in lines() {
+        for line in LINES {
             for wrong in Wrong::every(&line) {
                 let sheet = wrong.sheet(&line, &numbers, &right, run);
-                run.stated(&sheet, wrong.number(&line))?;
+                run.stated_sheet(&sheet, wrong.number(&line))?;
             }
         }
     }
-    Ok(run.tally)
+    Ok(())
 }

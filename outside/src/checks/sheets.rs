@@ -2,37 +2,32 @@
 //! unfit unit (below), it hands back an empty part and writes nothing. Bytes behind the sheet keep their contents."
 
 use super::fitness::{spoilt, unfit_numbers, with};
-use super::run::{Checked, Outcome, Subject};
-use super::same;
-use super::same_sheet::{same_back, same_write, SheetRun, Writer};
+use super::run::{Checked, Run};
+use super::same_sheet::Writer;
 use crate::unit::sheet::{exact, fast, SHEET};
 use crate::unit::Numbers;
-
-pub const SHEETS_SEED: u64 = 0xF0DD_001E;
-pub const MANY_SEED: u64 = 0xF0DD_001F;
 
 /// Units held against the exact form, and against the fast one, which takes less time: a million in all.
 const UNITS: u64 = 100_000;
 const MANY: u64 = 900_000;
 
 /// A sheet written into so many bytes, and read back into a given unit.
-fn there_and_back(run: &mut SheetRun, reference: Writer, numbers: &Numbers, room: usize) -> Checked {
+fn there_and_back(run: &mut Run, reference: Writer, numbers: &Numbers, room: usize) -> Checked {
     let (lent, given) = (run.maker.bytes(room), run.maker.given());
-    same_back(run.subject, reference, numbers, &lent, &given, &mut run.tally)
+    run.write_and_read(reference, numbers, &lent, &given)
 }
 
 /// A unit that isn't written into so many bytes.
-fn unwritten(run: &mut SheetRun, reference: Writer, numbers: &Numbers, room: usize) -> Checked {
+fn unwritten(run: &mut Run, reference: Writer, numbers: &Numbers, room: usize) -> Checked {
     let lent = run.maker.bytes(room);
-    same_write(run.subject, reference, numbers, &lent, &mut run.tally)?;
+    run.write(reference, numbers, &lent)?;
     let mut buffer = lent.clone();
     let written = run.subject.sheet_write(numbers, &mut buffer);
-    let inputs = || format!("writing the unit {numbers:?} into {room} bytes");
-    same(&mut run.tally, (0, lent), (written, buffer), inputs)
+    run.same((0, lent), (written, buffer), || format!("writing the unit {numbers:?} into {room} bytes"))
 }
 
 /// Each number of a fit unit in turn unfit in every way.
-fn each_number(run: &mut SheetRun, numbers: &Numbers) -> Checked {
+fn each_number(run: &mut Run, numbers: &Numbers) -> Checked {
     for place in 0..118 {
         for number in unfit_numbers(numbers, place) {
             let behind = run.maker.random.below(20) as usize;
@@ -45,7 +40,7 @@ fn each_number(run: &mut SheetRun, numbers: &Numbers) -> Checked {
 }
 
 /// A fit unit, and now and then a short buffer or an unfit unit.
-fn unit(run: &mut SheetRun, reference: Writer, turn: u64) -> Checked {
+fn unit(run: &mut Run, reference: Writer, turn: u64) -> Checked {
     let numbers = run.maker.unit(turn);
     let random = &mut run.maker.random;
     let behind = match random.below(8) {
@@ -66,8 +61,7 @@ fn unit(run: &mut SheetRun, reference: Writer, turn: u64) -> Checked {
     }
 }
 
-pub fn units(subject: &dyn Subject) -> Outcome {
-    let run = &mut SheetRun::new(subject, SHEETS_SEED);
+pub fn units(run: &mut Run) -> Checked {
     for turn in 0..6 {
         let numbers = run.maker.unit(turn);
         each_number(run, &numbers)?;
@@ -81,13 +75,12 @@ pub fn units(subject: &dyn Subject) -> Outcome {
     for turn in 0..UNITS {
         unit(run, exact::write, turn)?;
     }
-    Ok(run.tally)
+    Ok(())
 }
 
-pub fn many(subject: &dyn Subject) -> Outcome {
-    let run = &mut SheetRun::new(subject, MANY_SEED);
+pub fn many(run: &mut Run) -> Checked {
     for turn in 0..MANY {
         unit(run, fast::write, turn)?;
     }
-    Ok(run.tally)
+    Ok(())
 }

@@ -1,40 +1,27 @@
 //! What a group went through.
 
-use super::same_order::Orders;
-use super::same_preview::Previews;
-use super::same_sheet::Sheets;
 use crate::exact_sound::judge::Distances;
-use crate::reference::{exact, Section};
+use crate::reference::{exact, unpack, Section, ACCEPTED};
 use crate::unit::exact::{Halves, Met};
+use crate::unit::orders::{Order, Setting};
+use crate::unit::sheet::SHEET;
 
 /// What accepted steps of a section met.
 #[derive(Clone, Copy, Default)]
 pub struct Steps {
     /// Steps that limited at the upper end of a word, and at the lower end.
-    pub high: u64,
-    pub low: u64,
+    high: u64,
+    low: u64,
     /// Steps where S / 2^22 lay at a half.
-    pub halves: Halves,
+    halves: Halves,
 }
 
 impl Steps {
-    pub fn add(&mut self, other: &Steps) {
-        self.high += other.high;
-        self.low += other.low;
-        self.halves.up += other.halves.up;
-        self.halves.down += other.halves.down;
-    }
-
     /// Counts an accepted step by what the exact reference says of it.
     pub fn count(&mut self, before: &Section, x: i32, limited: bool, y: i32) {
         self.high += u64::from(limited && y > 0);
         self.low += u64::from(limited && y < 0);
-        let sum = exact::sum(before, x);
-        if sum & 0x3F_FFFF == 0x20_0000 {
-            let odd = (sum >> 22) & 1 == 1;
-            self.halves.up += u64::from(odd);
-            self.halves.down += u64::from(!odd);
-        }
+        self.halves.count(exact::sum(before, x), 22);
     }
 }
 
@@ -43,72 +30,167 @@ impl Steps {
 pub struct Tally {
     /// Answers compared.
     pub answers: u64,
-    /// Steps that were refused.
+    /// Steps that were refused, and what the accepted ones met.
     pub refused: u64,
-    /// What the accepted steps met.
     pub steps: Steps,
-    /// Frames of accepted blocks.
+    /// Frames of accepted blocks, and what they met.
     pub frames: u64,
-    /// Blocks refused with 5, with 6 and with 14.
-    pub blocks_5: u64,
-    pub blocks_6: u64,
-    pub blocks_14: u64,
-    /// What the frames met.
     pub met: Met,
-    /// What the orders, the sheets and the previews met.
-    pub orders: Orders,
-    pub sheets: Sheets,
-    pub previews: Previews,
+    /// Blocks, orders, sheets and previews by their refusal; accepted ones at 0.
+    blocks: [u64; 16],
+    orders: [u64; 16],
+    sheets: [u64; 16],
+    previews: [u64; 16],
+    /// Accepted factors where f × 2^23 lay at a half.
+    factor_halves: Halves,
+    /// Sheets that were written, not written for a short buffer, and not written for an unfit unit.
+    written: u64,
+    too_short: u64,
+    unfit: u64,
+    /// Sheets that were accepted with a byte changed or several.
+    pub accepted_changed: u64,
+    /// Accepted lists of no words, the words of all accepted lists, and what the words met.
+    empty: u64,
+    pub words: u64,
+    previewed: Steps,
+    /// Words with S below zero and the result 0: minus zero, in floats.
+    zeros_from_below: u64,
     /// How far the lists lay from the exact sound.
     pub distances: Distances,
 }
 
-/// Adds and names these counts and all those of orders, sheets, previews and distances.
+impl Tally {
+    pub fn count_block(&mut self, input: &[u8], refusal: u32) {
+        self.answers += 1;
+        self.blocks[refusal as usize] += 1;
+        if refusal == ACCEPTED {
+            self.frames += input.len() as u64 / 4;
+        }
+    }
+
+    /// f × 2^24 is exact in f64, and whole where f × 2^23 lies at a half.
+    pub fn count_order(&mut self, order: &Order, refusal: u32) {
+        self.answers += 1;
+        self.orders[refusal as usize] += 1;
+        if let (ACCEPTED, Setting::Factor(f)) = (refusal, order.setting) {
+            let number = f64::from(f) * 16_777_216.0;
+            if number == number.floor() {
+                self.factor_halves.count(number as i128, 1);
+            }
+        }
+    }
+
+    pub fn count_written(&mut self, written: usize, room: usize) {
+        self.answers += 1;
+        match written {
+            SHEET => self.written += 1,
+            _ if room < SHEET => self.too_short += 1,
+            _ => self.unfit += 1,
+        }
+    }
+
+    pub fn count_read(&mut self, refusal: u32) {
+        self.answers += 1;
+        self.sheets[refusal as usize] += 1;
+    }
+
+    pub fn count_preview(&mut self, words: &[i32], refusal: u32) {
+        self.answers += 1;
+        self.previews[refusal as usize] += 1;
+        if refusal == ACCEPTED {
+            self.empty += u64::from(words.is_empty());
+            self.words += words.len() as u64;
+        }
+    }
+
+    pub fn count_previewed(&mut self, before: &Section, x: i32, answer: i64) {
+        let (status, y) = unpack(answer);
+        self.previewed.count(before, x, status == 1, y);
+        self.zeros_from_below += u64::from(y == 0 && exact::sum(before, x) < 0);
+    }
+
+    pub fn count_distances(&mut self, distances: Distances) {
+        self.add(&Tally { answers: distances.judged, distances, ..Tally::default() });
+    }
+}
+
+/// Adds up and names the counts.
 macro_rules! counts {
-    ($($what:literal: $($field:ident).+;)*) => {
+    ($($what:literal ($($count:tt)+))*) => {
         impl Tally {
             pub fn add(&mut self, other: &Tally) {
                 self.answers += other.answers;
-                $(self.$($field).+ += other.$($field).+;)*
-                self.orders.add(&other.orders);
-                self.sheets.add(&other.sheets);
-                self.previews.add(&other.previews);
-                self.distances.add(&other.distances);
+                $(self.$($count)+ += other.$($count)+;)*
+                self.distances.widen(&other.distances);
             }
 
             /// Everything that a comparison must reach, by name: one that never limits or never meets a half proves
             /// nothing of them.
             pub fn reached(&self) -> Vec<(&'static str, u64)> {
-                let mut reached = vec![$(($what, self.$($field).+)),*];
-                reached.extend(self.orders.reached());
-                reached.extend(self.sheets.reached());
-                reached.extend(self.previews.reached());
-                reached.extend(self.distances.reached());
-                reached
+                vec![$(($what, self.$($count)+)),*]
             }
         }
     };
 }
 
 counts! {
-    "refused steps": refused;
-    "steps limited at the upper end": steps.high;
-    "steps limited at the lower end": steps.low;
-    "halves of steps rounded up": steps.halves.up;
-    "halves of steps rounded down": steps.halves.down;
-    "frames": frames;
-    "blocks refused with 5": blocks_5;
-    "blocks refused with 6": blocks_6;
-    "blocks refused with 14": blocks_14;
-    "sections limited at the upper end": met.sections_high;
-    "sections limited at the lower end": met.sections_low;
-    "flags raised": met.flags_raised;
-    "outputs limited at the upper end": met.outputs_high;
-    "outputs limited at the lower end": met.outputs_low;
-    "halves of sections rounded up": met.section_halves.up;
-    "halves of sections rounded down": met.section_halves.down;
-    "halves of mixes rounded up": met.mix_halves.up;
-    "halves of mixes rounded down": met.mix_halves.down;
-    "halves of outputs rounded up": met.output_halves.up;
-    "halves of outputs rounded down": met.output_halves.down;
+    "refused steps" (refused)
+    "steps limited at the upper end" (steps.high)
+    "steps limited at the lower end" (steps.low)
+    "halves of steps rounded up" (steps.halves.up)
+    "halves of steps rounded down" (steps.halves.down)
+    "frames" (frames)
+    "blocks refused with 5" (blocks[5])
+    "blocks refused with 6" (blocks[6])
+    "blocks refused with 14" (blocks[14])
+    "sections limited at the upper end" (met.sections_high)
+    "sections limited at the lower end" (met.sections_low)
+    "flags raised" (met.flags_raised)
+    "outputs limited at the upper end" (met.outputs_high)
+    "outputs limited at the lower end" (met.outputs_low)
+    "halves of sections rounded up" (met.section_halves.up)
+    "halves of sections rounded down" (met.section_halves.down)
+    "halves of mixes rounded up" (met.mix_halves.up)
+    "halves of mixes rounded down" (met.mix_halves.down)
+    "halves of outputs rounded up" (met.output_halves.up)
+    "halves of outputs rounded down" (met.output_halves.down)
+    "accepted orders" (orders[0])
+    "orders refused with 1" (orders[1])
+    "orders refused with 2" (orders[2])
+    "orders refused with 3" (orders[3])
+    "orders refused with 4" (orders[4])
+    "orders refused with 14" (orders[14])
+    "halves of factors rounded up" (factor_halves.up)
+    "halves of factors rounded down" (factor_halves.down)
+    "sheets written" (written)
+    "sheets not written for a short buffer" (too_short)
+    "sheets not written for an unfit unit" (unfit)
+    "accepted sheets" (sheets[0])
+    "accepted sheets with bytes changed" (accepted_changed)
+    "sheets refused with 8" (sheets[8])
+    "sheets refused with 9" (sheets[9])
+    "sheets refused with 10" (sheets[10])
+    "sheets refused with 11" (sheets[11])
+    "sheets refused with 12" (sheets[12])
+    "sheets refused with 13" (sheets[13])
+    "sheets refused with 14" (sheets[14])
+    "accepted previews" (previews[0])
+    "accepted previews of nothing" (empty)
+    "words previewed" (words)
+    "previews limited at the upper end" (previewed.high)
+    "previews limited at the lower end" (previewed.low)
+    "halves of previews rounded up" (previewed.halves.up)
+    "halves of previews rounded down" (previewed.halves.down)
+    "previews rounded up to zero" (zeros_from_below)
+    "previews refused with 6" (previews[6])
+    "previews refused with 8" (previews[8])
+    "previews refused with 9" (previews[9])
+    "previews refused with 10" (previews[10])
+    "previews refused with 15" (previews[15])
+    "lists held against the exact sound" (distances.lists)
+    "lists in which a section limited" (distances.limited)
+    "samples held to the bound" (distances.judged)
+    "samples that need the sections' part of it" (distances.need_sections)
+    "samples left out, a section having limited" (distances.skipped)
+    "samples left out and beyond the bound" (distances.skipped_beyond)
 }

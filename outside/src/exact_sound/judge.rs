@@ -27,27 +27,10 @@ pub struct Distances {
 }
 
 impl Distances {
-    pub fn add(&mut self, other: &Distances) {
-        self.lists += other.lists;
-        self.limited += other.limited;
-        self.judged += other.judged;
-        self.skipped += other.skipped;
-        self.skipped_beyond += other.skipped_beyond;
-        self.need_sections += other.need_sections;
+    /// Takes the largest of both.
+    pub fn widen(&mut self, other: &Distances) {
         self.largest = self.largest.max(other.largest);
         self.largest_of_sections = self.largest_of_sections.max(other.largest_of_sections);
-    }
-
-    /// What a comparison must reach, by name.
-    pub fn reached(&self) -> [(&'static str, u64); 6] {
-        [
-            ("lists held against the exact sound", self.lists),
-            ("lists in which a section limited", self.limited),
-            ("samples held to the bound", self.judged),
-            ("samples that need the sections' part of it", self.need_sections),
-            ("samples left out, a section having limited", self.skipped),
-            ("samples left out and beyond the bound", self.skipped_beyond),
-        ]
     }
 }
 

@@ -1,5 +1,5 @@
 //! The exact sound: "It is fed the band set and each call of the list with its arguments, and takes nothing from the
-//! unit." Quoted sentences are document 01's.
+//! unit." Quoted sentences are the specification's.
 
 pub mod big;
 pub mod fraction;

@@ -22,7 +22,7 @@ use crate::unit::orders::fast::{order, refusal};
 use crate::unit::orders::{Order, Setting, BOTH, NO_SIDE_AND_BAND, POSITION_OVER_31};
 use crate::unit::sheet::fast::{read, write};
 use crate::unit::sheet::{BADLY_WRITTEN, OUTSIDE, SHEET};
-use crate::unit::{block_refusal, cleared, load, OUTPUT_TOO_SHORT, PART_OF_A_FRAME, UNFIT};
+use crate::unit::{block_refusal, cleared, house_unit, load, OUTPUT_TOO_SHORT, PART_OF_A_FRAME, UNFIT};
 
 /// A wrong implementation, in words, and the groups that must find it.
 pub struct Wrong {
@@ -246,7 +246,7 @@ wrong! {
     "the house unit given for a refused sheet" [SHEET_FIELDS SHEET_LINES DAMAGED_SHEETS SHEET_LENGTHS]
         sheet_read = |unit, bytes| {
             let refusal = read(unit, bytes);
-            if refusal != ACCEPTED { *unit = cleared(&house_set()); }
+            if refusal != ACCEPTED { *unit = house_unit(); }
             refusal
         };
 

@@ -1,9 +1,9 @@
 //! Sheets of the fast form, spoiled.
 
-use crate::reference::{house_set, ACCEPTED};
+use crate::reference::ACCEPTED;
 use crate::unit::sheet::fast::{read, write};
 use crate::unit::sheet::{LETTER_OR_END, LINE_FEED, SHEET};
-use crate::unit::{cleared, Numbers, LEFT, RIGHT, SIDE_COUNT, STRIPS};
+use crate::unit::{house_unit, Numbers, LEFT, RIGHT, SIDE_COUNT, STRIPS};
 
 /// The unit with y1 and y2 exchanged in each band.
 pub fn exchanged(unit: &Numbers) -> Numbers {
@@ -30,7 +30,7 @@ pub fn flag_2(unit: &mut Numbers, bytes: &[u8]) -> u32 {
 /// A reader that looks at all letters and line ends first. They stand where those of any other sheet do.
 pub fn letters_first(unit: &mut Numbers, bytes: &[u8]) -> u32 {
     let mut sheet = [0; SHEET];
-    write(&cleared(&house_set()), &mut sheet);
+    write(&house_unit(), &mut sheet);
     let is_tested = |byte: &u8| byte.is_ascii_uppercase() || *byte == LINE_FEED;
     let wrong = sheet.iter().zip(bytes).any(|(right, byte)| is_tested(right) && byte != right);
     if wrong && bytes.len() == SHEET {

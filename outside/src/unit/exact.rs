@@ -10,6 +10,17 @@ pub struct Halves {
     pub down: u64,
 }
 
+impl Halves {
+    /// Counts v / 2^k where it lies at a half.
+    pub fn count(&mut self, v: i128, k: u32) {
+        let below = v >> k;
+        if v - (below << k) == 1 << (k - 1) {
+            self.up += u64::from(below & 1 == 1);
+            self.down += u64::from(below & 1 == 0);
+        }
+    }
+}
+
 /// What the frames of a block met.
 #[derive(Clone, Copy, Default)]
 pub struct Met {
@@ -56,14 +67,8 @@ fn side_is_fit(side: &Side) -> bool {
 
 /// Rounded to nearest, halves to even; a half is counted.
 fn rounded(v: i128, k: u32, halves: &mut Halves) -> i64 {
-    let nearest = exact::nearest(v as i64, k);
-    let twice_over = 2 * ((i128::from(nearest) << k) - v);
-    if twice_over == 1 << k {
-        halves.up += 1;
-    } else if -twice_over == 1 << k {
-        halves.down += 1;
-    }
-    nearest
+    halves.count(v, k);
+    exact::nearest(v as i64, k)
 }
 
 /// One band of a side: its y, by "Words and the section". The flag is "1 from the first time one of its sections

@@ -1,5 +1,5 @@
-//! The two-sided unit, written from document 01: its numbers, its refusals and the loading of a band set. Quoted
-//! sentences are that document's.
+//! The two-sided unit, written from the specification: its numbers, its refusals and the loading of a band set. Quoted
+//! sentences are the specification's.
 //!
 //! The playing of a block, the orders and the sheet have two forms, as the section has. `exact` is the plain meaning;
 //! `fast` is what one would write for use.

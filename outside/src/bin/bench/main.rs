@@ -12,10 +12,10 @@ use outside::ffi::raw;
 use outside::random::Random;
 use outside::reference::{house_set, ACCEPTED};
 use outside::subject::{Form, FAST, LIBRARY};
-use outside::timer::{fold, in_turns, kept, status, timed};
+use outside::timer::{fold, in_turns, status, timed, within};
 use outside::unit::orders::Order;
 use outside::unit::sheet::SHEET;
-use outside::unit::{cleared, Numbers};
+use outside::unit::{house_unit, Numbers};
 
 const SEED: u64 = 0xF0DD_00BE;
 const ROUNDS: usize = 11;
@@ -45,18 +45,22 @@ fn section_steps([a, b, g]: [i32; 3], words: &[i32], results: &mut [i32]) -> u32
     ACCEPTED
 }
 
-/// Prints the best time of each for one thing of so many, and gives their ratio.
-fn race(name: &str, pair: &Pair, count: usize, run: impl Fn(&Form) -> (f64, u64)) -> Result<f64, String> {
+/// Prints the best time of each for one thing of so many, in so many rounds, and gives both.
+fn race(
+    name: &str,
+    pair: &Pair,
+    [rounds, count]: [usize; 2],
+    run: impl Fn(&Form) -> (f64, u64),
+) -> Result<[f64; 2], String> {
     let [(first, one), (second, other)] = pair;
     let measure = |form| {
         let (time, checksum) = run(black_box(form));
         Ok(([time / count as f64], checksum))
     };
-    let best = in_turns(ROUNDS, [&mut || measure(one), &mut || measure(other)]);
+    let best = in_turns(rounds, [&mut || measure(one), &mut || measure(other)]);
     let [[one], [other]] = best.map_err(|fault| format!("{name}: {fault}"))?;
-    let ratio = one / other;
-    println!("{name}: {first} {one:.2} ns, {second} {other:.2} ns, ratio {ratio:.2}");
-    Ok(ratio)
+    println!("{name}: {first} {one:.2} ns, {second} {other:.2} ns, ratio {:.3}", one / other);
+    Ok([one, other])
 }
 
 /// A run over a list: each thing gives a number for the checksum.
@@ -73,7 +77,7 @@ fn bands() -> [(&'static str, [i32; 3]); 2] {
 fn time_steps(random: &mut Random) -> Result<(), String> {
     let words: Vec<i32> = (0..COUNT).map(|_| random.word()).collect();
     for (name, [a, b, g]) in bands() {
-        race(&format!("step, {name}"), &WITH_RUST, COUNT, |form| {
+        race(&format!("step, {name}"), &WITH_RUST, [ROUNDS, COUNT], |form| {
             let mut section = [a, b, g, 0, 0, 0, 0];
             run_each(&words, |&x| (form.section_step)(&mut section, x))
         })?;
@@ -87,7 +91,7 @@ fn time_nearest(random: &mut Random) -> Result<(), String> {
     let rows: [(&str, Vec<(i64, u32)>); 2] =
         [("nearest, shift 22", section_sums), ("nearest, shifts 0 to 63", any_shift)];
     for (name, numbers) in rows {
-        race(name, &WITH_RUST, COUNT, |form| run_each(&numbers, |&(v, k)| (form.nearest)(v, k)))?;
+        race(name, &WITH_RUST, [ROUNDS, COUNT], |form| run_each(&numbers, |&(v, k)| (form.nearest)(v, k)))?;
     }
     Ok(())
 }
@@ -101,8 +105,8 @@ fn time_orders(random: &mut Random) -> Result<(), String> {
     let positions = orders(|side, band, draw| Order::position(side, band, (draw % 33) as u8));
     let factors = orders(|side, band, draw| Order::factor(side, band, (draw % 4_096) as f32 / 2_000.0 - 1.024));
     for (name, orders) in [("order, position", positions), ("order, factor", factors)] {
-        race(name, &WITH_RUST, ORDERS, |form| {
-            let mut unit = cleared(&house_set());
+        race(name, &WITH_RUST, [ROUNDS, ORDERS], |form| {
+            let mut unit = house_unit();
             let (time, checksum) = run_each(&orders, |order| (form.order)(&mut unit, order).into());
             (time, unit.iter().fold(checksum, |sum, &n| fold(sum, n.into())))
         })?;
@@ -113,6 +117,7 @@ fn time_orders(random: &mut Random) -> Result<(), String> {
 /// A list of any words in one call, with a house band and an extreme one; the times are for a word.
 fn time_previews(random: &mut Random) -> Result<(), String> {
     let words: Vec<i32> = (0..WORDS).map(|_| random.word()).collect();
+    let count = [ROUNDS, PREVIEWS * WORDS];
     for (name, band) in bands() {
         let run = |form: &Form| {
             let mut results = vec![0; words.len()];
@@ -121,8 +126,8 @@ fn time_previews(random: &mut Random) -> Result<(), String> {
             assert!(accepted);
             (time, results.iter().fold(0, |sum, &y| fold(sum, y.into())))
         };
-        race(&format!("preview and section, {name}"), &WITH_SECTION, PREVIEWS * WORDS, run)?;
-        race(&format!("preview, {name}"), &WITH_RUST, PREVIEWS * WORDS, run)?;
+        race(&format!("preview and section, {name}"), &WITH_SECTION, count, run)?;
+        race(&format!("preview, {name}"), &WITH_RUST, count, run)?;
     }
     Ok(())
 }
@@ -150,18 +155,19 @@ fn run_reads(form: &Form, sheets: &[[u8; SHEET]]) -> (f64, u64) {
 fn time_sheets(random: &mut Random) -> Result<bool, String> {
     let sets = Sets::all();
     let units: Vec<Numbers> = (0..1_024).map(|turn| random_fit(&sets.draw(turn, random), random)).collect();
-    let house = [cleared(&house_set())];
+    let house = [house_unit()];
     let mut all_kept = true;
     for (name, units) in
         [("of 1,024 units", &units[..]), ("of 64 units", &units[..64]), ("of the cleared house unit", &house[..])]
     {
         let mut sheets = vec![[0; SHEET]; units.len()];
         units.iter().zip(&mut sheets).for_each(|(unit, sheet)| assert_eq!((FAST.sheet_write)(unit, sheet), SHEET));
-        let limit = format!("sheet {name}, ratio over {MOST_SHEET:.2}");
-        let written = || race(&format!("sheet {name} written"), &WITH_RUST, SHEETS, |form| run_writes(form, units));
-        let read = || race(&format!("sheet {name} read"), &WITH_RUST, SHEETS, |form| run_reads(form, &sheets));
-        all_kept &= kept(&limit, || Ok(written()? <= MOST_SHEET))?;
-        all_kept &= kept(&limit, || Ok(read()? <= MOST_SHEET))?;
+        let time = |what: &str, run: &dyn Fn(&Form) -> (f64, u64)| {
+            let name = format!("sheet {name} {what}");
+            within(&name, MOST_SHEET, || race(&name, &WITH_RUST, [ROUNDS, SHEETS], run))
+        };
+        all_kept &= time("written", &|form| run_writes(form, units))?;
+        all_kept &= time("read", &|form| run_reads(form, &sheets))?;
     }
     Ok(all_kept)
 }

@@ -11,7 +11,7 @@ use std::fs;
 use std::path::{Path, PathBuf};
 use std::process::ExitCode;
 
-use outside::timer::{in_turns, kept, status};
+use outside::timer::{in_turns, kept, status, within};
 
 use self::material::{Material, FRAMES, RATE, SEED};
 use self::programs::Times;
@@ -46,13 +46,13 @@ fn arguments() -> Option<(PathBuf, bool)> {
     Some((play, need_sox))
 }
 
-/// Play and another in turns. True where the ratio of this time of theirs is at most so much.
-fn within(
+/// Play and another in turns: this time of theirs.
+fn race(
     material: &Material,
     name: &str,
     other: fn(&Material) -> Result<Times, String>,
-    (which, most): (usize, f64),
-) -> Result<bool, String> {
+    which: usize,
+) -> Result<[f64; 2], String> {
     let best = in_turns(RUNS, [&mut || Ok((programs::play(material)?, 0)), &mut || Ok((other(material)?, 0))])?;
     for (name, times) in ["play", name].iter().zip(best) {
         let times_told: Vec<String> =
@@ -60,9 +60,9 @@ fn within(
         let real_time = (FRAMES / RATE) as f64 / times[2];
         println!("{name} {} ({real_time:.0} times real time)", times_told.join(", "));
     }
-    let ratio = best[0][which] / best[1][which];
-    println!("  {} time: ratio {ratio:.3}, at most {most}", NAMES[which]);
-    Ok(ratio <= most)
+    let [play, other] = best.map(|times| times[which]);
+    println!("  {} time: ratio {:.3}", NAMES[which], play / other);
+    Ok([play, other])
 }
 
 fn memory_below(material: &Material, most: u64) -> Result<bool, String> {
@@ -76,11 +76,10 @@ fn everything(play: &Path, need_sox: bool) -> Result<bool, String> {
     let material = Material::new(play).map_err(|error| format!("the noise: {error}"))?;
     println!("seed {SEED:#x}, {FRAMES} frames of noise, best of {RUNS} runs each, in turns");
     let mut all_kept = kept("the memory", || memory_below(&material, MEMORY))?;
-    let engine = (USER_AND_SYSTEM, MOST_OF_ENGINE);
-    all_kept &= kept("the time against the engine", || within(&material, "engine", programs::engine, engine))?;
+    let engine = || race(&material, "engine", programs::engine, USER_AND_SYSTEM);
+    all_kept &= within("play and the engine", MOST_OF_ENGINE, engine)?;
     if programs::has_sox() {
-        let sox = (USER, MOST_OF_SOX);
-        all_kept &= kept("the time against sox", || within(&material, "sox", programs::sox, sox))?;
+        all_kept &= within("play and sox", MOST_OF_SOX, || race(&material, "sox", programs::sox, USER))?;
     } else if need_sox {
         return Err("sox is not installed".to_string());
     } else {

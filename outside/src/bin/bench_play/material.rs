@@ -3,12 +3,12 @@
 use std::fs;
 use std::path::PathBuf;
 
+use outside::checks::sheet_makers::sheet_of;
 use outside::random::Random;
-use outside::reference::{house_set, ACCEPTED};
+use outside::reference::ACCEPTED;
 use outside::temporary::Temporary;
 use outside::unit::orders::{exact::order, Order, BOTH, VOLUME_BAND};
-use outside::unit::sheet::{exact as sheet, SHEET};
-use outside::unit::{cleared, Numbers};
+use outside::unit::{house_unit, Numbers};
 
 pub const SEED: u64 = 0xF0DD_00E0;
 /// Four minutes at 44.1 kHz.
@@ -25,20 +25,13 @@ pub struct Material {
 
 /// The house unit after orders to the volume and to every band.
 fn unit() -> Numbers {
-    let mut unit = cleared(&house_set());
+    let mut unit = house_unit();
     let volume = Order::position(BOTH, VOLUME_BAND, 20);
     let bands = (0..10).map(|band| Order::position(BOTH, band, 12 + band as u8));
     for given in bands.chain([volume]) {
         assert_eq!(order(&mut unit, &given), ACCEPTED);
     }
     unit
-}
-
-/// The sheet of a unit.
-pub fn sheet_of(unit: &Numbers) -> Vec<u8> {
-    let mut bytes = vec![0; SHEET];
-    assert_eq!(sheet::write(unit, &mut bytes), SHEET);
-    bytes
 }
 
 impl Material {

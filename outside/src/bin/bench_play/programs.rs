@@ -8,12 +8,13 @@ use std::sync::mpsc;
 use std::thread;
 use std::time::{Duration, Instant};
 
+use outside::checks::sheet_makers::sheet_of;
 use outside::ffi;
 use outside::reference::ACCEPTED;
-use outside::system;
+use outside::system::{self, Used};
 use outside::unit::Numbers;
 
-use super::material::{sheet_of, Material};
+use super::material::Material;
 
 /// The engine is given so many bytes at a time.
 const BLOCK: usize = 4 * 16_384;
@@ -23,7 +24,7 @@ const LIMIT: Duration = Duration::from_secs(20);
 /// Seconds of user time, of user and system time, and elapsed.
 pub type Times = [f64; 3];
 
-fn times(user: Duration, total: Duration, elapsed: Duration) -> Times {
+fn times([user, total]: Used, elapsed: Duration) -> Times {
     [user, total, elapsed].map(|time| time.as_secs_f64())
 }
 
@@ -42,7 +43,7 @@ fn timed(mut command: Command, silent: bool) -> Result<Times, String> {
     if status != 0 || (silent && !errors.is_empty()) {
         return Err(format!("it ended with {status} and told {errors:?}"));
     }
-    Ok(times(used.user, used.total(), begun.elapsed()))
+    Ok(times(used, begun.elapsed()))
 }
 
 /// The play program with its input from the file and its sound to nowhere.
@@ -88,7 +89,7 @@ pub fn engine(material: &Material) -> Result<Times, String> {
         black_box(sound);
     }));
     let (elapsed, after) = (begun.elapsed(), system::used());
-    Ok(times(after.user - before.user, after.total() - before.total(), elapsed))
+    Ok(times([0, 1].map(|n| after[n] - before[n]), elapsed))
 }
 
 /// The most memory of a process up to now, in bytes.

@@ -1,11 +1,11 @@
 //! What the programs must do, by the independent implementation.
 
 use outside::checks::sheet_makers::sheet_of;
-use outside::reference::{house_set, ACCEPTED};
+use outside::reference::ACCEPTED;
 use outside::unit::exact::{self, Met};
 use outside::unit::orders::{exact as orders, Order};
 use outside::unit::sheet::{exact as sheet, FIELD};
-use outside::unit::{cleared, Numbers, PART_OF_A_FRAME};
+use outside::unit::{house_unit, Numbers, PART_OF_A_FRAME};
 
 use super::folder::{and_file, file_in, Contents, NEW_NAME, SHEET_NAME};
 use super::run::{DESK, HOUSE, PLAY};
@@ -52,7 +52,7 @@ pub fn play(before: &Contents, input: &[u8], met: &mut Met) -> Seen {
 
 /// What house writes.
 pub fn house_sheet() -> Vec<u8> {
-    sheet_of(&cleared(&house_set()))
+    sheet_of(&house_unit())
 }
 
 /// A number not below zero, written as in a field of the strip sheet: nine columns at most, and only blanks before

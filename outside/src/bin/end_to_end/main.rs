@@ -1,5 +1,5 @@
-//! Runs the programs play, house and desk from end to end: in a folder of its own each time, with the output, the errors
-//! and everything in the folder held against the independent implementation. Exit status 0 only if all is right.
+//! Runs the programs play, house and desk from end to end: in a folder of its own each time, with the output, the
+//! errors and everything in the folder held against the independent implementation. Exit status 0 only if all is right.
 //!
 //!     end_to_end [PATH]              tests play there, ../target/bin/play else, and the two beside it
 //!     end_to_end --self-test [PATH]  tests wrong programs made of these

@@ -1,4 +1,4 @@
-//! A play of the independent implementation, for tests that have no other: no fault of a file or a stream is looked for.
+//! A play of the independent implementation, for tests that have no other: no fault of a file or stream is looked for.
 
 use std::fs;
 use std::io::{self, Read, Write};

@@ -1,4 +1,4 @@
-//! Shows that the tests can fail: they pass the programs through a wrapper that spoils nothing, and find each wrong one.
+//! Shows that the tests can fail: they pass the programs in a wrapper that spoils nothing, and find each wrong one.
 
 use std::time::Duration;
 

@@ -1,5 +1,5 @@
-//! Level orders: their refusals and the targets they set. Quoted sentences are document 01's. `exact` works a factor
-//! from its bits in whole numbers; `fast` works it in floating point.
+//! Level orders: their refusals and the targets they set. Quoted sentences are the specification's. `exact` works a
+//! factor from its bits in whole numbers; `fast` works it in floating point.
 
 pub mod exact;
 pub mod fast;

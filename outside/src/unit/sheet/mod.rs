@@ -1,5 +1,5 @@
-//! The strip sheet, written and read. Quoted sentences are document 01's. `exact` goes by the formatting and parsing of
-//! the standard library; `fast` fills and reads the columns itself.
+//! The strip sheet, written and read. Quoted sentences are the specification's. `exact` goes by the formatting and
+//! parsing of the standard library; `fast` fills and reads the columns itself.
 
 pub mod exact;
 pub mod fast;

@@ -40,10 +40,6 @@ pub const LINES: [Line; 33] = {
     lines
 };
 
-pub fn lines() -> [Line; 33] {
-    LINES
-}
-
 /// The columns of each of the 118 numbers.
 pub fn fields() -> impl Iterator<Item = Range<usize>> {
     LINES.iter().flat_map(|line| (0..line.count).map(|column| line.field(column)))

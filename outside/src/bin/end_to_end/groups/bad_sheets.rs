@@ -3,11 +3,11 @@
 use outside::checks::sheet_makers::SheetMaker;
 use outside::checks::sheet_texts::{any_field, badly_written};
 use outside::checks::Difference;
+use outside::figures;
 use outside::unit::exact::Met;
-use outside::unit::sheet::places::{lines, Line};
+use outside::unit::sheet::places::{Line, LINES};
 use outside::unit::sheet::SHEET;
 
-use super::figures::{typed_sheet, CLEARED};
 use crate::expected::{self, line};
 use crate::folder::{and_file, with_sheet, without_and_with_old, Contents, NEW_NAME, OLD, PART_NAME};
 use crate::run::{Input, Run, PLAY};
@@ -64,27 +64,23 @@ fn with_bytes(sheet: &[u8], place: usize, bytes: &[u8]) -> Vec<u8> {
 
 /// Every refused sheet that is made of this one by hand: its fault in words, the sheet and the number.
 pub fn refused(sheet: &[u8]) -> Vec<(String, Vec<u8>, u32)> {
-    let lines = lines();
     let more = |bytes: &[u8]| [sheet, bytes].concat();
     let megabyte = sheet.repeat((1 << 20) / SHEET + 1);
     let lengths =
         [vec![], sheet[..1].to_vec(), sheet[..SHEET - 1].to_vec(), more(b"\n"), more(b"\n\n"), more(sheet), megabyte];
     let mut refused: Vec<_> = lengths.map(|sheet| (format!("{} bytes", sheet.len()), sheet, 11)).to_vec();
     for place in [V, C, L, S, R, LAST] {
-        let Line { begin, letter, .. } = lines[place];
+        let Line { begin, letter, .. } = LINES[place];
         refused.push((format!("small letter in line {place}"), with_bytes(sheet, begin, &[letter + 32]), 12));
         for byte in [b'\r', b' ', 0] {
-            refused.push((
-                format!("line {place} ends with {byte}"),
-                with_bytes(sheet, lines[place].end(), &[byte]),
-                12,
-            ));
+            let changed = with_bytes(sheet, LINES[place].end(), &[byte]);
+            refused.push((format!("line {place} ends with {byte}"), changed, 12));
         }
     }
-    let swapped = with_bytes(&with_bytes(sheet, lines[L].begin, b"R"), lines[R].begin, b"L");
+    let swapped = with_bytes(&with_bytes(sheet, LINES[L].begin, b"R"), LINES[R].begin, b"L");
     refused.push(("R before L".to_string(), swapped, 12));
     for (line, column, text, number) in FIELDS {
-        let changed = with_bytes(sheet, lines[line].field(column).start, text.as_bytes());
+        let changed = with_bytes(sheet, LINES[line].field(column).start, text.as_bytes());
         refused.push((format!("{text:?} in line {line}, column {column}"), changed, number));
     }
     refused
@@ -101,7 +97,7 @@ pub fn damaged(turn: u64, maker: &mut SheetMaker) -> Vec<u8> {
         let place = random.below(SHEET as u64) as usize;
         return with_bytes(&sheet, place, &[random.draw() as u8]);
     }
-    let line = random.pick(&lines());
+    let line = random.pick(&LINES);
     let column = random.below(line.count as u64) as usize;
     let text = any_field(&badly_written(), random);
     with_bytes(&sheet, line.field(column).start, &text)
@@ -127,7 +123,7 @@ fn nothing_happens(test: &mut Test, case: &str, folder: &Contents, number: u32) 
 }
 
 pub fn all(test: &mut Test) -> Result<(), Difference> {
-    let cleared = typed_sheet(CLEARED);
+    let cleared = figures::sheet(figures::CLEARED);
     for (case, sheet, number) in refused(&cleared) {
         nothing_happens(test, &case, &with_sheet(&sheet), number)?;
     }

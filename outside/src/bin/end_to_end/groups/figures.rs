@@ -1,33 +1,21 @@
-//! The figures of document 01 that the play program can show.
+//! The figures of the specification that the play program can show.
 
 use outside::checks::Difference;
+use outside::figures::{sheet, Lines, CLEARED, FRAME, PLAYED};
 
 use crate::folder::{and_file, with_sheet, NEW_NAME};
 use crate::run::{Input, Run, PLAY};
 use crate::seen::Seen;
 use crate::test::Test;
 
-/// The lines of a sheet that differ between the figures: the volume's, then the L line and the left S lines, then the R
-/// line and the right S lines.
-type Lines = [&'static str; 5];
-
-/// "Ten bands all 31 Hz", with these lines.
-pub fn typed_sheet([volume, left, left_strip, right, right_strip]: Lines) -> Vec<u8> {
-    let ten = |line: &str| format!("{line}\n").repeat(10);
-    let bands = ten("C     6606  4181093  8375315");
-    format!("{volume}\n{bands}{left}\n{}{right}\n{}", ten(left_strip), ten(right_strip)).into_bytes()
+/// The cleared sheet with this volume and these strips.
+const fn silent(volume: &'static str, strip: &'static str) -> Lines {
+    let [_, bands, left, _, right, _] = CLEARED;
+    [volume, bands, left, strip, right, strip]
 }
 
-/// A cleared strip and cleared inputs.
-const S: &str = "S        0        0        0        0";
-const L: &str = "L        0        0        0";
-const R: &str = "R        0        0        0";
-
-/// "Ten bands all 31 Hz, cleared."
-pub const CLEARED: Lines = ["V        0        0", L, S, R, S];
 /// Volume and gains on their way from 0 to position 31, with silence.
-const SLOPES: Lines = ["V        0  8388600", L, FROM_0, R, FROM_0];
-const FROM_0: &str = "S        0        0        0  8380215";
+const SLOPES: Lines = silent("V        0  8388600", "S        0        0        0  8380215");
 const BEFORE_31: &str = "S        0        0  8379932  8380215";
 const AT_31: &str = "S        0        0  8380215  8380215";
 
@@ -35,17 +23,11 @@ const AT_31: &str = "S        0        0  8380215  8380215";
 type Figure = (&'static str, Lines, &'static [u8], &'static [u8], Lines);
 
 const FIGURES: [Figure; 7] = [
-    (
-        "after the frame (1000, 0) the sound is (0, 0)",
-        CLEARED,
-        &[232, 3, 0, 0],
-        &[0; 4],
-        [CLEARED[0], "L   256000        0        0", "S      403        0        0        0", R, S],
-    ),
-    ("9,988 frames", SLOPES, &[0; 39_952], &[0; 39_952], ["V  4184972  8388600", L, BEFORE_31, R, BEFORE_31]),
-    ("9,989 frames for a band", SLOPES, &[0; 39_956], &[0; 39_956], ["V  4185391  8388600", L, AT_31, R, AT_31]),
-    ("20,020 frames", SLOPES, &[0; 80_080], &[0; 80_080], ["V  8388380  8388600", L, AT_31, R, AT_31]),
-    ("20,021 for the volume", SLOPES, &[0; 80_084], &[0; 80_084], ["V  8388600  8388600", L, AT_31, R, AT_31]),
+    ("after the frame (1000, 0) the sound is (0, 0)", CLEARED, &FRAME, &[0; 4], PLAYED),
+    ("9,988 frames", SLOPES, &[0; 39_952], &[0; 39_952], silent("V  4184972  8388600", BEFORE_31)),
+    ("9,989 frames for a band", SLOPES, &[0; 39_956], &[0; 39_956], silent("V  4185391  8388600", AT_31)),
+    ("20,020 frames", SLOPES, &[0; 80_080], &[0; 80_080], silent("V  8388380  8388600", AT_31)),
+    ("20,021 for the volume", SLOPES, &[0; 80_084], &[0; 80_084], silent("V  8388600  8388600", AT_31)),
     (
         "31 Hz, cleared, x = 256,000, 256,000, 0: y = 403, 1,208, 1,607",
         CLEARED,
@@ -53,6 +35,7 @@ const FIGURES: [Figure; 7] = [
         &[0; 12],
         [
             CLEARED[0],
+            CLEARED[1],
             "L        0   256000        0",
             "S     1607     1208        0        0",
             "R        0   256000        0",
@@ -62,11 +45,12 @@ const FIGURES: [Figure; 7] = [
     // The right has the lowest sample, by which the sides can be told apart.
     (
         "V = 419, gains 0, s = 32,767: output 2",
-        ["V        0      419", L, S, R, S],
+        silent("V        0      419", CLEARED[3]),
         &[255, 127, 0, 128],
         &[2, 0, 254, 255],
         [
             "V      419      419",
+            CLEARED[1],
             "L  8388352        0        0",
             "S    13212        0        0        0",
             "R -8388608        0        0",
@@ -77,8 +61,8 @@ const FIGURES: [Figure; 7] = [
 
 pub fn all(test: &mut Test) -> Result<(), Difference> {
     for (case, before, frames, sound, after) in FIGURES {
-        let before = with_sheet(&typed_sheet(before));
-        let after = and_file(&before, NEW_NAME, &typed_sheet(after));
+        let before = with_sheet(&sheet(before));
+        let after = and_file(&before, NEW_NAME, &sheet(after));
         let expected = Seen { after, ..Seen::written(sound, &before) };
         for input in [Input::File(frames), Input::Pipe(frames)] {
             test.expect(case, &before, Run::of(PLAY, input), &expected)?;

@@ -79,8 +79,8 @@ const NEW_A_FOLDER: &str = "strip.new: Is a directory\n";
 const NO_INPUT: &str = "standard input: closed\n";
 const NO_OUTPUT: &str = "standard output: closed\n";
 
-/// What keeps a pass from beginning: which names are folders, whether there is a sheet, what is closed, and the one line
-/// that is told. Where several apply it is that of the first.
+/// What keeps a pass from beginning: which names are folders, whether there is a sheet, what is closed, and the one
+/// line that is told. Where several apply it is that of the first.
 const NOT_BEGUN: [(&[&str], bool, &str, &str); 15] = [
     (&[SHEET_NAME], true, "", SHEET_A_FOLDER),
     (&[SHEET_NAME, PART_NAME], true, "", SHEET_A_FOLDER),
@@ -101,7 +101,8 @@ const NOT_BEGUN: [(&[&str], bool, &str, &str); 15] = [
 
 /// Nothing is played and nothing changes, whatever the input is.
 fn not_begun(test: &mut Test, material: &Material) -> Result<(), Difference> {
-    let tail = &material.bytes[..4_001];
+    let (bytes, tail) = (&material.bytes[..], &material.bytes[..4_001]);
+    let inputs = [Input::Pipe(bytes), Input::File(tail), Input::File(&[]), Input::BrokenOff(tail), Input::Folder];
     // A link to a folder is as good as one.
     let before = with(&material.sheet, vec![(NEW_NAME, link(ELSEWHERE)), (ELSEWHERE, Entry::Folder)]);
     let run = Run::of(PLAY, Input::File(tail));
@@ -110,13 +111,6 @@ fn not_begun(test: &mut Test, material: &Material) -> Result<(), Difference> {
         let sheet = if has_sheet { material.sheet.clone() } else { Contents::new() };
         for begin in without_and_with_old(&sheet) {
             let before = folders.iter().fold(begin, |contents, name| and(&contents, name, Entry::Folder));
-            let inputs = [
-                Input::Pipe(&material.bytes),
-                Input::File(tail),
-                Input::File(&[]),
-                Input::BrokenOff(tail),
-                Input::Folder,
-            ];
             for input in inputs {
                 let run = Run { way: Way::Shell("", closed), ..Run::of(PLAY, input) };
                 let case = format!("{} folders, {closed}", folders.join(", "));

@@ -1,5 +1,5 @@
-//! The groups of cases. A group runs a program again and again, each time in a folder of its own, and stops at the first
-//! difference.
+//! The groups of cases. A group runs a program again and again, each time in a folder of its own, and stops at the
+//! first difference.
 
 mod arguments;
 mod bad_sheets;
@@ -36,7 +36,7 @@ const fn group(name: &'static str, what: &'static str, run: Cases, number: u64) 
 
 #[rustfmt::skip]
 pub const GROUPS: [Group; 15] = [
-    group("figures", "those of document 01 that the program can show, to the byte", figures::all, 12),
+    group("figures", "those of the specification that the program can show, to the byte", figures::all, 12),
     group("refused sheets", "8 to 14, missing, short and long sheets, random damage; an old strip.new", bad_sheets::all, 0),
     group("tails", "one to three bytes, alone and after frames; no input", sounds::tails, 1),
     group("sounds", "long ones through random sheets", sounds::long, 2),

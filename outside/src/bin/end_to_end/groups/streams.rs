@@ -5,7 +5,6 @@ use std::process::ExitStatus;
 
 use outside::checks::sounds::Sound;
 use outside::checks::Difference;
-use outside::system::SIGPIPE;
 
 use crate::expected;
 use crate::folder::{with_sheet, without_and_with_old, Contents};
@@ -14,6 +13,7 @@ use crate::seen::Seen;
 use crate::test::Test;
 
 const FRAMES: usize = 200_000;
+const SIGPIPE: i32 = 13;
 
 /// A run of so many frames that stops: the case, where its sound goes, how it is started, what it tells, how many bytes
 /// are heard, and the signal that ends it, 0 for none.
