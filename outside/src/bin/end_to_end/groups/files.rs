@@ -76,6 +76,7 @@ fn passes(test: &mut Test, material: &Material) -> Result<(), Difference> {
 const SHEET_A_FOLDER: &str = "strip.sht: Is a directory\n";
 const PART_A_FOLDER: &str = "strip.new.part: File exists\n";
 const NEW_A_FOLDER: &str = "strip.new: Is a directory\n";
+const NEW_A_LOOP: &str = "strip.new: Too many levels of symbolic links\n";
 const NO_INPUT: &str = "standard input: closed\n";
 const NO_OUTPUT: &str = "standard output: closed\n";
 
@@ -103,10 +104,16 @@ const NOT_BEGUN: [(&[&str], bool, &str, &str); 15] = [
 fn not_begun(test: &mut Test, material: &Material) -> Result<(), Difference> {
     let (bytes, tail) = (&material.bytes[..], &material.bytes[..4_001]);
     let inputs = [Input::Pipe(bytes), Input::File(tail), Input::File(&[]), Input::BrokenOff(tail), Input::Folder];
-    // A link to a folder is as good as one.
-    let before = with(&material.sheet, vec![(NEW_NAME, link(ELSEWHERE)), (ELSEWHERE, Entry::Folder)]);
-    let run = Run::of(PLAY, Input::File(tail));
-    test.expect("strip.new a link to a folder", &before, run, &Seen::nothing_but(NEW_A_FOLDER, &before))?;
+    // A link to a folder is as good as one; a link to itself leads nowhere.
+    let links = [
+        (vec![(NEW_NAME, link(ELSEWHERE)), (ELSEWHERE, Entry::Folder)], NEW_A_FOLDER),
+        (vec![(NEW_NAME, link(NEW_NAME))], NEW_A_LOOP),
+    ];
+    for (entries, line) in links {
+        let before = with(&material.sheet, entries);
+        let run = Run::of(PLAY, Input::File(tail));
+        test.expect("strip.new a link", &before, run, &Seen::nothing_but(line, &before))?;
+    }
     for (folders, has_sheet, closed, line) in NOT_BEGUN {
         let sheet = if has_sheet { material.sheet.clone() } else { Contents::new() };
         for begin in without_and_with_old(&sheet) {
