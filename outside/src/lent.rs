@@ -1,7 +1,8 @@
 //! Whether the library keeps to the numbers and bytes lent to it: groups of the comparison are run with everything lent
 //! in the middle of a larger buffer.
 
-use crate::checks::groups::*;
+use crate::checks::groups::{Group, CUTS, FITNESS, HOUSE, LOADS, ORDERS, PREVIEW_LENGTHS, REFUSED, REFUSED_BLOCKS};
+use crate::checks::groups::{REFUSED_PREVIEWS, SHEETS, SHEET_LENGTHS, SHEET_LINES};
 use crate::ffi::{self, raw};
 use crate::reference::Section;
 use crate::subject::Subject;
@@ -14,15 +15,40 @@ const FRONT: usize = 40;
 const MARK: i32 = 0x5AA5_1234;
 const MARK_BYTE: u8 = 0xA5;
 
+/// The groups that are run so: each function accepted and refused, with lengths of every kind.
+const GROUPS: [Group; 12] = [
+    HOUSE,
+    REFUSED,
+    LOADS,
+    FITNESS,
+    CUTS,
+    REFUSED_BLOCKS,
+    ORDERS,
+    SHEETS,
+    SHEET_LINES,
+    SHEET_LENGTHS,
+    PREVIEW_LENGTHS,
+    REFUSED_PREVIEWS,
+];
+
+/// Sides and bands far away from those that there are.
+const FAR: [(u32, u32); 3] = [(2, 118), (2, 1 << 29), (u32::MAX, u32::MAX)];
+
 /// True where every function that takes a pointer leaves what lies around its own numbers and bytes as it was, and what
 /// it only reads too.
 pub fn keeps_to_its_numbers() -> bool {
     let lent = Lent { kept: Cell::new(true), turn: Cell::new(0) };
-    let groups = [HOUSE, REFUSED, LOADS, FITNESS, CUTS, REFUSED_BLOCKS, ORDERS, SHEETS, SHEET_LENGTHS, PREVIEW_LENGTHS];
-    for (side, band) in [(2, 118), (2, 1 << 29)] {
-        lent.order(&mut house_unit(), &Order::factor(side, band, 0.5));
+    for unit in [house_unit(), [-1; 118]] {
+        for (side, band) in FAR {
+            let mut orders = vec![Order::mute(side, band)];
+            orders.extend([0, 31, 32, 255].map(|position| Order::position(side, band, position)));
+            orders.extend([0.5, -1.0, 1.0, f32::NAN].map(|factor| Order::factor(side, band, factor)));
+            for order in orders {
+                lent.order(&mut unit.clone(), &order);
+            }
+        }
     }
-    groups.iter().all(|group| group.run(&lent).is_ok()) && lent.kept.get()
+    GROUPS.iter().all(|group| group.run(&lent).is_ok()) && lent.kept.get()
 }
 
 /// The library, and whether it has kept to what was lent.
