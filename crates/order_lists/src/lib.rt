@@ -13,7 +13,7 @@ use unit::Unit;
 const ORDER_SIZE: usize = 3;
 
 // As many orders as there are places: every band on either side and on both, and the volume.
-const PLACES: usize = 3 * bands::BAND_COUNT + 1;
+const PLACES: usize = (settings::BOTH_SIDES as usize + 1) * bands::BAND_COUNT + 1;
 
 // The room that a list of so many orders needs.
 pub const LIST_ROOM: usize = ORDER_SIZE * PLACES;
