@@ -1,6 +1,7 @@
 // The static library: thin functions under C names, for tests, benchmarks and programs in other languages. Each promises what the
 // function that it calls promises. A lent array passes as a pointer to its first number, a slice as a pointer and a length.
 ghost use mathlib.Core.Path.{_≡_};
+ghost use lib.ListN.{length};
 ghost use Rattle.rounding.specs.Rounding.{nearest, limit};
 ghost use Rattle.refusals.specs.Numbers.{numberOf};
 ghost use Rattle.bands.specs.Bands.{bandVerdict, bandOf};
@@ -11,6 +12,8 @@ ghost use Rattle.levels.specs.Levels.{ramp};
 ghost use Rattle.unit.specs.Fit.{unitFits};
 ghost use Rattle.loading.specs.Loading.{loaded};
 ghost use Rattle.numbers.specs.Layout.{unitOf, numbersOf};
+ghost use Rattle.wave_reading.specs.Reading.{found};
+ghost use Rattle.wave_writing.specs.Writing.{writeVerdict, written};
 ghost use Rattle.lending.specs.Layout.{loneSection, loneNumbers, packed, PreviewGives, BlockGives, OrderGives, SheetWriteGives, SheetReadGives};
 use bands::Band;
 use levels::Level;
@@ -181,4 +184,42 @@ pub extern "C" fn fonddrys_sheet_read(numbers: &mut [i32; numbers::UNIT_SIZE], b
     ensures { λ r. ⌜ SheetReadGives (now (numbers .entry)) (now (bytes .entry)) r (now (numbers .exit)) ⌝ }
 {
     lending::sheet_read(numbers, bytes)
+}
+
+// Where the data of a wave file lies, in three answers. The number of the refusal, 0 for an accepted file.
+#[no_mangle]
+pub extern "C" fn fonddrys_wave_refusal(file: &[u8]) -> u32
+    ensures { λ r. ⌜ r ≡ numberOf (found (now (file .entry)) .verdict) ⌝ }
+{
+    let place = wave_reading::find(file);
+    let verdict = place.verdict;
+    refusals::number(verdict)
+}
+
+// The place in a wave file at which the data begins, 0 after a refusal.
+#[no_mangle]
+pub extern "C" fn fonddrys_wave_from(file: &[u8]) -> usize
+    ensures { λ r. ⌜ r ≡ found (now (file .entry)) .from ⌝ }
+{
+    let place = wave_reading::find(file);
+    place.from
+}
+
+// How many bytes the data of a wave file has, 0 after a refusal.
+#[no_mangle]
+pub extern "C" fn fonddrys_wave_size(file: &[u8]) -> usize
+    ensures { λ r. ⌜ r ≡ found (now (file .entry)) .size ⌝ }
+{
+    let place = wave_reading::find(file);
+    place.size
+}
+
+// Writes the wave file of the frames to the front of the buffer; bytes behind it keep their contents. 0 for an accepted call, else the number
+// of its refusal: the buffer is then as it was.
+#[no_mangle]
+pub extern "C" fn fonddrys_wave_write(frames: &[u8], buffer: &mut [u8]) -> u32
+    ensures { λ r. ⌜ (r ≡ numberOf (writeVerdict (length (now (frames .entry))) (length (now (buffer .entry))))) × (now (buffer .exit) ≡ written (now (frames .entry)) (now (buffer .entry))) ⌝ }
+{
+    let verdict = wave_writing::write(frames, buffer);
+    refusals::number(verdict)
 }

@@ -1,0 +1,2 @@
+-- RIFF/WAVE files: sizes, names, and numbers in bytes.
+pub mod Chunks

@@ -1,0 +1,2 @@
+-- The round trip of wave files, proved.
+pub mod Holds

@@ -1,0 +1,2 @@
+-- The round trip of wave files.
+pub mod Claim

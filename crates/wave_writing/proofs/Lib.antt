@@ -1,0 +1,2 @@
+-- Writing a wave file, proved.
+pub mod Buffer

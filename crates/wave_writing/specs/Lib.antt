@@ -1,0 +1,2 @@
+-- Writing a wave file.
+pub mod Writing
