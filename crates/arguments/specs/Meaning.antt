@@ -1,8 +1,8 @@
 -- What the arguments of a program stand for. Definitions only.
-use mathlib.Core.Bool.{Bool, true, false, cond}
+use mathlib.Core.Bool.{Bool, true, false, cond, _&&_}
 use mathlib.Core.List.{List, [], _∷_, _++_}
 use Prim.Native.Nat.{ℕ, suc, _-_}
-use lib.Dec.{leb, ltb}
+use lib.Dec.{eqb, leb, ltb}
 use lib.IntN.{ℤ, pos, negsuc, natAbs}
 use lib.ListN.{length, replicate}
 use Rattle.fields.specs.Fields.{fieldSize, blank, sameBytes, noNumber, fieldRead}
@@ -24,6 +24,14 @@ versionText = 45 ∷ 45 ∷ 118 ∷ 101 ∷ 114 ∷ 115 ∷ 105 ∷ 111 ∷ 110 
 unfoldable pub requestOf : ℕ → List ℕ → Request
 requestOf count first =
     cond (ltb count 2) Plain (cond (ltb 2 count) Other (cond (sameBytes first helpText) Help (cond (sameBytes first versionText) Version Other)))
+
+-- "--wave"
+abbrev pub waveText : List ℕ
+waveText = 45 ∷ 45 ∷ 119 ∷ 97 ∷ 118 ∷ 101 ∷ []
+
+-- wave files are asked for, where that word is the only one
+abbrev pub asksWave : ℕ → List ℕ → Bool
+asksWave count first = eqb count 2 && sameBytes first waveText
 
 -- what the program does is asked for
 abbrev pub isPlain : Request → Bool

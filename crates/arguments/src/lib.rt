@@ -4,7 +4,7 @@ ghost use mathlib.Core.List.{_++_};
 ghost use Prim.Native.Nat.{_-_, _≤_};
 ghost use lib.ListN.{length, take};
 ghost use Rattle.fields.specs.Fields.{sameBytes};
-ghost use Rattle.arguments.specs.Meaning.{requestOf, isPlain, asksText, unsignedOf, argumentNumber, meaningOf};
+ghost use Rattle.arguments.specs.Meaning.{requestOf, asksWave, isPlain, asksText, unsignedOf, argumentNumber, meaningOf};
 
 // The room that an argument needs: a number has as many columns as a field, and so has the longest word.
 pub const TEXT_SIZE: usize = fields::FIELD_SIZE;
@@ -39,6 +39,13 @@ pub fn requested(count: usize, first: &[u8]) -> Request
         return Request::Version;
     }
     Request::Other
+}
+
+// Whether so many arguments, the name of the program among them, ask for wave files: the first behind the name is "--wave", and the only one.
+pub fn asks_wave(count: usize, first: &[u8]) -> bool
+    ensures { λ r. ⌜ r ≡ asksWave count (now (first .entry)) ⌝ }
+{
+    (count == 2) & is_text(first, b"--wave")
 }
 
 // Whether a program is asked for what it does.

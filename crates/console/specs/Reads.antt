@@ -7,11 +7,12 @@ use Prim.Native.Nat.{ℕ, _≤_, _<_}
 use lib.ListN.{length, take}
 use Rattle.console.specs.declared.Received.{Received}
 
--- a read puts bytes behind those that are held at the front of the buffer, and leaves those as they are
-pub record ReceiveGives (held : ℕ) (buffer : List ℕ) (r : Received) (buffer' : List ℕ) : Type 0 where
+-- a read puts bytes, so many at most, behind those that are held at the front of the buffer, and leaves those as they are
+pub record ReceiveGives (held most : ℕ) (buffer : List ℕ) (r : Received) (buffer' : List ℕ) : Type 0 where
   pub bytes : List ℕ
   pub front-is : take (r .count) buffer' ≡ take held buffer ++ bytes
+  pub few : length bytes ≤ most
   pub count-fits : r .count ≤ length buffer'
   pub length-is : length buffer' ≡ length buffer
-  -- where more may come, a byte has come, if there was room for one
-  pub comes : r .«is_open» ≡ true → held < length buffer → held < r .count
+  -- where more may come, a byte has come, if one was asked for and there was room for it
+  pub comes : r .«is_open» ≡ true → 0 < most → held < length buffer → held < r .count

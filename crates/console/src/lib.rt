@@ -1,5 +1,6 @@
 // What the programs share: what they tell of themselves, a refusal's line, and reading and writing that says what failed.
-ghost use Prim.Native.Nat.{_≤_};
+ghost use mathlib.Core.Path.{_≡_};
+ghost use Prim.Native.Nat.{_≤_, min};
 ghost use lib.ListN.{length};
 ghost use Rattle.io.specs.Counts.{Counts};
 ghost use Rattle.console.specs.Answers.{SayAsks};
@@ -64,12 +65,14 @@ fn say(verdict: Verdict, line: &[u8])
     io::write_all(libc::STDERR_FILENO, line);
 }
 
-// Reads once, behind the bytes that are held at the front of the buffer. Where that fails a message says so, by the name of what is read.
-pub fn receive(fd: i32, name: &[u8], buffer: &mut [u8], held: usize) -> Received
+// Reads once, so many bytes at most, behind the bytes that are held at the front of the buffer. Where that fails a message says so, by the name
+// of what is read.
+pub fn receive(fd: i32, name: &[u8], buffer: &mut [u8], held: usize, most: usize) -> Received
     requires { ⌜ held ≤ length (now buffer) ⌝ }
-    ensures { λ r. ⌜ ReceiveGives held (now (buffer .entry)) r (now (buffer .exit)) ⌝ }
+    ensures { λ r. ⌜ ReceiveGives held most (now (buffer .entry)) r (now (buffer .exit)) ⌝ }
 {
-    let room = &mut buffer[held..];
+    let end = held + least(most, buffer.len() - held);
+    let room = &mut buffer[held..end];
     let got = libc::read(fd, room);
     if got < 0 {
         os::fail(name);
@@ -80,6 +83,16 @@ pub fn receive(fd: i32, name: &[u8], buffer: &mut [u8], held: usize) -> Received
         is_open: got > 0,
         is_failed: got < 0,
     }
+}
+
+// The smaller of two numbers.
+fn least(a: usize, b: usize) -> usize
+    ensures { λ r. ⌜ r ≡ min a b ⌝ }
+{
+    if a < b {
+        return a;
+    }
+    b
 }
 
 // Reads until the buffer is full, the input ends or a read fails. Each read brings a byte at least, so that there are enough of them.
@@ -93,10 +106,26 @@ pub fn receive_all(fd: i32, name: &[u8], buffer: &mut [u8]) -> Received
     };
     let mut reads = buffer.len();
     while reads > 0 && received.is_open {
-        received = receive(fd, name, buffer, received.count);
+        received = receive(fd, name, buffer, received.count, usize::MAX);
         reads -= 1;
     }
     received
+}
+
+// Reads so many bytes and drops them, until the input ends or a read fails, and gives how many are missing then.
+pub fn skip(fd: i32, name: &[u8], most: usize) -> usize
+    ensures { λ r. ⌜ r ≤ most ⌝ }
+{
+    let mut buffer = io::large_buffer();
+    let mut left = most;
+    while left > 0 {
+        let received = receive(fd, name, &mut buffer, 0, left);
+        left -= received.count;
+        if !received.is_open {
+            break;
+        }
+    }
+    left
 }
 
 // Writes all bytes to standard output. Where that fails a message says so.

@@ -14,6 +14,9 @@ use Rattle.orders.specs.declared.Ordered.{Ordered}
 use Rattle.writing.specs.Written.{sheetOf, filled}
 use Rattle.reading.specs.declared.SheetRead.{SheetRead}
 use Rattle.reading.specs.Reading.{sheetVerdict, unitIn, sheetRead}
+use Rattle.wave_reading.specs.declared.Located.{Located}
+use Rattle.wave_reading.specs.Reading.{dataVerdict}
+use Rattle.wave_writing.specs.Writing.{sizeVerdict}
 use Rattle.order_lists.specs.declared.DeskOrder.{DeskOrder}
 use Rattle.order_lists.specs.Lists.{areOrders, orderedAll}
 use Rattle.decisions.specs.declared.PassEnd.{PassEnd}
@@ -28,6 +31,21 @@ opened bytes = sheetRead bytes (loaded houseSet .unit)
 -- lost on its way out there is neither
 unfoldable pub endingOf : Bool → ℕ → PassEnd
 endingOf lost held = record { «is_saved» = not lost; verdict = cond lost Accepted (unless (eqb held 0) InputLength Accepted) }
+
+-- ---- play, for wave files
+
+-- where the walk over the chunks leads, then the data, of which so many bytes are missing, and then what a wave file can hold
+abbrev pub waveVerdict : Located → ℕ → Verdict
+waveVerdict place missing = firstOf (place .verdict) (firstOf (dataVerdict missing (place .size)) (sizeVerdict (place .size)))
+
+-- the data is played where the first and the last of these are accepted; how much is missing shows behind it
+abbrev pub canPlay : Located → Bool
+canPlay place = isAccepted (place .verdict) && isAccepted (sizeVerdict (place .size))
+
+-- the end of a wave file: a sheet is written where nothing is refused; where sound was lost on its way out there is neither
+unfoldable pub waveEndingOf : Bool → Located → ℕ → PassEnd
+waveEndingOf lost place missing =
+    record { «is_saved» = not lost && isAccepted (waveVerdict place missing); verdict = cond lost Accepted (waveVerdict place missing) }
 
 -- ---- desk
 

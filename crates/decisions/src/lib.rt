@@ -1,10 +1,11 @@
-// What the programs decide, on values: play for the bytes of a sheet and at the end of a sound, desk for the numbers of its arguments and a
+// What the programs decide, on values: play for the bytes of a sheet, the data of a wave file and at the end of a sound, desk for the numbers of its arguments and a
 // sheet. The programs read, ask here, and write what is answered.
 ghost use mathlib.Core.Path.{_≡_};
 ghost use Rattle.order_lists.specs.Lists.{ordersIn};
-ghost use Rattle.decisions.specs.Decisions.{opened, endingOf, isCall, deskVerdict, deskSheet};
+ghost use Rattle.decisions.specs.Decisions.{opened, endingOf, canPlay, waveVerdict, waveEndingOf, isCall, deskVerdict, deskSheet};
 use reading::SheetRead;
 use refusals::Verdict;
+use wave_reading::Located;
 
 // How a pass ends: whether the sheet is written, and what is answered behind it.
 pub struct PassEnd {
@@ -40,6 +41,47 @@ pub fn ending(is_lost: bool, held: usize) -> PassEnd
     PassEnd {
         is_saved: true,
         verdict: Verdict::Accepted,
+    }
+}
+
+// Whether the data that is located in a wave file can be played: the walk leads to it, and a wave file can be written of as many bytes.
+pub fn can_play(place: Located) -> bool
+    ensures { λ r. ⌜ r ≡ canPlay place ⌝ }
+{
+    let walked = place.verdict;
+    let written = wave_writing::check_size(place.size);
+    refusals::accepted(walked) & refusals::accepted(written)
+}
+
+// What is answered for the data that is located in a wave file, where so many bytes of it are missing: 16 or 17, 18, 5, or accepted.
+pub fn check_wave(place: Located, missing: usize) -> Verdict
+    ensures { λ r. ⌜ r ≡ waveVerdict place missing ⌝ }
+{
+    let walked = place.verdict;
+    if !refusals::accepted(walked) {
+        return walked;
+    }
+    let data = wave_reading::check_data(missing, place.size);
+    if !refusals::accepted(data) {
+        return data;
+    }
+    wave_writing::check_size(place.size)
+}
+
+// The end of a wave file: the sheet is written where all of the data came and none of its sound was lost.
+pub fn wave_ending(is_lost: bool, place: Located, missing: usize) -> PassEnd
+    ensures { λ r. ⌜ r ≡ waveEndingOf «is_lost» place missing ⌝ }
+{
+    if is_lost {
+        return PassEnd {
+            is_saved: false,
+            verdict: Verdict::Accepted,
+        };
+    }
+    let verdict = check_wave(place, missing);
+    PassEnd {
+        is_saved: refusals::accepted(verdict),
+        verdict,
     }
 }
 
