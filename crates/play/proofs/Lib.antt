@@ -1,5 +1,5 @@
--- The laws of the play program.
---     Turns    a turn is the next read of the stream, and turns are one block
---     Sheets   the sheet that it begins with, and the one that it leaves
-pub mod Turns
+-- What the play program rests on.
+--     Sheets     the sheet that it begins with
+--     WaveData   the data of a wave file
 pub mod Sheets
+pub mod WaveData

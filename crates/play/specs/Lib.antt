@@ -1,5 +1,5 @@
 -- The play program.
---     Turns   what it does with its input
---     Saved   what goes to strip.new
-pub mod Turns
-pub mod Saved
+--     Passes   a pass of frames
+--     Waves    a pass of a wave file
+pub mod Passes
+pub mod Waves

@@ -7,6 +7,7 @@ use native.Mathlib.Omega.{arith}
 use borrow.Author.Tests.{leb-true, le-leb, le-ltb, ltb-false}
 use lib.Dec.{T, eqb, leb, ltb}
 use lib.ListN.{length, take, drop, length-append, List·getD-append}
+use Rattle.integers.proofs.Order.{both-true}
 use Rattle.refusals.specs.Numbers.{isAccepted}
 use Rattle.refusals.specs.declared.Verdict.the-variants.{Accepted, NoWave, WaveFormat, NoData}
 use Rattle.refusals.proofs.Laws.{first-accepted}
@@ -18,11 +19,6 @@ use Rattle.wave_reading.specs.Reading.{missingOf, dataVerdict, verdictAt
 -- a walk that was accepted
 abbrev Leads : Located → Type 0
 Leads p = isAccepted (p .verdict) ≡ true
-
--- both of two tests hold
-both : (a b : Bool) → a && b ≡ true → (a ≡ true) × (b ≡ true)
-both true b e = (refl, e)
-both false b e = absurd (subst T (sym e) tt)
 
 module _ (front rest : List ℕ) where
   abbrev file : List ℕ
@@ -48,8 +44,8 @@ module _ (front rest : List ℕ) where
   heading-front : hasHeading front ≡ true → hasHeading file ≡ true
   unfolding hasHeading
   heading-front e =
-      let w = both _ (eqb (fourAt front 8) wave) e in
-      let r = both (leb fileHeading (length front)) _ (w .0) in
+      let w = both-true _ (eqb (fourAt front 8) wave) e in
+      let r = both-true (leb fileHeading (length front)) _ (w .0) in
       let l = leb-true fileHeading (length front) (r .0) in
       simp (le-leb fileHeading (length file) (omega (arith, l, longer)), four-front 0 (omega (arith, l)), four-front 8 (omega (arith, l)), r .1, w .1)
 
@@ -76,8 +72,8 @@ module _ (front rest : List ℕ) where
     fits-front : formatFits front at ≡ true → formatFits file at ≡ true
     unfolding formatFits
     fits-front e =
-        let w = both _ (saysFormat front (bodyAt at)) e in
-        let r = both (leb formatSize (sizeAt front at)) _ (w .0) in
+        let w = both-true _ (saysFormat front (bodyAt at)) e in
+        let r = both-true (leb formatSize (sizeAt front at)) _ (w .0) in
         let long = leb-true formatSize (sizeAt front at) (r .0) in
         let within = leb-true (endAt front at) (length front) (r .1) in
         simp (size-front, r .0, le-leb (endAt front at) (length file) (omega (arith, within, longer)), says-front (bodyAt at) (omega (arith, long, within)), w .1)

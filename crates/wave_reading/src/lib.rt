@@ -44,7 +44,7 @@ pub fn find(file: &[u8]) -> Located
 }
 
 // Data that begins within so many bytes: how many of its own are missing behind them.
-fn bytes_missing(count: usize, from: usize, size: usize) -> usize
+pub fn bytes_missing(count: usize, from: usize, size: usize) -> usize
     requires { ⌜ from ≤ count ⌝ }
     ensures { λ r. ⌜ r ≡ from + size - count ⌝ }
 {

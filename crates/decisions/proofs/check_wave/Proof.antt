@@ -6,6 +6,7 @@ use borrow.Author.Needs.{needs}
 use Rattle.refusals.specs.Numbers.{isAccepted, firstOf}
 use Rattle.refusals.specs.declared.Verdict.{Verdict}
 use Rattle.refusals.proofs.Laws.{first-accepted, first-refused}
+use Rattle.wave_reading.specs.Reading.{dataVerdict}
 use Rattle.decisions.proofs.check_wave.Statement.{statement}
 use Rattle.decisions.proofs.check_wave.Tie as tie
 
@@ -34,7 +35,7 @@ returns c =
     let d = k .before .before in
     let a = d .before .before in
     c .check-size .ensures
-    ∙ third (a .before .args .place .verdict) _ _ (sym (a .accepted .ensures) ∙ not-false (a .accepted .result) (d .before .if1 .left))
+    ∙ third (a .before .args .place .verdict) (dataVerdict (a .before .args .missing) (a .before .args .place .size)) _ (sym (a .accepted .ensures) ∙ not-false (a .accepted .result) (d .before .if1 .left))
     (sym (ap isAccepted (d .check-data .ensures)) ∙ sym (k .before .accepted2 .ensures) ∙ not-false (k .before .accepted2 .result) (k .if2 .left))
 
 pub check-wave-spec : {M : Type 1} → statement M

@@ -8,7 +8,7 @@ use Rattle.play.proofs.finish.Tie as tie
 save-requires : tie.Need-save-requires
 save-requires c κs =
     record {
-      fit = c .before .before .pre .fit;
+      fit = c .before .before .pre .gives .fit;
       is-saved = sym (ap (λ (e : PassEnd). e .«is_saved») (c .before .ending .ensures)) ∙ c .if1 .taken;
     }
 

@@ -7,12 +7,13 @@ use lib.ListN.{length, take}
 use lib.Seq.{length-take-le}
 use denote.Ref.{now}
 use borrow.Author.Needs.{needs}
-use Rattle.play.proofs.Turns.{sounded, tail-fits, turn-gives}
-use Rattle.play.proofs.playing.turn.Statement.{statement}
-use Rattle.play.proofs.playing.turn.Tie as tie
-use Rattle.play.proofs.playing.turn.Reads as reads
-use Rattle.play.proofs.playing.turn.Lts as lts
-use Rattle.play.proofs.playing.send.Reads as send-reads
+use Rattle.integers.proofs.Order.{both-true}
+use Rattle.playing.proofs.Turns.{counted, sounded, tail-fits, turn-gives}
+use Rattle.playing.proofs.turn.Statement.{statement}
+use Rattle.playing.proofs.turn.Tie as tie
+use Rattle.playing.proofs.turn.Reads as reads
+use Rattle.playing.proofs.turn.Lts as lts
+use Rattle.playing.proofs.send.Reads as send-reads
 use Rattle.console.proofs.receive.Reads as receive-reads
 use Rattle.stream.proofs.advance.Reads as advance-reads
 use Rattle.stream.proofs.keep_tail.Reads as keep-tail-reads
@@ -65,13 +66,18 @@ slice-aggregate-keep-tail c = piece-size (got (c .before .before .before .before
 keep-tail-requires : tie.Need-keep-tail-requires
 keep-tail-requires c κs = piece-fits (c .before .before .before .before .before .before)
 
+-- no more bytes are counted than were held and may be read
+all-counted : (a : lts.After-advance (receive-reads.Asked, receive-reads.Learnt, advance-reads.Asked, advance-reads.Learnt, send-reads.Asked, send-reads.Learnt, keep-tail-reads.Asked, keep-tail-reads.Learnt) reads.Pre reads.Post) → got a .receive .result .count ≡ from a .args .stream .held + length (got a .receive .ensures .bytes)
+all-counted a = counted (from a .args .stream) (now (from a .args .input)) (input a) (now (from a .args .output)) (got a .receive .result) (from a .pre) (got a .receive .ensures)
+
 returns : tie.Need-returns
 returns c =
     let a = c .before .before .before .before .before .before .before .before .before .before in
     let s = from a in
     let g = got a in
     turn-gives (s .args .stream) (now (s .args .input)) (input a) (now (s .args .output)) (g .receive .result) (s .pre) (g .receive .ensures)
-    (a .advance .result) (a .advance .ensures .0) (c .before .before .before .keep-tail .last .0) _ _ (c .before .before .before .keep-tail .ensures) refl refl
+    (a .advance .result) (a .advance .ensures .0) (c .before .before .before .keep-tail .last .0) _ _ (c .before .before .before .keep-tail .ensures) refl refl refl
+    (λ is-open. both-true (g .receive .result .«is_open») _ is-open .0)
 
 pub turn-spec : {M : Type 1} → statement M
 turn-spec =
@@ -88,6 +94,10 @@ turn-spec =
     (λ c. search needs)
     slice-aggregate-keep-tail
     keep-tail-requires
+    (λ c. omega (arith, all-counted (c .before .before .before .before .before .before .before .before .before)))
+    (λ c.
+    let a = c .before .before .before .before .before .before .before .before .before in
+    omega (arith, all-counted a, got a .receive .ensures .few))
     (λ c. search needs)
     (λ c. search needs)
     returns)

@@ -1,27 +1,29 @@
 -- A turn is the next read of the stream, and turns are one block of all that was read.
 use mathlib.Core.Path.{_≡_, sym, ap, ap₂, _∙_, subst}
-use mathlib.Core.List.{List, [], _++_}
-use Prim.Native.Nat.{ℕ, _+_, _≤_, _<_}
+use mathlib.Core.Bool.{true}
+use mathlib.Core.List.{List, _++_, append-assoc}
+use Prim.Native.Nat.{ℕ, _+_, _-_, _≤_, _<_}
 use native.Mathlib.Nat.{mod-lt}
 use native.Mathlib.Omega.{arith}
 use lib.Dec.{lit≤}
-use lib.ListN.{length, take, drop, length-take, length-drop}
+use lib.ListN.{length, take, drop, length-take, length-drop, length-append}
 use lib.Seq.{length-take-le, take-append-le, take-at}
 use Rattle.unit.specs.declared.Unit.{Unit}
 use Rattle.unit.specs.Fit.{Fit}
 use Rattle.stream.specs.declared.Advanced.{Advanced}
 use Rattle.stream.specs.Advance.{advanced, advancedOutput, tailFirst}
-use Rattle.stream.specs.Claim.{Stream, oneBlock, begun, next, Advances, Ready}
+use Rattle.stream.specs.Claim.{Stream, oneBlock, next, Advances, Ready}
 use Rattle.stream.proofs.Cuts.{tail-length}
-use Rattle.stream.proofs.Holds.{block-next, begun-empty, cut-anywhere}
+use Rattle.stream.proofs.Holds.{block-next, cut-anywhere}
 use Rattle.console.specs.declared.Received.{Received}
-use Rattle.play.specs.declared.playing.Progress.{Progress}
-use Rattle.play.specs.Turns.{inHand, TurnAsks, IsSound, TurnGives, PlayGives}
+use Rattle.playing.specs.declared.Progress.{Progress}
+use Rattle.playing.specs.Turns.{inHand, TurnAsks, IsSound, TurnGives, PlayGives}
 use Rattle.console.specs.Reads.{ReceiveGives}
+use Rattle.console.proofs.Pieces.{count-is}
 
 -- ---- one turn
 
-module _ (p : Progress) (input input' output : List ℕ) (r : Received) (can : TurnAsks p input output) (read : ReceiveGives (p .held) input r input') where
+module _ (p : Progress) (input input' output : List ℕ) (r : Received) (can : TurnAsks p input output) (read : ReceiveGives (p .held) (p .left) input r input') where
   abbrev s : Stream
   s = inHand p input
 
@@ -41,6 +43,10 @@ module _ (p : Progress) (input input' output : List ℕ) (r : Received) (can : T
 
   piece-is : take (r .count) input' ≡ piece
   piece-is = read .front-is
+
+  -- the held bytes and those that were read are counted
+  pub counted : r .count ≡ p .held + length (read .bytes)
+  counted = count-is (p .held) (p .left) input input' r (omega (arith, can .input-room)) read
 
   -- less than a frame is held
   tail-few : length (next s (read .bytes) .held) < 4
@@ -77,15 +83,17 @@ module _ (p : Progress) (input input' output : List ℕ) (r : Received) (can : T
         few : a .played ≤ length (take (r .count) input')
         few = omega (arith, ap (λ (v : Advanced). v .played) answer-is, ap length piece-is, advances .played-few)
 
-    pub turn-gives : (kept rest : List ℕ) (after : Progress) → kept ≡ tailFirst (a .played) (take (r .count) input') → after .unit ≡ a .unit → after .held ≡ a .held → TurnGives p input after (kept ++ rest)
+    pub turn-gives : (kept rest : List ℕ) (after : Progress) → kept ≡ tailFirst (a .played) (take (r .count) input') → after .unit ≡ a .unit → after .held ≡ a .held → after .left ≡ p .left - (r .count - p .held) → (after .«is_open» ≡ true → r .«is_open» ≡ true) → TurnGives p input after (kept ++ rest)
     unfolding tailFirst
-    turn-gives kept rest after keeps unit-after held-after =
+    turn-gives kept rest after keeps unit-after held-after left-after open-after =
         record {
           bytes = read .bytes;
           unit-is = unit-is';
           held-is = take-append-le (after .held) kept rest enough ∙ front;
           held-count = held-after ∙ held-is;
           held-few = subst (λ (n : ℕ). n < 4) (sym (held-after ∙ held-is)) tail-few;
+          left-is = omega (arith, left-after, counted, read .few);
+          comes = λ is-open some. omega (arith, counted, read .comes (open-after is-open) some (can .input-room));
           ready = record { fit = subst Fit (sym unit-is') (after-ready .fit); channels-are = ap (λ (u : Unit). length (u .channels)) unit-is' ∙ after-ready .channels-are };
         }
       where
@@ -106,46 +114,58 @@ module _ (p : Progress) (input input' output : List ℕ) (r : Received) (can : T
 
 -- ---- turns
 
--- after any turns: all that was read so far is one block
-pub record Going (u : Unit) (p : Progress) (input : List ℕ) : Type 0 where
+-- after any turns: the first bytes and all that was read so far are one block
+pub record Going (u : Unit) (first : List ℕ) (most : ℕ) (p : Progress) (input : List ℕ) : Type 0 where
   pub bytes : List ℕ
-  pub unit-is : p .unit ≡ oneBlock u bytes .unit
-  pub held-is : take (p .held) input ≡ oneBlock u bytes .held
-  pub held-count : p .held ≡ length (oneBlock u bytes .held)
+  pub unit-is : p .unit ≡ oneBlock u (first ++ bytes) .unit
+  pub held-is : take (p .held) input ≡ oneBlock u (first ++ bytes) .held
+  pub held-count : p .held ≡ length (oneBlock u (first ++ bytes) .held)
   pub held-few : p .held < 4
+  pub left-is : length bytes + p .left ≡ most
   pub ready : Ready (inHand p input)
 
-pub begin : (u : Unit) (p : Progress) (input : List ℕ) → Ready (begun u) → p .unit ≡ u → p .held ≡ 0 → Going u p input
-begin u p input ready unit-is none =
-    record {
-      bytes = [];
-      unit-is = unit-is ∙ ap (λ (s : Stream). s .unit) empty;
-      held-is = ap (λ (n : ℕ). take n input) none ∙ ap (λ (s : Stream). s .held) empty;
-      held-count = none ∙ ap (λ (s : Stream). length (s .held)) empty;
-      held-few = omega (arith, none);
-      ready = record { fit = subst Fit (sym unit-is) (ready .fit); channels-are = ap (λ (v : Unit). length (v .channels)) unit-is ∙ ready .channels-are };
-    }
-  where
-    empty : begun u ≡ oneBlock u []
-    empty = begun-empty u (ready .fit)
-
-pub go-on : (u : Unit) (p p' : Progress) (input input' : List ℕ) → Fit u → Going u p input → TurnGives p input p' input' → Going u p' input'
+-- the first turn has the first bytes in hand
+pub begin : (u : Unit) (first : List ℕ) (p p' : Progress) (input input' : List ℕ) → p .unit ≡ u → take (p .held) input ≡ first → TurnGives p input p' input' → Going u first (p .left) p' input'
 unfolding next
-go-on u p p' input input' fit going turn =
+begin u first p p' input input' unit-is first-is turn =
     record {
-      bytes = going .bytes ++ turn .bytes;
-      unit-is = turn .unit-is ∙ ap (λ (s : Stream). s .unit) both;
-      held-is = turn .held-is ∙ ap (λ (s : Stream). s .held) both;
-      held-count = turn .held-count ∙ ap (λ (s : Stream). length (s .held)) both;
+      bytes = turn .bytes;
+      unit-is = turn .unit-is ∙ ap (λ (s : Stream). s .unit) all;
+      held-is = turn .held-is ∙ ap (λ (s : Stream). s .held) all;
+      held-count = turn .held-count ∙ ap (λ (s : Stream). length (s .held)) all;
       held-few = turn .held-few;
+      left-is = turn .left-is;
       ready = turn .ready;
     }
   where
+    all : oneBlock (p .unit) (take (p .held) input ++ turn .bytes) ≡ oneBlock u (first ++ turn .bytes)
+    all = λ i. oneBlock (unit-is i) (first-is i ++ turn .bytes)
+
+pub go-on : (u : Unit) (first : List ℕ) (most : ℕ) (p p' : Progress) (input input' : List ℕ) → Fit u → Going u first most p input → TurnGives p input p' input' → Going u first most p' input'
+unfolding next
+go-on u first most p p' input input' fit going turn =
+    record {
+      bytes = going .bytes ++ turn .bytes;
+      unit-is = turn .unit-is ∙ ap (λ (s : Stream). s .unit) both ∙ ap (λ (l : List ℕ). oneBlock u l .unit) one;
+      held-is = turn .held-is ∙ ap (λ (s : Stream). s .held) both ∙ ap (λ (l : List ℕ). oneBlock u l .held) one;
+      held-count = turn .held-count ∙ ap (λ (s : Stream). length (s .held)) both ∙ ap (λ (l : List ℕ). length (oneBlock u l .held)) one;
+      held-few = turn .held-few;
+      left-is = omega (arith, turn .left-is, going .left-is, length-append (going .bytes) (turn .bytes));
+      ready = turn .ready;
+    }
+  where
+    all : List ℕ
+    all = first ++ going .bytes
+
+    one : all ++ turn .bytes ≡ first ++ (going .bytes ++ turn .bytes)
+    one = append-assoc first (going .bytes) (turn .bytes)
+
     -- the sound is left out of account
-    both : oneBlock (p .unit) (take (p .held) input ++ turn .bytes) ≡ record { unit = oneBlock u (going .bytes ++ turn .bytes) .unit; held = oneBlock u (going .bytes ++ turn .bytes) .held; sound = oneBlock (oneBlock u (going .bytes) .unit) (oneBlock u (going .bytes) .held ++ turn .bytes) .sound }
+    both : oneBlock (p .unit) (take (p .held) input ++ turn .bytes) ≡ record { unit = oneBlock u (all ++ turn .bytes) .unit; held = oneBlock u (all ++ turn .bytes) .held; sound = oneBlock (oneBlock u all .unit) (oneBlock u all .held ++ turn .bytes) .sound }
     both =
         (λ i. oneBlock (going .unit-is i) (going .held-is i ++ turn .bytes))
-        ∙ (λ i. record { unit = block-next u (going .bytes) (turn .bytes) fit i .unit; held = block-next u (going .bytes) (turn .bytes) fit i .held; sound = oneBlock (oneBlock u (going .bytes) .unit) (oneBlock u (going .bytes) .held ++ turn .bytes) .sound })
+        ∙ (λ i. record { unit = block-next u all (turn .bytes) fit i .unit; held = block-next u all (turn .bytes) fit i .held; sound = oneBlock (oneBlock u all .unit) (oneBlock u all .held ++ turn .bytes) .sound })
 
-pub done : (u : Unit) (p : Progress) (input : List ℕ) → Going u p input → PlayGives u p
-done u p input going = record { bytes = going .bytes; unit-is = going .unit-is; held-count = going .held-count; fit = going .ready .fit }
+pub done : (u : Unit) (first : List ℕ) (most : ℕ) (p : Progress) (input : List ℕ) → Going u first most p input → PlayGives u first most p
+done u first most p input going =
+    record { bytes = going .bytes; unit-is = going .unit-is; held-count = going .held-count; fit = going .ready .fit; left-is = going .left-is }

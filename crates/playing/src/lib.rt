@@ -1,37 +1,36 @@
-// Standard input to standard output, until the input ends.
+// Playing standard input to standard output.
 ghost use Rattle.stream.specs.Claim.{begun, Ready};
-ghost use Rattle.play.specs.Turns.{TurnAsks, IsSound, TurnGives, PlayGives};
+ghost use Rattle.playing.specs.Turns.{TurnAsks, IsSound, TurnGives, PlayAsks, PlayGives};
 use unit::Unit;
 
-// A stream between two reads: the unit, the count of bytes of a frame that is not whole yet, whether more may come, and whether sound was
-// lost on its way out.
+// A stream between two reads: the unit, the count of bytes that are not played yet, how many may still be read, whether more may come, and whether
+// sound was lost on its way out.
 pub struct Progress {
     pub unit: Unit,
     pub held: usize,
+    pub left: usize,
     pub is_open: bool,
     pub is_lost: bool,
 }
 
-// Plays until the input ends or fails, or the output fails.
-pub fn play(unit: Unit) -> Progress
-    requires { ⌜ Ready (begun unit) ⌝ }
-    ensures { λ r. ⌜ PlayGives unit r ⌝ }
+// Plays the first bytes, and behind them what comes from standard input, so many bytes at most, until it ends or fails, or the output fails.
+pub fn play(unit: Unit, first: &[u8], most: usize) -> Progress
+    requires { ⌜ PlayAsks unit (now first) ⌝ }
+    ensures { λ r. ⌜ PlayGives unit (now (first .entry)) most r ⌝ }
 {
     let mut input = io::large_buffer();
     let mut output = io::large_buffer();
-    let mut stream = Progress {
+    let held = bytes::copy(first, &mut input);
+    let begun = Progress {
         unit,
-        held: 0,
+        held,
+        left: most,
         is_open: true,
         is_lost: false,
     };
-    let mut turns = u64::MAX;
-    while turns > 0 {
+    let mut stream = turn(begun, &mut input, &mut output);
+    while stream.is_open && stream.left > 0 {
         stream = turn(stream, &mut input, &mut output);
-        if !stream.is_open {
-            break;
-        }
-        turns -= 1;
     }
     stream
 }
@@ -41,7 +40,9 @@ fn turn(stream: Progress, input: &mut [u8], output: &mut [u8]) -> Progress
     requires { ⌜ TurnAsks stream (now input) (now output) ⌝ }
     ensures { λ r. ⌜ TurnGives stream (now (input .entry)) r (now (input .exit)) ⌝ }
 {
-    let received = console::receive(libc::STDIN_FILENO, b"standard input", input, stream.held);
+    let held = stream.held;
+    let left = stream.left;
+    let received = console::receive(libc::STDIN_FILENO, b"standard input", input, held, left);
     let count = received.count;
     let unit = stream.unit;
     let piece = &input[..count];
@@ -53,7 +54,8 @@ fn turn(stream: Progress, input: &mut [u8], output: &mut [u8]) -> Progress
     Progress {
         unit: after,
         held: advanced.held,
-        is_open: received.is_open && is_written,
+        left: left - (count - held),
+        is_open: received.is_open & is_written,
         is_lost: !is_written,
     }
 }

@@ -2,8 +2,8 @@
 ghost use mathlib.Core.Path.{_≡_};
 ghost use lib.IntN.{pos};
 ghost use lib.Signed.{ltZ};
-ghost use Rattle.play.specs.Saved.{SaveAsks, IsSheet};
-use crate::playing::Progress;
+ghost use Rattle.unit.specs.Fit.{Fit};
+ghost use Rattle.saving.specs.Saved.{IsSheet};
 use unit::Unit;
 
 // The file beside strip.new.
@@ -60,12 +60,10 @@ fn is_own(fd: i32) -> bool
     fd > libc::STDERR_FILENO
 }
 
-// Saves the sheet of a stream's unit as strip.new. Where that fails a message says so, and the sheet goes to standard error, so that it is not
-// lost.
-pub fn save(stream: Progress)
-    requires { ⌜ SaveAsks stream ⌝ }
+// Saves the unit's sheet as strip.new. Where that fails a message says so, and the sheet goes to standard error, so that it is not lost.
+pub fn save(unit: Unit)
+    requires { ⌜ Fit unit ⌝ }
 {
-    let unit = stream.unit;
     let mut bytes = [0u8; sheet::SHEET_SIZE];
     let sheet = writing::write(unit, &mut bytes);
     if !store(unit, sheet) {

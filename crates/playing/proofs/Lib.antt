@@ -1,0 +1,2 @@
+-- Playing, proved.
+pub mod Turns

@@ -1,0 +1,2 @@
+-- Playing standard input to standard output.
+pub mod Turns

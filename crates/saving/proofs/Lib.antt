@@ -1,0 +1,2 @@
+-- Writing strip.new, proved.
+pub mod Sheets

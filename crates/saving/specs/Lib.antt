@@ -1,0 +1,2 @@
+-- Writing strip.new.
+pub mod Saved
