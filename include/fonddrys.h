@@ -27,16 +27,17 @@ extern "C" {
 #endif
 
 enum {
-    FONDDRYS_BANDS = 10,          /* of a unit; each side has a section for each */
-    FONDDRYS_SET_NUMBERS = 30,    /* of a band set: A, B, G of each band in turn */
-    FONDDRYS_UNIT_NUMBERS = 118,  /* of a unit */
-    FONDDRYS_SHEET_BYTES = 1128,  /* of a strip sheet */
-    FONDDRYS_FRAME_BYTES = 4,     /* left, then right, signed 16 bits each, low byte first */
+    FONDDRYS_BANDS = 10,              /* of a unit; each side has a section for each */
+    FONDDRYS_SET_NUMBERS = 30,        /* of a band set: A, B, G of each band in turn */
+    FONDDRYS_UNIT_NUMBERS = 118,      /* of a unit */
+    FONDDRYS_SHEET_BYTES = 1128,      /* of a strip sheet */
+    FONDDRYS_FRAME_BYTES = 4,         /* left, then right, signed 16 bits each, low byte first */
+    FONDDRYS_WAVE_HEADING_BYTES = 44, /* of a wave file as it is written */
     FONDDRYS_WORD_MIN = -8388608,
     FONDDRYS_WORD_MAX = 8388607,
     FONDDRYS_POSITION_MAX = 31,
-    FONDDRYS_GAIN_SLOPE = 839,    /* how far a gain moves in a frame */
-    FONDDRYS_VOLUME_SLOPE = 419   /* how far the volume does */
+    FONDDRYS_GAIN_SLOPE = 839,        /* how far a gain moves in a frame */
+    FONDDRYS_VOLUME_SLOPE = 419       /* how far the volume does */
 };
 
 /* The side and the band that a level order names. */
@@ -54,8 +55,8 @@ enum {
     FONDDRYS_POSITION_OVER = 2, /* position over 31 */
     FONDDRYS_NOT_FINITE = 3,    /* factor not finite */
     FONDDRYS_FACTOR_RANGE = 4,  /* factor outside its range */
-    FONDDRYS_INPUT_LENGTH = 5,  /* input bytes no multiple of four */
-    FONDDRYS_OUTPUT_SHORT = 6,  /* output shorter than input */
+    FONDDRYS_INPUT_LENGTH = 5,  /* input bytes no multiple of four; too many for a wave file */
+    FONDDRYS_OUTPUT_SHORT = 6,  /* output shorter than input, or than the wave file */
     FONDDRYS_SET_LENGTH = 7,    /* a set that isn't thirty numbers */
     FONDDRYS_ALPHA = 8,         /* A isn't from 0 to 8,388,607 */
     FONDDRYS_BETA = 9,          /* B isn't from -4,194,303 to 4,194,303 */
@@ -64,7 +65,10 @@ enum {
     FONDDRYS_LINE_MARK = 12,    /* wrong letter or line end */
     FONDDRYS_FIELD_FORM = 13,   /* field badly written */
     FONDDRYS_UNFIT = 14,        /* number outside its range, in a sheet or in a unit */
-    FONDDRYS_NOT_WORD = 15      /* a number that is no word */
+    FONDDRYS_NOT_WORD = 15,     /* a number that is no word */
+    FONDDRYS_NO_WAVE = 16,      /* no RIFF or WAVE heading */
+    FONDDRYS_WAVE_FORMAT = 17,  /* fmt chunk that differs, isn't whole, or is missing */
+    FONDDRYS_NO_DATA = 18       /* no data chunk, or one that isn't whole */
 };
 
 /* ---- Units and band sets ------------------------------------------------------------------ */
@@ -152,6 +156,34 @@ size_t fonddrys_sheet_write(const fonddrys_unit *unit, uint8_t *buffer, size_t c
  * Answers 0, or 11; then, from the first byte on, 12, 13 or 14; a C line is tested for 8, 9, 10
  * after its three fields, in place of 14 and ahead of its line end. */
 uint32_t fonddrys_sheet_read(fonddrys_unit *unit, const uint8_t *bytes, size_t count);
+
+/* ---- Wave files --------------------------------------------------------------------------- */
+
+/* RIFF/WAVE files of PCM (format 1), two sides, 44,100 frames a second and 16 bits. Their data is
+ * frames as a block takes them. */
+
+/* The most bytes of data that a file is written with. */
+#define FONDDRYS_WAVE_DATA_MAX 4294967256u
+
+/* Reads a file of count bytes: 0 where its data can be played, else the refusal's number. The first
+ * fmt chunk and the first data chunk count. Other chunks are passed over, and the pad byte behind
+ * each odd size; the RIFF size isn't used. A fmt chunk fits with 16 bytes or more, 176,400 bytes a
+ * second and four bytes a frame. Answers 0, or 16; then 17 where fmt doesn't fit, runs past the
+ * file, or isn't there when data comes; 18 where the file ends without data, or data runs past it;
+ * 5 where data is no multiple of four bytes. */
+uint32_t fonddrys_wave_refusal(const uint8_t *file, size_t count);
+
+/* Where the data begins, in bytes from the front of the file; 0 after a refusal. */
+size_t fonddrys_wave_from(const uint8_t *file, size_t count);
+
+/* The count of the data's bytes, which may be 0; 0 after a refusal too. */
+size_t fonddrys_wave_size(const uint8_t *file, size_t count);
+
+/* Writes a file to the front of buffer: a plain heading of 44 bytes, then the frames. Bytes behind
+ * keep their contents. Answers 0, or 5 where frames_count, in bytes, is no multiple of four or more
+ * than FONDDRYS_WAVE_DATA_MAX; then 6 where buffer_count is less than 44 + frames_count. */
+uint32_t fonddrys_wave_write(const uint8_t *frames, size_t frames_count, uint8_t *buffer,
+                             size_t buffer_count);
 
 /* ---- A section alone ---------------------------------------------------------------------- */
 

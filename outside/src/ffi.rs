@@ -3,6 +3,7 @@
 use crate::reference::Section;
 use crate::unit::orders::{Order, Setting};
 use crate::unit::Numbers;
+use crate::wave::Read;
 
 /// The functions as the static library `exports` gives them.
 pub mod raw {
@@ -36,6 +37,10 @@ pub mod raw {
             results: *mut i32,
             results_len: usize,
         ) -> u32;
+        pub fn fonddrys_wave_refusal(file: *const u8, file_len: usize) -> u32;
+        pub fn fonddrys_wave_from(file: *const u8, file_len: usize) -> usize;
+        pub fn fonddrys_wave_size(file: *const u8, file_len: usize) -> usize;
+        pub fn fonddrys_wave_write(frames: *const u8, frames_len: usize, buffer: *mut u8, buffer_len: usize) -> u32;
     }
 }
 
@@ -116,4 +121,20 @@ pub fn preview([a, b, g]: [i32; 3], words: &[i32], results: &mut [i32]) -> u32 {
     // SAFETY: the words are only read, the results are lent to the library alone, and each pointer comes with its own
     // length.
     unsafe { raw::fonddrys_preview(a, b, g, from, words.len(), to, results.len()) }
+}
+
+pub fn wave_read(file: &[u8]) -> Read {
+    let (bytes, count) = (file.as_ptr(), file.len());
+    // SAFETY: the file is read for its own length.
+    unsafe {
+        let refusal = raw::fonddrys_wave_refusal(bytes, count);
+        (refusal, raw::fonddrys_wave_from(bytes, count), raw::fonddrys_wave_size(bytes, count))
+    }
+}
+
+pub fn wave_write(frames: &[u8], buffer: &mut [u8]) -> u32 {
+    let (from, to) = (frames.as_ptr(), buffer.as_mut_ptr());
+    // SAFETY: the frames are only read, the buffer is lent to the library alone, and each pointer comes with its own
+    // length.
+    unsafe { raw::fonddrys_wave_write(from, frames.len(), to, buffer.len()) }
 }

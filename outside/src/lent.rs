@@ -2,12 +2,14 @@
 //! in the middle of a larger buffer.
 
 use crate::checks::groups::{Group, CUTS, FITNESS, HOUSE, LOADS, ORDERS, PREVIEW_LENGTHS, REFUSED, REFUSED_BLOCKS};
+use crate::checks::groups::{DAMAGED_WAVES, WAVES, WAVES_WRITTEN, WAVE_CASES};
 use crate::checks::groups::{REFUSED_PREVIEWS, SHEETS, SHEET_LENGTHS, SHEET_LINES};
 use crate::ffi::{self, raw};
 use crate::reference::Section;
 use crate::subject::Subject;
 use crate::unit::orders::Order;
 use crate::unit::{house_unit, Numbers};
+use crate::wave::Read;
 use std::cell::Cell;
 use std::hint::black_box;
 
@@ -16,7 +18,7 @@ const MARK: i32 = 0x5AA5_1234;
 const MARK_BYTE: u8 = 0xA5;
 
 /// The groups that are run so: each function accepted and refused, with lengths of every kind.
-const GROUPS: [Group; 12] = [
+const GROUPS: [Group; 16] = [
     HOUSE,
     REFUSED,
     LOADS,
@@ -29,6 +31,10 @@ const GROUPS: [Group; 12] = [
     SHEET_LENGTHS,
     PREVIEW_LENGTHS,
     REFUSED_PREVIEWS,
+    WAVES,
+    WAVE_CASES,
+    DAMAGED_WAVES,
+    WAVES_WRITTEN,
 ];
 
 /// Sides and bands far away from those that there are.
@@ -136,5 +142,11 @@ impl Subject for Lent {
     }
     fn preview(&self, band: [i32; 3], words: &[i32], results: &mut [i32]) -> u32 {
         self.show(MARK, words, |words| self.lend(MARK, results, |results| ffi::preview(band, words, results)))
+    }
+    fn wave_read(&self, file: &[u8]) -> Read {
+        self.show(MARK_BYTE, file, |file| ffi::wave_read(file))
+    }
+    fn wave_write(&self, frames: &[u8], buffer: &mut [u8]) -> u32 {
+        self.show(MARK_BYTE, frames, |frames| self.lend(MARK_BYTE, buffer, |buffer| ffi::wave_write(frames, buffer)))
     }
 }

@@ -2,12 +2,14 @@
 
 use crate::reference::{self, fast, Section};
 use crate::unit::{self, orders, orders::Order, sheet, Numbers};
+use crate::wave::{self, Read};
 use crate::{ffi, preview};
 
 /// The functions by name, each with the fast form's.
 macro_rules! functions {
     ($($name:ident($($argument:ident: $kind:ty),*) -> $answer:ty = $fast:expr;)*) => {
-        /// The functions of the C ABI, whoever implements them. The three of the orders are one here.
+        /// The functions of the C ABI, whoever implements them. The three of the orders are one here, and so are the
+        /// three that read a wave file.
         pub trait Subject {
             $(fn $name(&self, $($argument: $kind),*) -> $answer;)*
         }
@@ -44,4 +46,6 @@ functions! {
     sheet_write(numbers: &Numbers, buffer: &mut [u8]) -> usize = sheet::fast::write;
     sheet_read(numbers: &mut Numbers, bytes: &[u8]) -> u32 = sheet::fast::read;
     preview(band: [i32; 3], words: &[i32], results: &mut [i32]) -> u32 = preview::fast::preview;
+    wave_read(file: &[u8]) -> Read = wave::read;
+    wave_write(frames: &[u8], buffer: &mut [u8]) -> u32 = wave::write;
 }

@@ -5,6 +5,7 @@
 
 #include <math.h>
 #include <stdio.h>
+#include <stdlib.h>
 #include <string.h>
 
 #define COUNT(array) (sizeof(array) / sizeof(array)[0])
@@ -186,6 +187,49 @@ static void test_sheets(void)
     }
 }
 
+/* The file of a frame is written and read back. Then a text is put over it, and it is refused. */
+static void test_waves(void)
+{
+    static const struct {
+        size_t place, count;
+        const char *text;
+        uint32_t want;
+    } rows[] = {
+        {0, 48, "RIFX", 16},  {0, 11, "RIFF", 16}, {22, 48, "\1", 17}, {36, 48, "DATA", 18},
+        {40, 48, "\10", 18}, {40, 48, "\3", 5},
+    };
+    static const uint8_t blank[49], frame[4] = {232, 3, 0, 0};
+    static const uint8_t file[49] = "RIFF(\0\0\0WAVEfmt \20\0\0\0\1\0\2\0\104\254\0\0"
+                                    "\20\261\2\0\4\0\20\0data\4\0\0\0\350\3\0";
+    uint8_t buffer[49] = {0};
+    const size_t most = FONDDRYS_WAVE_DATA_MAX;
+    uint8_t *many = calloc(most + 4, 1); /* takes no memory as long as nothing is written to it */
+    CHECK(0, many != NULL, 1);
+    if (many != NULL) {
+        CHECK(0, fonddrys_wave_write(many, most, buffer, sizeof buffer), 6);
+        CHECK(0, fonddrys_wave_write(many, most + 4, buffer, sizeof buffer), 5);
+        free(many);
+    }
+    CHECK(0, fonddrys_wave_write(frame, 3, buffer, 2), 5);
+    CHECK(0, fonddrys_wave_write(frame, 4, buffer, 47), 6);
+    SAME(0, buffer, blank);
+    CHECK(0, fonddrys_wave_write(frame, 4, buffer, sizeof buffer), 0);
+    SAME(0, buffer, file);
+    CHECK(0, fonddrys_wave_refusal(file, 48), 0);
+    CHECK(0, fonddrys_wave_from(file, 48), FONDDRYS_WAVE_HEADING_BYTES);
+    CHECK(0, fonddrys_wave_size(file, 48), 4);
+    for (size_t i = 0; i < COUNT(rows); i++) {
+        uint8_t changed[sizeof file];
+        memcpy(changed, file, sizeof file);
+        memcpy(changed + rows[i].place, rows[i].text, strlen(rows[i].text));
+        memcpy(buffer, changed, sizeof file);
+        CHECK(i, fonddrys_wave_refusal(changed, rows[i].count), rows[i].want);
+        CHECK(i, fonddrys_wave_from(changed, rows[i].count), 0);
+        CHECK(i, fonddrys_wave_size(changed, rows[i].count), 0);
+        SAME(i, changed, buffer);
+    }
+}
+
 static void test_section(void)
 {
     static const struct {
@@ -243,6 +287,7 @@ int main(void)
     test_orders();
     test_blocks();
     test_sheets();
+    test_waves();
     test_section();
     test_preview();
     printf("library.c: %u checks, %u failed\n", checks, failures);

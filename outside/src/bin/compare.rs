@@ -80,7 +80,8 @@ fn near_the_bound(distances: &Distances) -> Result<(), Difference> {
 /// Every wrong implementation, and what they have in common: this must be right, or they would be found for something
 /// else than what is wrong in them.
 fn every_wrong_one() -> Result<(), Difference> {
-    for group in [LISTS, CORNERS, REFUSED, FITNESS, BLOCKS, FRAMES, CUTS, REFUSED_BLOCKS] {
+    let readers = [WAVES, WAVE_CASES, DAMAGED_WAVES, HUGE_WAVES];
+    for group in [LISTS, CORNERS, REFUSED, FITNESS, BLOCKS, FRAMES, CUTS, REFUSED_BLOCKS].into_iter().chain(readers) {
         run(&group, &RIGHT).map_err(|difference| format!("nothing wrong, {difference}"))?;
     }
     WRONG.iter().try_for_each(find)?;

@@ -2,6 +2,7 @@
 
 use super::run::{Checked, Run};
 use super::{arithmetic, bands, big_numbers, blocks, call_lists, distance, factors, figures, fitness, loads};
+use super::{huge_waves, wave_cases, wave_damage, wave_writing, waves};
 use super::{
     orders, preview_refusals, previews, sheet_damage, sheet_fields, sheet_lengths, sheet_lines, sheets, steps,
 };
@@ -105,6 +106,17 @@ groups! { GROUPS:
         "those that the specification gives for a section, from a cleared start";
     PREVIEW_AND_SECTION: previews::beside_section, 0xF0DD_0028, "preview and section",
         "lists held against the same implementation's own section";
+
+    WAVES: waves::files, 0xF0DD_0029, "waves",
+        "wave files of chunks of every kind, order and size";
+    WAVE_CASES: wave_cases::typed, 0, "wave cases",
+        "files and headings typed out, each with its answer";
+    DAMAGED_WAVES: wave_damage::anywhere, 0xF0DD_002A, "damaged waves",
+        "sizes, names, formats and other bytes changed; files cut at every byte";
+    WAVES_WRITTEN: wave_writing::lengths, 0xF0DD_002B, "waves written",
+        "frames and buffers of every small length and of larger ones, read back";
+    HUGE_WAVES: huge_waves::beyond_32_bits, 0, "huge waves",
+        "files and frames of 2^32 bytes and more";
 }
 
 // Groups for the library alone, and for what the tests themselves go by.

@@ -11,6 +11,7 @@ pub mod factors;
 pub mod figures;
 pub mod fitness;
 pub mod groups;
+pub mod huge_waves;
 pub mod loads;
 pub mod makers;
 pub mod orders;
@@ -20,6 +21,7 @@ pub mod report;
 pub mod run;
 pub mod same_preview;
 pub mod same_sheet;
+pub mod same_wave;
 pub mod sheet_damage;
 pub mod sheet_fields;
 pub mod sheet_lengths;
@@ -31,6 +33,11 @@ pub mod sounds;
 pub mod steps;
 pub mod tally;
 pub mod units;
+pub mod wave_cases;
+pub mod wave_damage;
+pub mod wave_makers;
+pub mod wave_writing;
+pub mod waves;
 
 pub use self::tally::Tally;
 

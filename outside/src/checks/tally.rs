@@ -5,6 +5,7 @@ use crate::reference::{exact, unpack, Section, ACCEPTED};
 use crate::unit::exact::{Halves, Met};
 use crate::unit::orders::{Order, Setting};
 use crate::unit::sheet::SHEET;
+use crate::wave;
 
 /// What accepted steps of a section met.
 #[derive(Clone, Copy, Default)]
@@ -55,6 +56,18 @@ pub struct Tally {
     previewed: Steps,
     /// Words with S below zero and the result 0: minus zero, in floats.
     zeros_from_below: u64,
+    /// Wave files read and written, by their refusal; accepted ones at 0.
+    waves: [u64; 19],
+    waves_written: [u64; 16],
+    /// Accepted wave files of no frames, those that were damaged, and those with their data behind 2^32 bytes.
+    waves_of_nothing: u64,
+    pub waves_damaged: u64,
+    waves_far: u64,
+    /// Chunks passed over ahead of the data in accepted wave files: in all, those with a pad byte, and formats behind
+    /// the first.
+    chunks: u64,
+    pads: u64,
+    formats: u64,
     /// How far the lists lay from the exact sound.
     pub distances: Distances,
 }
@@ -107,6 +120,25 @@ impl Tally {
         let (status, y) = unpack(answer);
         self.previewed.count(before, x, status == 1, y);
         self.zeros_from_below += u64::from(y == 0 && exact::sum(before, x) < 0);
+    }
+
+    pub fn count_wave(&mut self, file: &[u8], (refusal, from, size): wave::Read) {
+        self.waves[refusal as usize] += 1;
+        if refusal == ACCEPTED {
+            self.waves_of_nothing += u64::from(size == 0);
+            self.waves_far += u64::from(from as u64 > 1 << 32);
+            let chunks = wave::chunks(&file[..from]);
+            let count = |what: fn(&wave::Chunk) -> bool| chunks.iter().filter(|chunk| what(chunk)).count() as u64;
+            // The heading of the data, and the format that counts.
+            self.chunks += chunks.len() as u64 - 2;
+            self.pads += count(|chunk| chunk.size % 2 == 1);
+            self.formats += count(|chunk| chunk.name == b"fmt ") - 1;
+        }
+    }
+
+    pub fn count_wave_written(&mut self, refusal: u32) {
+        self.answers += 1;
+        self.waves_written[refusal as usize] += 1;
     }
 
     pub fn count_distances(&mut self, distances: Distances) {
@@ -187,6 +219,20 @@ counts! {
     "previews refused with 9" (previews[9])
     "previews refused with 10" (previews[10])
     "previews refused with 15" (previews[15])
+    "accepted waves" (waves[0])
+    "accepted waves of no frames" (waves_of_nothing)
+    "accepted waves that were damaged" (waves_damaged)
+    "accepted waves with their data behind 2^32 bytes" (waves_far)
+    "chunks of waves passed over" (chunks)
+    "pad bytes of waves passed over" (pads)
+    "formats of waves behind the first" (formats)
+    "waves refused with 16" (waves[16])
+    "waves refused with 17" (waves[17])
+    "waves refused with 18" (waves[18])
+    "waves refused with 5" (waves[5])
+    "waves written" (waves_written[0])
+    "waves not written with 5" (waves_written[5])
+    "waves not written with 6" (waves_written[6])
     "lists held against the exact sound" (distances.lists)
     "lists in which a section limited" (distances.limited)
     "samples held to the bound" (distances.judged)

@@ -3,12 +3,14 @@
 
 mod sheets;
 mod sound;
+mod waves;
 
 use self::sheets::{exchanged, flag_2, last_line_unread, letters_first};
 use self::sound::{
     block_with, frames_with, halves_up, levels, mix, nine_first, order_with, output, output_unlimited, past_target,
     raise_flags, step_with, worked_again, wrapped,
 };
+use self::waves::{number, read_by, write_riff, write_with, Rules, RULES};
 use crate::checks::groups::*;
 use crate::preview::{fast::preview, RESULTS_TOO_SHORT};
 use crate::reference::fast::{nearest, step};
@@ -23,6 +25,8 @@ use crate::unit::orders::{Order, Setting, BOTH, NO_SIDE_AND_BAND, POSITION_OVER_
 use crate::unit::sheet::fast::{read, write};
 use crate::unit::sheet::{BADLY_WRITTEN, OUTSIDE, SHEET};
 use crate::unit::{block_refusal, cleared, house_unit, load, OUTPUT_TOO_SHORT, PART_OF_A_FRAME, UNFIT};
+use crate::wave::{read as read_wave, refused, walk, write as write_wave};
+use crate::wave::{FORMAT, HEADING, MOST, NO_DATA, NO_WAVE, OTHER_FORMAT};
 
 /// A wrong implementation, in words, and the groups that must find it.
 pub struct Wrong {
@@ -42,7 +46,7 @@ macro_rules! wrong {
     };
 }
 
-/// What the wrong sections and units have in common, with nothing wrong in it.
+/// What the wrong sections, units and readers have in common, with nothing wrong in it.
 pub const RIGHT: Form = Form {
     section_step: |section, x| step_with(section, x, |products| nearest(products.iter().sum(), 22)),
     block: |unit, input, sound| {
@@ -50,6 +54,7 @@ pub const RIGHT: Form = Form {
             worked_again(frame, |side| output(after, mix(after, after, side)))
         })
     },
+    wave_read: |file| read_by(file, RULES),
     ..FAST
 };
 
@@ -281,4 +286,119 @@ wrong! {
         preview = |band, words, results| {
             if results.len() > words.len() { preview(band, &[0], &mut []) } else { preview(band, words, results) }
         };
+
+    "the RIFF size used" [WAVES WAVE_CASES DAMAGED_WAVES]
+        wave_read = |file| match read_wave(file) {
+            right @ (NO_WAVE, ..) => right,
+            _ => read_wave(&file[..file.len().min(8 + number(file, 4))]),
+        };
+    "the letters RIFF not looked at" [WAVE_CASES DAMAGED_WAVES]
+        wave_read = |file| read_wave(&[b"RIFF", file.get(4..).unwrap_or_default()].concat());
+    "pad bytes forgotten" [WAVES WAVE_CASES DAMAGED_WAVES HUGE_WAVES]
+        wave_read = |file| read_by(file, Rules { next: |from, size| from + size, ..RULES });
+    "a pad byte behind every chunk" [WAVES WAVE_CASES DAMAGED_WAVES]
+        wave_read = |file| read_by(file, Rules { next: |from, size| from + size + 1, ..RULES });
+    "the next chunk looked for modulo 2^32" [WAVE_CASES DAMAGED_WAVES]
+        wave_read = |file| read_by(file, Rules {
+            // A step back ends the walk, which might go on for ever.
+            next: |from, size| match (from + size + size % 2) % (1 << 32) {
+                next if next < from => 1 << 40,
+                next => next,
+            },
+            ..RULES
+        });
+    "the end of the data taken modulo 2^32" [WAVE_CASES DAMAGED_WAVES HUGE_WAVES]
+        wave_read = |file| match walk(file) {
+            Ok((from, size)) if size % 4 == 0 && (from + size as usize) % (1 << 32) <= file.len() => {
+                (ACCEPTED, from, size as usize)
+            }
+            _ => read_wave(file),
+        };
+    "where the data begins taken modulo 2^32" [HUGE_WAVES]
+        wave_read = |file| {
+            let (refusal, from, size) = read_wave(file);
+            (refusal, from % (1 << 32), size)
+        };
+    "zeros read behind the file" [WAVES WAVE_CASES DAMAGED_WAVES]
+        wave_read = |file| read_wave(&[file, &[0; 8]].concat());
+    "data that runs past the file cut off at its end" [WAVES WAVE_CASES DAMAGED_WAVES HUGE_WAVES]
+        wave_read = |file| match walk(file) {
+            Ok((from, size)) if size as usize > file.len() - from => (ACCEPTED, from, (file.len() - from) / 4 * 4),
+            _ => read_wave(file),
+        };
+    "the pad byte of the data asked for" [WAVES WAVE_CASES DAMAGED_WAVES HUGE_WAVES]
+        wave_read = |file| match walk(file) {
+            Ok((from, size)) if (size as usize).next_multiple_of(2) > file.len() - from => refused(NO_DATA),
+            _ => read_wave(file),
+        };
+    "the last data taken" [WAVES WAVE_CASES DAMAGED_WAVES]
+        wave_read = |file| read_by(file, Rules {
+            data: |chunks| chunks.iter().rposition(|chunk| chunk.0 == b"data"),
+            ..RULES
+        });
+    "a format behind the data taken" [WAVES WAVE_CASES DAMAGED_WAVES]
+        wave_read = |file| read_by(file, Rules {
+            format: |chunks, _| chunks.iter().position(|chunk| chunk.0 == b"fmt "),
+            ..RULES
+        });
+    "the last format ahead of the data taken" [WAVES WAVE_CASES DAMAGED_WAVES]
+        wave_read = |file| read_by(file, Rules {
+            format: |chunks, data| chunks[..data].iter().rposition(|chunk| chunk.0 == b"fmt "),
+            ..RULES
+        });
+    "a format of fifteen bytes accepted" [WAVE_CASES DAMAGED_WAVES]
+        wave_read = |file| read_by(file, Rules {
+            fits: |rest, size| (RULES.fits)(rest, if size == 15 { 16 } else { size }),
+            ..RULES
+        });
+    "the bytes a second not looked at" [WAVE_CASES DAMAGED_WAVES]
+        wave_read = |file| read_by(file, Rules {
+            fits: |rest, size| {
+                (16..=rest.len()).contains(&size) && rest[..8] == FORMAT[..8] && rest[12..16] == FORMAT[12..]
+            },
+            ..RULES
+        });
+    "17 and 18 exchanged" [WAVES WAVE_CASES DAMAGED_WAVES HUGE_WAVES]
+        wave_read = |file| match read_wave(file) {
+            (OTHER_FORMAT, ..) => refused(NO_DATA),
+            (NO_DATA, ..) => refused(OTHER_FORMAT),
+            right => right,
+        };
+    "5 tested ahead of 18" [WAVES WAVE_CASES DAMAGED_WAVES HUGE_WAVES]
+        wave_read = |file| match walk(file) {
+            Ok((_, size)) if size % 4 != 0 => refused(PART_OF_A_FRAME),
+            _ => read_wave(file),
+        };
+    "data refused with 5 handed back" [WAVES WAVE_CASES DAMAGED_WAVES HUGE_WAVES]
+        wave_read = |file| match (read_wave(file), walk(file)) {
+            ((PART_OF_A_FRAME, ..), Ok((from, size))) => (PART_OF_A_FRAME, from, size as usize),
+            (right, _) => right,
+        };
+    "each wave file refused" [WAVES WAVE_CASES DAMAGED_WAVES WAVES_WRITTEN HUGE_WAVES]
+        wave_read = |_| refused(NO_WAVE);
+
+    "the RIFF size that of the whole file" [WAVE_CASES WAVES_WRITTEN]
+        wave_write = |frames, buffer| write_riff(frames, buffer, |size| size + 44);
+    "the RIFF size that of the frames" [WAVE_CASES WAVES_WRITTEN]
+        wave_write = |frames, buffer| write_riff(frames, buffer, |size| size);
+    "the RIFF size modulo 2^24" [WAVES_WRITTEN]
+        wave_write = |frames, buffer| write_riff(frames, buffer, |size| (size + 36) % (1 << 24));
+    "silence written" [WAVE_CASES WAVES_WRITTEN]
+        wave_write = |frames, buffer| write_with(frames, buffer, |file, _| file[HEADING..].fill(0));
+    "bytes behind the file cleared" [WAVE_CASES WAVES_WRITTEN]
+        wave_write = |frames, buffer| write_with(frames, buffer, |_, behind| behind.fill(0));
+    "the heading written into a short buffer" [WAVES_WRITTEN HUGE_WAVES]
+        wave_write = |frames, buffer| {
+            let refusal = write_wave(frames, buffer);
+            if refusal == OUTPUT_TOO_SHORT { write_wave(&[], buffer); }
+            refusal
+        };
+    "6 tested ahead of 5 for frames" [WAVES_WRITTEN HUGE_WAVES]
+        wave_write = |frames, buffer| {
+            if buffer.len() < HEADING + frames.len() { OUTPUT_TOO_SHORT } else { write_wave(frames, buffer) }
+        };
+    "the count of frames taken modulo 2^32" [HUGE_WAVES]
+        wave_write = |frames, buffer| write_wave(&frames[..frames.len() % (1 << 32)], buffer);
+    "the most frames refused" [HUGE_WAVES]
+        wave_write = |frames, buffer| if frames.len() == MOST { PART_OF_A_FRAME } else { write_wave(frames, buffer) };
 }
