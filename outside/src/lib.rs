@@ -1,5 +1,5 @@
-//! Outside tests of the equaliser: an implementation of the section, of its preview and of the unit written from the
-//! specification alone, and the comparison of the library and of the programs with it.
+//! Outside tests of the equaliser: an implementation of the section, of its preview, of the unit and of wave files
+//! written from the specification alone, and the comparison of the library and of the programs with it.
 
 pub mod calls;
 pub mod checks;
@@ -16,3 +16,4 @@ pub mod system;
 pub mod temporary;
 pub mod timer;
 pub mod unit;
+pub mod wave;
