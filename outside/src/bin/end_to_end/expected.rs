@@ -6,6 +6,7 @@ use outside::unit::exact::{self, Met};
 use outside::unit::orders::{exact as orders, Order};
 use outside::unit::sheet::{exact as sheet, FIELD};
 use outside::unit::{house_unit, Numbers, PART_OF_A_FRAME};
+use outside::wave::{heading, walk, MOST, NO_DATA};
 
 use super::folder::{and_file, file_in, Contents, NEW_NAME, SHEET_NAME};
 use super::run::{DESK, HOUSE, PLAY};
@@ -14,7 +15,7 @@ use super::seen::Seen;
 /// How a program is used, in one line.
 pub fn usage(program: &str) -> &'static str {
     match program {
-        PLAY => "usage: play [--help | --version] <FRAMES >SOUND\n",
+        PLAY => "usage: play [--wave | --help | --version] <FRAMES >SOUND\n",
         HOUSE => "usage: house [--help | --version] >SHEET\n",
         DESK => "usage: desk SIDE BAND POSITION [SIDE BAND POSITION ...] <SHEET >SHEET\n",
         _ => "",
@@ -48,6 +49,33 @@ pub fn play(before: &Contents, input: &[u8], met: &mut Met) -> Seen {
     let errors = if whole.len() < input.len() { line(PART_OF_A_FRAME) } else { String::new() };
     let after = and_file(before, NEW_NAME, &sheet_of(&unit));
     Seen { sound, errors: errors.into_bytes(), after, ..Seen::written(&[], before) }
+}
+
+/// The bytes of standard input in which the headings of a wave file must end.
+pub const FRONT: usize = 65_536;
+
+/// A run of play --wave with nothing wrong but the sheet or the wave file.
+pub fn wave(before: &Contents, input: &[u8], met: &mut Met) -> Seen {
+    let unplayed = play(before, &[], met);
+    if !unplayed.errors.is_empty() {
+        return unplayed;
+    }
+    let (from, size) = match walk(&input[..input.len().min(FRONT)]) {
+        Ok(data) => data,
+        Err(refusal) => return Seen::nothing_but(&line(refusal), before),
+    };
+    let came = input[from..].len().min(size as usize);
+    let is_whole = came == size as usize;
+    // No heading can be written for such data.
+    if size % 4 != 0 || size as usize > MOST {
+        return Seen::nothing_but(&line(if is_whole { PART_OF_A_FRAME } else { NO_DATA }), before);
+    }
+    let mut seen = play(before, &input[from..][..came / 4 * 4], met);
+    seen.sound.splice(..0, heading(size));
+    if is_whole {
+        return seen;
+    }
+    Seen { errors: line(NO_DATA).into(), after: before.clone(), ..seen }
 }
 
 /// What house writes.

@@ -3,10 +3,11 @@
 //!
 //!     end_to_end [PATH]              tests play there, ../target/bin/play else, and the two beside it
 //!     end_to_end --self-test [PATH]  tests wrong programs made of these
-//!     end_to_end --reference play    is a play of the independent implementation
+//!     end_to_end --reference play    is a play of the independent implementation, with --wave for wave files
 
 mod expected;
 mod folder;
+mod format;
 mod groups;
 mod reference;
 mod run;
@@ -25,6 +26,7 @@ use std::time::Duration;
 use outside::checks::report::report;
 use outside::checks::Difference;
 
+use self::format::{RAW, WAVE};
 use self::groups::GROUPS;
 use self::run::PLAY;
 use self::test::{Setup, Test};
@@ -39,19 +41,14 @@ fn main() -> ExitCode {
     let arguments: Vec<String> = env::args().skip(1).collect();
     let words: Vec<&str> = arguments.iter().map(String::as_str).collect();
     match words[..] {
-        ["--reference", PLAY] => match reference::play() {
-            Ok(()) => ExitCode::SUCCESS,
-            Err(error) => {
-                eprintln!("{error}");
-                ExitCode::FAILURE
-            }
-        },
+        ["--reference", PLAY] => reference::play(RAW),
+        ["--reference", PLAY, "--wave"] => reference::play(WAVE),
         ["--self-test"] => told(PATH, self_test::run),
         ["--self-test", path] => told(path, self_test::run),
         [] => told(PATH, test),
         [path] if !path.starts_with("--") => told(path, test),
         _ => {
-            eprintln!("usage: end_to_end [[--self-test] [PATH] | --reference play]");
+            eprintln!("usage: end_to_end [[--self-test] [PATH] | --reference play [--wave]]");
             ExitCode::FAILURE
         }
     }

@@ -2,18 +2,29 @@
 
 use std::fs;
 use std::io::{self, Read, Write};
+use std::process::ExitCode;
 
 use outside::unit::exact::Met;
 
-use super::expected;
 use super::folder::{file_in, with_sheet, NEW_NAME, SHEET_NAME};
+use super::format::Format;
 
 /// Plays standard input through `strip.sht`, and writes `strip.new`.
-pub fn play() -> io::Result<()> {
+pub fn play(format: Format) -> ExitCode {
+    match pass(format) {
+        Ok(()) => ExitCode::SUCCESS,
+        Err(error) => {
+            eprintln!("{error}");
+            ExitCode::FAILURE
+        }
+    }
+}
+
+fn pass(format: Format) -> io::Result<()> {
     let sheet = fs::read(SHEET_NAME).unwrap_or_default();
     let mut input = Vec::new();
     io::stdin().read_to_end(&mut input)?;
-    let expected = expected::play(&with_sheet(&sheet), &input, &mut Met::default());
+    let expected = (format.expected)(&with_sheet(&sheet), &input, &mut Met::default());
     io::stdout().write_all(&expected.sound)?;
     if let Some(new) = file_in(&expected.after, NEW_NAME) {
         fs::write(NEW_NAME, new)?;

@@ -11,8 +11,8 @@ use outside::checks::units::{random_fit, Sets};
 use outside::checks::Difference;
 use outside::unit::exact::Met;
 
-use super::expected;
 use super::folder::{system_fault, with_sheet, Contents, Folder};
+use super::format::{Format, RAW};
 use super::run::{seen, Input, Run, PLAY, SHELL};
 use super::seen::{same, Seen};
 
@@ -100,8 +100,20 @@ impl Test {
 
     /// Runs play with nothing wrong but the sheet or the length of these bytes, which the input carries.
     pub fn plain(&mut self, case: &str, before: &Contents, input: Input, bytes: &[u8]) -> Result<(), Difference> {
-        let expected = expected::play(before, bytes, &mut self.met);
-        self.expect(case, before, Run::of(PLAY, input), &expected)
+        self.played(RAW, case, before, input, bytes)
+    }
+
+    /// Runs play with nothing wrong but the sheet or these bytes, which the input carries in this format.
+    pub fn played(
+        &mut self,
+        format: Format,
+        case: &str,
+        before: &Contents,
+        input: Input,
+        bytes: &[u8],
+    ) -> Result<(), Difference> {
+        let expected = (format.expected)(before, bytes, &mut self.met);
+        self.expect(case, before, format.run(input), &expected)
     }
 
     /// Runs this text by a shell in a new folder that holds this.

@@ -98,7 +98,23 @@ pub fn every(test: &mut Test, program: &'static str) -> Result<(), Difference> {
     Ok(())
 }
 
+/// Lists about --wave that play answers with its usage.
+const NO_WAVE: [&[&[u8]]; 12] = [
+    &[b"2", b"10", b"25"],
+    &[b"--wav"],
+    &[b"--waves"],
+    &[b"--WAVE"],
+    &[b"-wave"],
+    &[b"--wave "],
+    &[b"--wave=1"],
+    &[b"--wave", b"reel.wav"],
+    &[b"reel.wav", b"--wave"],
+    &[b"--wave", b"--wave"],
+    &[b"--wave", b"--help"],
+    &[b"--version", b"--wave"],
+];
+
 pub fn play(test: &mut Test) -> Result<(), Difference> {
     every(test, PLAY)?;
-    not_taken(test, PLAY, &[b"2", b"10", b"25"])
+    NO_WAVE.iter().try_for_each(|arguments| not_taken(test, PLAY, arguments))
 }

@@ -10,7 +10,8 @@ use outside::unit::sheet::SHEET;
 
 use crate::expected::{self, line};
 use crate::folder::{and_file, with_sheet, without_and_with_old, Contents, NEW_NAME, OLD, PART_NAME};
-use crate::run::{Input, Run, PLAY};
+use crate::format::{RAW, WAVE};
+use crate::run::Input;
 use crate::seen::Seen;
 use crate::test::Test;
 
@@ -103,7 +104,7 @@ pub fn damaged(turn: u64, maker: &mut SheetMaker) -> Vec<u8> {
     with_bytes(&sheet, line.field(column).start, &text)
 }
 
-/// The input that is not to be played: whole frames and a tail.
+/// The input that is not to be played: whole frames and a tail, and no wave file.
 fn input(test: &mut Test) -> Vec<u8> {
     let count = test.maker.random.below(400) as usize;
     test.maker.bytes(count)
@@ -117,7 +118,9 @@ fn nothing_happens(test: &mut Test, case: &str, folder: &Contents, number: u32) 
         let expected = Seen::nothing_but(&line(number), &before);
         let by_reader = expected::play(&before, &input, &mut Met::default());
         assert!(expected == by_reader, "{case}: another refusal");
-        test.expect(&case, &before, Run::of(PLAY, Input::Pipe(&input)), &expected)?;
+        for format in [RAW, WAVE] {
+            test.expect(&case, &before, format.run(Input::Pipe(&input)), &expected)?;
+        }
     }
     Ok(())
 }

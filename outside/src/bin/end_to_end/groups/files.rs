@@ -7,18 +7,33 @@ use std::os::unix::fs::PermissionsExt;
 use outside::checks::sounds::Sound;
 use outside::checks::Difference;
 
-use crate::expected;
 use crate::folder::{and, file_in, system_fault, with_sheet, without_and_with_old, Contents, Entry, Folder};
 use crate::folder::{ELSEWHERE, NEW_NAME, OLD, PART_NAME, SHEET_NAME};
+use crate::format::{Format, RAW, WAVE};
 use crate::run::{seen, without_rights, Input, Run, Way, PLAY};
 use crate::seen::{same, Seen};
 use crate::test::{Setup, Test};
 
-/// A sheet in its folder, frames, and the run that they ought to give.
+/// A sheet in its folder, an input of a format, and the run that they ought to give.
 struct Material {
+    format: Format,
     sheet: Contents,
     bytes: Vec<u8>,
     expected: Seen,
+}
+
+impl Material {
+    fn new(test: &mut Test, format: Format) -> Material {
+        let sheet = with_sheet(&test.maker.sheet(4));
+        let bytes = format.input(&test.sound(Sound::Noise, 20_000));
+        let expected = (format.expected)(&sheet, &bytes, &mut test.met);
+        Material { format, sheet, bytes, expected }
+    }
+
+    /// A run with the input through a pipe.
+    fn run(&self) -> Run<'_> {
+        self.format.run(Input::Pipe(&self.bytes))
+    }
 }
 
 fn old() -> Entry {
@@ -64,13 +79,13 @@ fn passes(test: &mut Test, material: &Material) -> Result<(), Difference> {
         after.remove(PART_NAME);
         after.values_mut().filter(|entry| matches!(entry, Entry::Second(_))).for_each(|entry| *entry = old());
         let expected = Seen { after, ..material.expected.clone() };
-        test.expect(case, &before, Run::of(PLAY, Input::Pipe(&material.bytes)), &expected)?;
+        test.expect(case, &before, material.run(), &expected)?;
     }
     // The sheet may be a link too.
     let before =
         with(&material.sheet, vec![(SHEET_NAME, link(ELSEWHERE)), (ELSEWHERE, material.sheet[SHEET_NAME].clone())]);
     let expected = Seen { after: and(&before, NEW_NAME, new.clone()), ..material.expected.clone() };
-    test.expect("strip.sht a link", &before, Run::of(PLAY, Input::Pipe(&material.bytes)), &expected)
+    test.expect("strip.sht a link", &before, material.run(), &expected)
 }
 
 const SHEET_A_FOLDER: &str = "strip.sht: Is a directory\n";
@@ -111,15 +126,15 @@ fn not_begun(test: &mut Test, material: &Material) -> Result<(), Difference> {
     ];
     for (entries, line) in links {
         let before = with(&material.sheet, entries);
-        let run = Run::of(PLAY, Input::File(tail));
+        let run = RAW.run(Input::File(tail));
         test.expect("strip.new a link", &before, run, &Seen::nothing_but(line, &before))?;
     }
     for (folders, has_sheet, closed, line) in NOT_BEGUN {
         let sheet = if has_sheet { material.sheet.clone() } else { Contents::new() };
         for begin in without_and_with_old(&sheet) {
             let before = folders.iter().fold(begin, |contents, name| and(&contents, name, Entry::Folder));
-            for input in inputs {
-                let run = Run { way: Way::Shell("", closed), ..Run::of(PLAY, input) };
+            for run in inputs.map(|input| RAW.run(input)).into_iter().chain([WAVE.run(inputs[1])]) {
+                let run = Run { way: Way::Shell("", closed), ..run };
                 let case = format!("{} folders, {closed}", folders.join(", "));
                 test.expect(&case, &before, run, &Seen::nothing_but(line, &before))?;
             }
@@ -134,10 +149,11 @@ fn unwritten(test: &mut Test, material: &Material) -> Result<(), Difference> {
     for before in without_and_with_old(&material.sheet) {
         for tail in 0..4 {
             let bytes = [&material.bytes[..], &[99; 3][..tail]].concat();
-            let told = if tail > 0 { "5\n" } else { "" };
-            let errors = [b"strip.new: File too large\n", new, told.as_bytes()].concat();
+            let told = (material.format.expected)(&before, &bytes, &mut test.met).errors;
+            let errors = [b"strip.new: File too large\n", new, &told].concat();
             let expected = Seen { errors, after: before.clone(), ..material.expected.clone() };
-            let run = Run { way: Way::Shell("ulimit -f 0; trap '' XFSZ", ""), ..Run::of(PLAY, Input::Pipe(&bytes)) };
+            let way = Way::Shell("ulimit -f 0; trap '' XFSZ", "");
+            let run = Run { way, ..material.format.run(Input::Pipe(&bytes)) };
             test.expect(&format!("files of no bytes, a tail of {tail}"), &before, run, &expected)?;
         }
     }
@@ -169,7 +185,7 @@ fn rights(test: &mut Test, material: &Material) -> Result<(), Difference> {
     };
     let place = Folder::new(&Contents::new()).map_err(system_fault)?;
     let setup = for_anybody(&test.setup, &place).map_err(system_fault)?;
-    let run = Run { way, ..Run::of(PLAY, Input::Pipe(&material.bytes)) };
+    let run = Run { way, ..material.run() };
     let sheet = &material.sheet;
     for (case, modes, expected) in [
         ("an unwritable folder", [0o555, 0o444], &Seen::nothing_but("strip.new.part: Permission denied\n", sheet)),
@@ -186,13 +202,20 @@ fn rights(test: &mut Test, material: &Material) -> Result<(), Difference> {
     Ok(())
 }
 
+/// How the new sheet is written, and where it can't be.
+fn saved(test: &mut Test, material: &Material) -> Result<(), Difference> {
+    passes(test, material)?;
+    unwritten(test, material)
+}
+
 pub fn all(test: &mut Test) -> Result<(), Difference> {
-    let sheet = with_sheet(&test.maker.sheet(4));
-    let bytes = test.sound(Sound::Noise, 20_000);
-    let expected = expected::play(&sheet, &bytes, &mut test.met);
-    let material = Material { sheet, bytes, expected };
-    passes(test, &material)?;
-    unwritten(test, &material)?;
+    let material = Material::new(test, RAW);
+    saved(test, &material)?;
     rights(test, &material)?;
     not_begun(test, &material)
+}
+
+pub fn waves(test: &mut Test) -> Result<(), Difference> {
+    let material = Material::new(test, WAVE);
+    saved(test, &material)
 }

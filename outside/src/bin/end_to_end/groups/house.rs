@@ -33,5 +33,6 @@ pub fn all(test: &mut Test) -> Result<(), Difference> {
     test.expect("a full device", &before, Run { output: Output::Full, ..run }, &told)?;
     at_once(test, &expected)?;
     arguments::every(test, HOUSE)?;
+    arguments::not_taken(test, HOUSE, &[b"--wave"])?;
     arguments::not_taken(test, HOUSE, &[b"2", b"10", b"25"])
 }

@@ -3,9 +3,9 @@
 use outside::checks::sounds::Sound;
 use outside::checks::Difference;
 
-use crate::expected;
 use crate::folder::{and_file, file_in, with_sheet, without_and_with_old, Contents, NEW_NAME};
-use crate::run::{Input, Run, PLAY};
+use crate::format::{Format, RAW};
+use crate::run::Input;
 use crate::seen::{same, Seen};
 use crate::test::Test;
 
@@ -66,39 +66,47 @@ const WIDE: [&[usize]; 8] = [
 ];
 
 /// One sound through a pipe in odd pieces: equal sound and sheet however it comes.
-pub fn chunks(test: &mut Test) -> Result<(), Difference> {
+pub fn chunks(test: &mut Test, format: Format) -> Result<(), Difference> {
     let before = test.loud_sheet(0);
     let bytes = test.sound(Sound::Soft(13), MANY / 4 + 1);
     let lengths: Vec<usize> = (0..1_009).map(|_| 1 + test.maker.random.below(7) as usize).collect();
     let short: [&[usize]; 6] = [&[1], &[2], &[3], &[5], &[7, 1], &lengths];
     for (count, lists) in [(FEW, &short[..]), (MANY, &WIDE)] {
-        let expected = expected::play(&before, &bytes[..count], &mut test.met);
+        let input = format.input(&bytes[..count]);
+        let expected = (format.expected)(&before, &input, &mut test.met);
         for lengths in lists {
             let case = format!("pieces of {:?} bytes", &lengths[..lengths.len().min(12)]);
-            test.expect(&case, &before, Run::of(PLAY, Input::Pieces(&bytes[..count], lengths)), &expected)?;
+            test.expect(&case, &before, format.run(Input::Pieces(&input, lengths)), &expected)?;
         }
     }
     Ok(())
 }
 
-/// A run in a folder with this sheet, and the sheet that it wrote.
-fn with_new_sheet(test: &mut Test, before: &Contents, bytes: &[u8]) -> Result<(Seen, Vec<u8>), Difference> {
-    let seen = test.run(before, Run::of(PLAY, Input::File(bytes)))?;
+/// A run in a folder with this sheet: what is seen, the sound without its heading, and the sheet that it wrote.
+fn with_new_sheet(
+    test: &mut Test,
+    format: Format,
+    before: &Contents,
+    bytes: &[u8],
+) -> Result<(Seen, Vec<u8>), Difference> {
+    let mut seen = test.run(before, format.run(Input::File(&format.input(bytes))))?;
     let new = file_in(&seen.after, NEW_NAME).ok_or("no strip.new was written")?.to_vec();
+    let heading = (format.heading)(bytes.len());
+    seen.sound = seen.sound.strip_prefix(&heading[..]).ok_or("another heading was written")?.to_vec();
     Ok((seen, new))
 }
 
-/// A sound cut in two: a second run, on from the first one's sheet, gives what one run over both inputs gives. Only the
-/// program's own runs are compared.
-pub fn continued(test: &mut Test) -> Result<(), Difference> {
+/// A sound cut in two, with so many sheets: a second run, on from the first one's sheet, gives what one run over the raw
+/// frames of both gives. Only the program's own runs are compared.
+pub fn continued(test: &mut Test, format: Format, sheets: u64) -> Result<(), Difference> {
     const FRAMES: usize = 20_000;
-    for turn in 0..5 {
+    for turn in 0..sheets {
         let before = test.loud_sheet(turn);
         let bytes = test.sound(Sound::Noise, FRAMES);
-        let (whole, _) = with_new_sheet(test, &before, &bytes)?;
+        let (whole, _) = with_new_sheet(test, RAW, &before, &bytes)?;
         for cut in [0, 1, 2, 9_999, FRAMES - 1, FRAMES] {
-            let (first, middle) = with_new_sheet(test, &before, &bytes[..4 * cut])?;
-            let (second, last) = with_new_sheet(test, &with_sheet(&middle), &bytes[4 * cut..])?;
+            let (first, middle) = with_new_sheet(test, format, &before, &bytes[..4 * cut])?;
+            let (second, last) = with_new_sheet(test, format, &with_sheet(&middle), &bytes[4 * cut..])?;
             let both = Seen {
                 sound: [first.sound, second.sound].concat(),
                 errors: [first.errors, second.errors].concat(),

@@ -5,9 +5,11 @@ use std::process::ExitStatus;
 
 use outside::checks::sounds::Sound;
 use outside::checks::Difference;
+use outside::wave::heading;
 
-use crate::expected;
+use crate::expected::{self, FRONT};
 use crate::folder::{with_sheet, without_and_with_old, Contents};
+use crate::format::{Format, RAW, WAVE};
 use crate::run::{Input, Output, Run, Way, PLAY};
 use crate::seen::Seen;
 use crate::test::Test;
@@ -62,6 +64,23 @@ fn read_fault(test: &mut Test, before: &Contents, input: Input, bytes: &[u8], fa
     test.expect(&format!("a fault after {} bytes", bytes.len()), before, Run::of(PLAY, input), &expected)
 }
 
+/// Every stop, with the input in this format.
+fn stops(test: &mut Test, format: Format, folders: &[Contents], noise: &[u8]) -> Result<(), Difference> {
+    let sound = expected::play(&folders[0], noise, &mut test.met).sound;
+    for (case, frames, output, way, line, heard, signal) in STOPS {
+        let bytes = format.input(&noise[..4 * frames]);
+        let sound = [&(format.heading)(4 * frames), &sound[..heard]].concat()[..heard].to_vec();
+        for before in folders {
+            let ending = ExitStatus::from_raw(signal);
+            let expected = Seen { sound: sound.clone(), ending, ..Seen::nothing_but(line, before) };
+            for input in [Input::File(&bytes), Input::Pipe(&bytes)] {
+                test.expect(case, before, Run { output, way, ..format.run(input) }, &expected)?;
+            }
+        }
+    }
+    Ok(())
+}
+
 pub fn all(test: &mut Test) -> Result<(), Difference> {
     let sheet = with_sheet(&test.maker.sheet(4));
     let folders = without_and_with_old(&sheet);
@@ -72,16 +91,61 @@ pub fn all(test: &mut Test) -> Result<(), Difference> {
         }
         read_fault(test, before, Input::Folder, &[], A_FOLDER)?;
     }
-    let sound = expected::play(&sheet, &noise, &mut test.met).sound;
-    for (case, frames, output, way, line, heard, signal) in STOPS {
-        let bytes = &noise[..4 * frames];
-        for before in &folders {
-            let sound = sound[..heard].to_vec();
-            let expected = Seen { sound, ending: ExitStatus::from_raw(signal), ..Seen::nothing_but(line, before) };
-            for input in [Input::File(bytes), Input::Pipe(bytes)] {
-                test.expect(case, before, Run { output, way, ..Run::of(PLAY, input) }, &expected)?;
-            }
+    stops(test, RAW, &folders, &noise)
+}
+
+/// Wave files that break off: the bytes of the data, and of the file up to the fault.
+const WAVE_FAULTS: [(u32, usize); 15] = [
+    (400_000, 0),
+    (400_000, 3),
+    (400_000, 43),
+    (400_000, 48),
+    (400_000, FRONT - 1),
+    (4, 48),
+    (5, 60),
+    (400_000, FRONT),
+    (400_000, FRONT + 1),
+    (400_000, FRONT + 4),
+    (400_000, 80_002),
+    (400_001, 80_002),
+    (65_496, FRONT),
+    (65_497, FRONT),
+    (4_000, 80_000),
+];
+
+/// Inputs of play --wave that fail. Ahead of the front's end nothing is played; later the fault is told, and then it is
+/// as if the input had ended there.
+fn wave_faults(test: &mut Test, before: &Contents, noise: &[u8]) -> Result<(), Difference> {
+    let run = WAVE.run(Input::Folder);
+    test.expect("a folder", before, run, &Seen::nothing_but(A_FOLDER, before))?;
+    for (size, count) in WAVE_FAULTS {
+        let bytes = &[&heading(size), noise].concat()[..count];
+        let mut expected = Seen::nothing_but(BROKEN_OFF, before);
+        if count >= FRONT {
+            expected = expected::wave(before, bytes, &mut test.met);
+            expected.errors.splice(..0, BROKEN_OFF.bytes());
         }
+        let case = format!("data of {size} bytes, and a fault after {count}");
+        test.expect(&case, before, WAVE.run(Input::BrokenOff(bytes)), &expected)?;
+    }
+    // No wave file: the fault is told where it comes ahead of the refusal.
+    for (count, told) in [(FRONT - 1, BROKEN_OFF), (FRONT, "16\n")] {
+        let run = WAVE.run(Input::BrokenOff(&noise[..count]));
+        test.expect("no wave file", before, run, &Seen::nothing_but(told, before))?;
     }
     Ok(())
+}
+
+pub fn waves(test: &mut Test) -> Result<(), Difference> {
+    let sheet = with_sheet(&test.maker.sheet(4));
+    let folders = without_and_with_old(&sheet);
+    let noise = test.sound(Sound::Noise, FRAMES);
+    for before in &folders {
+        wave_faults(test, before, &noise)?;
+        // A heading is written for no frames, too.
+        let no_frames = heading(0);
+        let run = Run { output: Output::Full, ..WAVE.run(Input::Pipe(&no_frames)) };
+        test.expect("a full device", before, run, &Seen::nothing_but(FULL, before))?;
+    }
+    stops(test, WAVE, &folders[1..], &noise)
 }
