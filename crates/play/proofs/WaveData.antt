@@ -17,7 +17,7 @@ use Rattle.playing.specs.Turns.{PlayAsks, PlayGives}
 use Rattle.wave_reading.specs.declared.Located.{Located}
 use Rattle.wave_reading.specs.Walk.{located}
 use Rattle.wave_reading.specs.Reading.{missingOf, dataVerdict, readVerdict, dataOf}
-use Rattle.wave_reading.proofs.Inside.{located-within, located-behind, accepted-whole}
+use Rattle.wave_reading.proofs.Inside.{located-within, accepted-whole}
 use Rattle.wave_reading.proofs.Front.{located-front, verdict-front, data-front}
 use Rattle.wave_writing.specs.Writing.{mostData, sizeVerdict}
 use Rattle.wave_writing.proofs.Buffer.{size-fits}
@@ -57,9 +57,6 @@ module _ (u : Unit) (front : List ℕ) (place : Located) (ahead : ℕ) (asks : P
   pub begins-within : place .from ≤ length front
   begins-within = subst (λ (p : Located). p .from ≤ length front) (sym (asks .place-is)) (located-within front)
 
-  begins-behind : 8 ≤ place .from
-  begins-behind = subst (λ (p : Located). 8 ≤ p .from) (sym (asks .place-is)) (located-behind front leads)
-
   -- what the front has of the data
   abbrev first : List ℕ
   first = take (place .from + (place .size - ahead) - place .from) (drop (place .from) front)
@@ -79,7 +76,6 @@ module _ (u : Unit) (front : List ℕ) (place : Located) (ahead : ℕ) (asks : P
               arith,
               length-take (place .from + (place .size - ahead) - place .from) (drop (place .from) front),
               length-drop (place .from) front,
-              begins-behind,
               begins-within,
               asks .opened .front-few,
             );

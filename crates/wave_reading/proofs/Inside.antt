@@ -5,14 +5,14 @@ use mathlib.Core.List.{List}
 use Prim.Native.Nat.{ℕ, zero, suc, _+_, _-_, _≤_, _%_}
 use native.Mathlib.Omega.{arith}
 use borrow.Author.Tests.{leb-true, eqb-true, ltb-false}
-use lib.Dec.{T, eqb, ltb}
+use lib.Dec.{eqb, ltb}
 use lib.ListN.{length}
 use Rattle.integers.proofs.Order.{both-true}
 use Rattle.refusals.specs.Numbers.{isAccepted, unless}
 use Rattle.refusals.specs.declared.Verdict.{Verdict}
 use Rattle.refusals.specs.declared.Verdict.the-variants.{Accepted, NoWave, WaveFormat, NoData, InputLength}
 use Rattle.refusals.proofs.Laws.{first-both, first-accepted, first-refused, unless-accepted, passed, failed}
-use Rattle.wave.specs.Chunks.{fourAt, riff, wave, format, dataName, fileHeading, chunkHeading}
+use Rattle.wave.specs.Chunks.{fourAt, riff, wave, format, dataName, fileHeading}
 use Rattle.wave_reading.specs.declared.Located.{Located}
 use Rattle.wave_reading.specs.Walk.{chunk, chunks, nextAt, bodyAt, sizeAt, refused, misfits, hasHeading, located}
 use Rattle.wave_reading.specs.Reading.{missingOf, dataVerdict, readVerdict, found}
@@ -38,26 +38,6 @@ chunks-within (suc n) b at seen =
 pub located-within : (b : List ℕ) → located b .from ≤ length b
 unfolding located
 located-within b = either-within (length b) (hasHeading b) _ _ (λ _. chunks-within (length b) b fileHeading false) (λ _. omega arith)
-
--- and, where the walk leads to it, behind a chunk heading
-either-behind : (t : Bool) (p q : Located) → (isAccepted (p .verdict) ≡ true → chunkHeading ≤ p .from) → (isAccepted (q .verdict) ≡ true → chunkHeading ≤ q .from) → isAccepted (cond t p q .verdict) ≡ true → chunkHeading ≤ cond t p q .from
-either-behind true p q hp hq e = hp e
-either-behind false p q hp hq e = hq e
-
-none : (v : Verdict) → isAccepted v ≡ false → isAccepted v ≡ true → chunkHeading ≤ 0
-none v e f = absurd (subst T (sym (sym e ∙ f)) tt)
-
-chunks-behind : (n : ℕ) (b : List ℕ) (at : ℕ) (seen : Bool) → isAccepted (chunks n b at seen .verdict) ≡ true → chunkHeading ≤ chunks n b at seen .from
-unfolding chunks chunk
-chunks-behind zero b at seen = none NoData refl
-chunks-behind (suc n) b at seen =
-    either-behind (ltb (length b) (bodyAt at)) _ _ (none NoData refl)
-    (either-behind (eqb (fourAt b at) dataName) _ _ (either-behind seen _ _ (λ _. omega arith) (none WaveFormat refl))
-    (either-behind (misfits b at seen) _ _ (none WaveFormat refl) (chunks-behind n b (nextAt b at) (seen || eqb (fourAt b at) format))))
-
-pub located-behind : (b : List ℕ) → isAccepted (located b .verdict) ≡ true → chunkHeading ≤ located b .from
-unfolding located
-located-behind b = either-behind (hasHeading b) _ _ (chunks-behind (length b) b fileHeading false) (none NoWave refl)
 
 -- ---- where it ends
 
