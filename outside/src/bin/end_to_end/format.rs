@@ -13,7 +13,7 @@ use super::seen::Seen;
 pub struct Format {
     /// What play is called with.
     pub arguments: &'static [&'static [u8]],
-    /// The bytes of the input behind which every whole frame is heard at once: the front of a wave file, and a frame.
+    /// The bytes of the input behind which every whole frame is heard at once: the front of a wave file.
     pub front: usize,
     /// What stands ahead of so many bytes of frames.
     pub heading: fn(usize) -> Vec<u8>,
@@ -25,7 +25,7 @@ pub const RAW: Format = Format { arguments: &[], front: 0, heading: |_| Vec::new
 
 pub const WAVE: Format = Format {
     arguments: &[b"--wave"],
-    front: FRONT + 4,
+    front: FRONT,
     heading: |size| heading(size as u32).to_vec(),
     expected: expected::wave,
 };
