@@ -1,5 +1,5 @@
-// What the programs decide, on values: play for the bytes of a sheet, the data of a wave file and at the end of a sound, desk for the numbers of its arguments and a
-// sheet. The programs read, ask here, and write what is answered.
+// What the programs decide, on values: play for the bytes of a sheet, for the data of a wave file and at the end of a sound, desk for the numbers
+// that arguments stand for and for a sheet. The programs read, ask here, and write what is answered.
 ghost use mathlib.Core.Path.{_≡_};
 ghost use Rattle.order_lists.specs.Lists.{ordersIn};
 ghost use Rattle.decisions.specs.Decisions.{opened, endingOf, canPlay, waveVerdict, waveEndingOf, isCall, deskVerdict, deskSheet};

@@ -71,12 +71,12 @@ fn sound(unit: Unit, input: &mut [u8], count: usize, output: &mut [u8]) -> Sound
 {
     let piece = &input[..count];
     let advanced = stream::advance(unit, piece, output);
-    let after = advanced.unit;
+    let later = advanced.unit;
     let played = advanced.played;
     let is_written = send(unit, piece, &output[..played]);
     stream::keep_tail(&mut input[..count], played);
     Sounded {
-        unit: after,
+        unit: later,
         held: advanced.held,
         is_written,
     }

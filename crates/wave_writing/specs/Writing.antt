@@ -25,7 +25,7 @@ heading n =
     ++ twoBytes pcm ++ twoBytes sides ++ fourBytes rate ++ fourBytes byteRate ++ twoBytes frameBytes ++ twoBytes bits
     ++ fourBytes dataName ++ fourBytes n
 
--- "more than 4,294,967,256 bytes to write"
+-- the most bytes of data: the largest multiple of four whose RIFF size four bytes hold
 abbrev pub mostData : ℕ
 mostData = 4294967256
 
@@ -41,6 +41,6 @@ writeVerdict n room = firstOf (sizeVerdict n) (unless (leb (headingSize + n) roo
 unfoldable pub waveOf : List ℕ → List ℕ
 waveOf d = heading (length d) ++ d
 
--- the buffer afterwards: "a refusal writes nothing, and bytes behind the written file stay"
+-- the buffer afterwards: "A refusal writes nothing, and bytes behind the written file stay"
 unfoldable pub written : List ℕ → List ℕ → List ℕ
 written d out = cond (isAccepted (writeVerdict (length d) (length out))) (waveOf d ++ drop (headingSize + length d) out) out

@@ -46,56 +46,24 @@ pub fn check_size(size: usize) -> Verdict
     Verdict::Accepted
 }
 
+// The heading of a file with no frames, both sizes 0: `fmt ` has 16 bytes, and says PCM, two sides, 44,100, 176,400, four bytes a frame, 16 bits.
+const PLAIN: [u8; HEADING_SIZE] =
+    *b"RIFF\0\0\0\0WAVEfmt \x10\0\0\0\x01\0\x02\0\x44\xac\0\0\x10\xb1\x02\0\x04\0\x10\0data\0\0\0\0";
+
 // The heading of a file with so many bytes of frames.
 pub fn heading(size: usize) -> [u8; HEADING_SIZE]
     requires { ⌜ size ≤ mostData ⌝ }
     ensures { λ r. ⌜ r ≡ headingOf size ⌝ }
 {
     let rest = RIFF_REST + size;
-    [
-        b'R',
-        b'I',
-        b'F',
-        b'F',
-        wave::byte_of(rest, 1),
-        wave::byte_of(rest, 256),
-        wave::byte_of(rest, 65536),
-        wave::byte_of(rest, 16777216),
-        b'W',
-        b'A',
-        b'V',
-        b'E',
-        b'f',
-        b'm',
-        b't',
-        b' ',
-        16,
-        0,
-        0,
-        0,
-        1,
-        0,
-        2,
-        0,
-        68,
-        172,
-        0,
-        0,
-        16,
-        177,
-        2,
-        0,
-        4,
-        0,
-        16,
-        0,
-        b'd',
-        b'a',
-        b't',
-        b'a',
-        wave::byte_of(size, 1),
-        wave::byte_of(size, 256),
-        wave::byte_of(size, 65536),
-        wave::byte_of(size, 16777216),
-    ]
+    let mut bytes = PLAIN;
+    bytes[4] = wave::byte_of(rest, 1);
+    bytes[5] = wave::byte_of(rest, 256);
+    bytes[6] = wave::byte_of(rest, 65536);
+    bytes[7] = wave::byte_of(rest, 16777216);
+    bytes[40] = wave::byte_of(size, 1);
+    bytes[41] = wave::byte_of(size, 256);
+    bytes[42] = wave::byte_of(size, 65536);
+    bytes[43] = wave::byte_of(size, 16777216);
+    bytes
 }

@@ -1,4 +1,4 @@
--- `wave_writing::heading` meets its contract: the bytes of both sizes, among those of the other numbers.
+-- `wave_writing::heading` meets its contract: the bytes of both sizes stand in their places of the plain heading.
 use borrow.Author.Needs.{needs}
 use Rattle.wave_writing.specs.Writing.{heading}
 use Rattle.wave_writing.proofs.heading.Statement.{statement}
@@ -24,11 +24,19 @@ heading-spec =
     (tie.spec
     (λ c. search needs)
     (λ c κs. search needs)
+    (λ c. search needs)
     (λ c κs. search needs)
+    (λ c. search needs)
     (λ c κs. search needs)
+    (λ c. search needs)
     (λ c κs. search needs)
+    (λ c. search needs)
     (λ c κs. search needs)
+    (λ c. search needs)
     (λ c κs. search needs)
+    (λ c. search needs)
     (λ c κs. search needs)
+    (λ c. search needs)
     (λ c κs. search needs)
+    (λ c. search needs)
     returns)

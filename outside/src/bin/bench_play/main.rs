@@ -1,5 +1,5 @@
-//! Times the play program on four minutes of noise against the bare engine of the static library and against sox with
-//! ten equalisers, and looks at its memory. Exit status 0 only if all limits are kept.
+//! Times the play program on four minutes of noise, as raw frames and as a wave file, against the bare engine of the
+//! static library and against sox with ten equalisers, and looks at its memory. Exit status 0 only if all limits are kept.
 //!
 //!     bench_play [--play PATH] [--need-sox]
 
@@ -46,15 +46,18 @@ fn arguments() -> Option<(PathBuf, bool)> {
     Some((play, need_sox))
 }
 
-/// Play and another in turns: this time of theirs.
-fn race(
-    material: &Material,
-    name: &str,
-    other: fn(&Material) -> Result<Times, String>,
-    which: usize,
-) -> Result<[f64; 2], String> {
-    let best = in_turns(RUNS, [&mut || Ok((programs::play(material)?, 0)), &mut || Ok((other(material)?, 0))])?;
-    for (name, times) in ["play", name].iter().zip(best) {
+/// What is timed: a name and a run.
+type Racer = (&'static str, fn(&Material) -> Result<Times, String>);
+const RAW: Racer = ("play", programs::play);
+const WAVE: Racer = ("play --wave", programs::play_wave);
+const ENGINE: Racer = ("engine", programs::engine);
+const SOX: Racer = ("sox", programs::sox);
+
+/// Two in turns: this time of theirs.
+fn race(material: &Material, racers: [Racer; 2], which: usize) -> Result<[f64; 2], String> {
+    let [first, second] = racers.map(|(_, run)| run);
+    let best = in_turns(RUNS, [&mut || Ok((first(material)?, 0)), &mut || Ok((second(material)?, 0))])?;
+    for ((name, _), times) in racers.iter().zip(best) {
         let times_told: Vec<String> =
             times.iter().zip(NAMES).map(|(time, what)| format!("{time:.3} s {what}")).collect();
         let real_time = (FRAMES / RATE) as f64 / times[2];
@@ -76,10 +79,12 @@ fn everything(play: &Path, need_sox: bool) -> Result<bool, String> {
     let material = Material::new(play).map_err(|error| format!("the noise: {error}"))?;
     println!("seed {SEED:#x}, {FRAMES} frames of noise, best of {RUNS} runs each, in turns");
     let mut all_kept = kept("the memory", || memory_below(&material, MEMORY))?;
-    let engine = || race(&material, "engine", programs::engine, USER_AND_SYSTEM);
-    all_kept &= within("play and the engine", MOST_OF_ENGINE, engine)?;
+    for player in [RAW, WAVE] {
+        let engine = || race(&material, [player, ENGINE], USER_AND_SYSTEM);
+        all_kept &= within(&format!("{} and the engine", player.0), MOST_OF_ENGINE, engine)?;
+    }
     if programs::has_sox() {
-        all_kept &= within("play and sox", MOST_OF_SOX, || race(&material, "sox", programs::sox, USER))?;
+        all_kept &= within("play and sox", MOST_OF_SOX, || race(&material, [RAW, SOX], USER))?;
     } else if need_sox {
         return Err("sox is not installed".to_string());
     } else {

@@ -9,13 +9,14 @@ use outside::reference::ACCEPTED;
 use outside::temporary::Temporary;
 use outside::unit::orders::{exact::order, Order, BOTH, VOLUME_BAND};
 use outside::unit::{house_unit, Numbers};
+use outside::wave;
 
 pub const SEED: u64 = 0xF0DD_00E0;
 /// Four minutes at 44.1 kHz.
 pub const RATE: usize = 44_100;
 pub const FRAMES: usize = 4 * 60 * RATE;
 
-/// The play program, a folder with the sheet, and the sound as a file beside it and in memory.
+/// The play program, a folder with the sheet, and the sound as raw frames and as a wave file beside it, and in memory.
 pub struct Material {
     pub play: PathBuf,
     pub folder: Temporary,
@@ -40,12 +41,18 @@ impl Material {
         let noise = (0..FRAMES / 2).flat_map(|_| random.draw().to_le_bytes()).collect();
         let material = Material { play, folder: Temporary::new("bench_play")?, unit: unit(), noise };
         fs::write(material.noise_path(), &material.noise)?;
+        let heading = wave::heading(material.noise.len() as u32);
+        fs::write(material.wave_path(), [&heading[..], &material.noise].concat())?;
         fs::write(material.folder.path().join("strip.sht"), sheet_of(&material.unit))?;
         Ok(material)
     }
 
     pub fn noise_path(&self) -> PathBuf {
         self.folder.path().join("noise.raw")
+    }
+
+    pub fn wave_path(&self) -> PathBuf {
+        self.folder.path().join("noise.wav")
     }
 
     /// The sheet that the play program wrote.

@@ -3,6 +3,7 @@
 use std::fs::{self, File};
 use std::hint::black_box;
 use std::io::{Read, Write};
+use std::path::Path;
 use std::process::{Child, ChildStdin, ChildStdout, Command, Stdio};
 use std::sync::mpsc;
 use std::thread;
@@ -46,12 +47,22 @@ fn timed(mut command: Command, silent: bool) -> Result<Times, String> {
     Ok(times(used, begun.elapsed()))
 }
 
-/// The play program with its input from the file and its sound to nowhere.
-pub fn play(material: &Material) -> Result<Times, String> {
-    let noise = File::open(material.noise_path()).map_err(|error| format!("the noise: {error}"))?;
+/// The play program with these arguments, its input from the file and its sound to nowhere.
+fn play_file(material: &Material, arguments: &[&str], path: &Path) -> Result<Times, String> {
+    let noise = File::open(path).map_err(|error| format!("the noise: {error}"))?;
     let mut command = Command::new(&material.play);
-    command.current_dir(material.folder.path()).stdin(noise);
+    command.args(arguments).current_dir(material.folder.path()).stdin(noise);
     timed(command, true).map_err(|fault| format!("play: {fault}"))
+}
+
+/// The play program on raw frames.
+pub fn play(material: &Material) -> Result<Times, String> {
+    play_file(material, &[], &material.noise_path())
+}
+
+/// The play program on the wave file.
+pub fn play_wave(material: &Material) -> Result<Times, String> {
+    play_file(material, &["--wave"], &material.wave_path())
 }
 
 /// True where the program sox is there.
