@@ -1,6 +1,6 @@
 -- The data of a wave file, played: what the front has of it, and what comes behind.
 use mathlib.Core.Path.{_≡_, refl, sym, ap, ap₂, _∙_, subst}
-use mathlib.Core.Bool.{Bool, true, false, not, _&&_}
+use mathlib.Core.Bool.{true, not}
 use mathlib.Core.List.{List, [], _∷_, _++_}
 use Prim.Native.Nat.{ℕ, zero, suc, _+_, _-_, _≤_, _<_}
 use native.Mathlib.Omega.{arith}
@@ -21,7 +21,7 @@ use Rattle.wave_reading.proofs.Inside.{located-within, accepted-whole}
 use Rattle.wave_reading.proofs.Front.{located-front, verdict-front, data-front}
 use Rattle.wave_writing.specs.Writing.{mostData, sizeVerdict}
 use Rattle.wave_writing.proofs.Buffer.{size-fits}
-use Rattle.decisions.specs.Decisions.{canPlay, waveVerdict, waveEndingOf}
+use Rattle.decisions.specs.Decisions.{waveVerdict, waveEndingOf}
 use Rattle.play.specs.Waves.{PlayDataAsks, WaveGives, SaveWaveAsks}
 
 -- ---- a part of a list that ends behind it

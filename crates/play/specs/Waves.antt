@@ -14,7 +14,7 @@ use Rattle.playing.specs.Turns.{readSize}
 use Rattle.wave_reading.specs.declared.Located.{Located}
 use Rattle.wave_reading.specs.Walk.{located}
 use Rattle.wave_reading.specs.Reading.{missingOf, readVerdict, dataOf}
-use Rattle.decisions.specs.Decisions.{canPlay, waveVerdict}
+use Rattle.decisions.specs.Decisions.{canPlay}
 
 -- the unit can play, and the front is what one buffer holds
 pub record OpenFrontAsks (u : Unit) (front : List ℕ) : Type 0 where

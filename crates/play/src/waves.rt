@@ -1,10 +1,7 @@
 // A pass of a wave file, from standard input to standard output. The chunks ahead of the data are looked for in the front of the file, as many
 // bytes as the buffer has; the rest is played as it comes.
 ghost use mathlib.Core.Path.{_≡_};
-ghost use Prim.Native.Nat.{_≤_};
-ghost use lib.ListN.{length};
 ghost use Rattle.stream.specs.Claim.{begun as begunWith, Ready};
-ghost use Rattle.playing.specs.Turns.{readSize};
 ghost use Rattle.wave_reading.specs.Walk.{located};
 ghost use Rattle.wave_writing.specs.Writing.{heading};
 ghost use Rattle.decisions.specs.Decisions.{waveEndingOf};

@@ -2,16 +2,16 @@
 use mathlib.Core.Path.{_≡_, refl, sym, ap, ap₂, _∙_, subst}
 use mathlib.Core.Bool.{Bool, true, false, cond, not, _&&_, _||_}
 use mathlib.Core.List.{List, _++_}
-use Prim.Native.Nat.{ℕ, zero, suc, _+_, _-_, _≤_, _<_}
+use Prim.Native.Nat.{ℕ, zero, suc, _+_, _-_, _≤_}
 use native.Mathlib.Omega.{arith}
 use borrow.Author.Tests.{leb-true, le-leb, le-ltb, ltb-false}
 use lib.Dec.{T, eqb, leb, ltb}
 use lib.ListN.{length, take, drop, length-append, List·getD-append}
 use Rattle.integers.proofs.Order.{both-true}
 use Rattle.refusals.specs.Numbers.{isAccepted}
-use Rattle.refusals.specs.declared.Verdict.the-variants.{Accepted, NoWave, WaveFormat, NoData}
+use Rattle.refusals.specs.declared.Verdict.the-variants.{NoWave, WaveFormat, NoData}
 use Rattle.refusals.proofs.Laws.{first-accepted}
-use Rattle.wave.specs.Chunks.{twoAt, fourAt, riff, wave, format, dataName, fileHeading, formatSize}
+use Rattle.wave.specs.Chunks.{twoAt, fourAt, wave, format, dataName, fileHeading, formatSize}
 use Rattle.wave_reading.specs.declared.Located.{Located}
 use Rattle.wave_reading.specs.Walk.{hasHeading, sizeAt, bodyAt, endAt, nextAt, saysFormat, formatFits, misfits, dataFrom, refused, chunk, chunks, located}
 use Rattle.wave_reading.specs.Reading.{missingOf, dataVerdict, verdictAt, readVerdict, found, dataOf}

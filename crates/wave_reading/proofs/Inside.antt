@@ -1,5 +1,5 @@
 -- What is located begins within the file, and what is found lies within it.
-use mathlib.Core.Path.{_≡_, refl, sym, ap, _∙_, subst}
+use mathlib.Core.Path.{_≡_, refl, sym, ap, _∙_}
 use mathlib.Core.Bool.{Bool, true, false, cond, _||_}
 use mathlib.Core.List.{List}
 use Prim.Native.Nat.{ℕ, zero, suc, _+_, _-_, _≤_, _%_}
@@ -8,13 +8,13 @@ use borrow.Author.Tests.{leb-true, eqb-true, ltb-false}
 use lib.Dec.{eqb, ltb}
 use lib.ListN.{length}
 use Rattle.integers.proofs.Order.{both-true}
-use Rattle.refusals.specs.Numbers.{isAccepted, unless}
+use Rattle.refusals.specs.Numbers.{isAccepted}
 use Rattle.refusals.specs.declared.Verdict.{Verdict}
-use Rattle.refusals.specs.declared.Verdict.the-variants.{Accepted, NoWave, WaveFormat, NoData, InputLength}
+use Rattle.refusals.specs.declared.Verdict.the-variants.{Accepted, NoData, InputLength}
 use Rattle.refusals.proofs.Laws.{first-both, first-accepted, first-refused, unless-accepted, passed, failed}
 use Rattle.wave.specs.Chunks.{fourAt, riff, wave, format, dataName, fileHeading}
 use Rattle.wave_reading.specs.declared.Located.{Located}
-use Rattle.wave_reading.specs.Walk.{chunk, chunks, nextAt, bodyAt, sizeAt, refused, misfits, hasHeading, located}
+use Rattle.wave_reading.specs.Walk.{chunk, chunks, nextAt, bodyAt, refused, misfits, hasHeading, located}
 use Rattle.wave_reading.specs.Reading.{missingOf, dataVerdict, readVerdict, found}
 
 -- ---- where the data begins

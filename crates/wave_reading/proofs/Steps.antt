@@ -1,6 +1,6 @@
 -- The walk over the chunks, a chunk at a time. Once as many chunks are allowed as there are bytes, one more changes nothing, so the walk meets
 -- an equation of its own.
-use mathlib.Core.Path.{_≡_, refl, sym, ap, _∙_}
+use mathlib.Core.Path.{_≡_, ap, _∙_}
 use mathlib.Core.Bool.{Bool, true, false, _||_}
 use mathlib.Core.List.{List}
 use Prim.Native.Nat.{ℕ, zero, suc, _+_, _≤_, _<_}

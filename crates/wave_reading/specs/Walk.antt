@@ -1,5 +1,5 @@
 -- The walk over the chunks of a wave file, up to the data. Definitions only, by docs/SPECIFICATION.md, Wave files.
-use mathlib.Core.Bool.{Bool, true, false, cond, not, _&&_, _||_}
+use mathlib.Core.Bool.{Bool, false, cond, not, _&&_, _||_}
 use mathlib.Core.List.{List}
 use Prim.Native.Nat.{ℕ, zero, suc, _+_, _%_}
 use lib.Dec.{eqb, leb, ltb}

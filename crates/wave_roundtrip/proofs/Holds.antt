@@ -1,22 +1,21 @@
 -- The round trip of wave files: the walk over a written file passes its `fmt ` and comes to the frames.
-use mathlib.Core.Path.{_≡_, refl, sym, ap, ap₂, _∙_, subst}
-use mathlib.Core.Bool.{Bool, true, false, not, cond}
-use mathlib.Core.List.{List, [], _∷_, _++_, append-nil, append-assoc}
+use mathlib.Core.Path.{_≡_, refl, sym, ap, _∙_, subst}
+use mathlib.Core.Bool.{true, false, not}
+use mathlib.Core.List.{List, [], _++_, append-nil, append-assoc}
 use Prim.Native.Nat.{ℕ, _+_, _*_, _-_, _≤_, _<_, _%_, _/_}
 use native.Mathlib.Nat.{div-div-eq-div-mul, div-add-mod', mod-eq-of-lt, div-one}
 use native.Mathlib.Omega.{arith}
 use borrow.Author.Tests.{le-leb, eq-eqb}
-use lib.Dec.{leb, eqb}
+use lib.Dec.{eqb}
 use lib.ListN.{length, take, drop, length-append}
 use lib.Seq.{take-at, drop-at}
-use Rattle.refusals.specs.Numbers.{isAccepted}
 use Rattle.refusals.specs.declared.Verdict.the-variants.{Accepted}
 use Rattle.wave.specs.Chunks.{four, byteOf, twoAt, fourAt, dataName, numberEnd}
 use Rattle.wave_reading.specs.declared.Located.{Located}
 use Rattle.wave_reading.specs.Walk.{hasHeading, sizeAt, saysFormat, formatFits, misfits, chunks, located, dataFrom}
 use Rattle.wave_reading.specs.Reading.{readVerdict, found, dataOf}
 use Rattle.wave_reading.proofs.Steps.{walk-next, walk-data}
-use Rattle.wave_writing.specs.Writing.{heading, headingSize, mostData, sizeVerdict, writeVerdict, waveOf, written}
+use Rattle.wave_writing.specs.Writing.{heading, mostData, waveOf, written}
 use Rattle.wave_writing.proofs.Buffer.{length-heading, size-fits, write-fits, written-is}
 use Rattle.wave_roundtrip.specs.Claim.{ReadsAs, WaveRoundTrip}
 

@@ -1,14 +1,13 @@
 -- The buffer after a writing: as it was, or the heading, the frames, and what stood behind them.
 use mathlib.Core.Path.{_≡_, refl, sym, ap, ap₂, _∙_}
-use mathlib.Core.Bool.{Bool, true, false, cond}
-use mathlib.Core.List.{List, [], _∷_, _++_, append-assoc, append-nil}
+use mathlib.Core.Bool.{Bool, true, false}
+use mathlib.Core.List.{List, [], _++_, append-assoc, append-nil}
 use Prim.Native.Nat.{ℕ, _+_, _-_, _≤_, _<_, _%_}
-use native.Mathlib.Omega.{arith}
 use borrow.Author.Tests.{le-leb, lt-leb, eqb-true, leb-true}
 use lib.Dec.{eqb, leb}
 use lib.ListN.{length, take, drop, length-drop}
 use lib.Seq.{take-at, drop-at, drop-drop, drop-length, take-length}
-use Rattle.refusals.specs.Numbers.{isAccepted, unless, firstOf}
+use Rattle.refusals.specs.Numbers.{isAccepted, unless}
 use Rattle.refusals.specs.declared.Verdict.{Verdict}
 use Rattle.refusals.specs.declared.Verdict.the-variants.{Accepted, InputLength, OutputShort}
 use Rattle.refusals.proofs.Laws.{first-accepted, first-refused, first-both, unless-accepted}

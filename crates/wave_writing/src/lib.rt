@@ -1,6 +1,5 @@
 // Writing a wave file: the plain heading of 44 bytes, and the frames behind it.
 ghost use mathlib.Core.Path.{_≡_};
-ghost use mathlib.Core.Bool.{true};
 ghost use lib.ListN.{length};
 ghost use Prim.Native.Nat.{_≤_};
 ghost use Rattle.wave_writing.specs.Writing.{heading as headingOf, mostData, sizeVerdict, writeVerdict, written};

@@ -1,12 +1,11 @@
 -- `wave_writing::write` meets its contract: the heading is copied to the front of the buffer, and the frames behind it.
-use mathlib.Core.Path.{_≡_, sym, ap, _∙_}
+use mathlib.Core.Path.{sym, ap, _∙_}
 use mathlib.Core.List.{List, _++_}
 use Prim.Native.Nat.{ℕ, _+_}
 use lib.ListN.{length, drop}
 use borrow.Author.Tests.{not-true, not-false}
 use borrow.Author.Needs.{needs}
 use Rattle.refusals.specs.Numbers.{isAccepted}
-use Rattle.wave_writing.specs.Writing.{sizeVerdict, writeVerdict}
 use Rattle.wave_writing.proofs.Buffer.{size-fits, size-refused, room-refused, accepted, written-is, length-heading, assembled}
 use Rattle.wave_writing.proofs.write.Statement.{statement}
 use Rattle.wave_writing.proofs.write.Tie as tie

@@ -1,5 +1,5 @@
 -- `waves::play_data` is safe: what the front has of the data is a part of it, and the end of the pass is that of the file's data.
-use mathlib.Core.Path.{sym, ap, _∙_}
+use mathlib.Core.Path.{ap, _∙_}
 use denote.Ref.{now}
 use borrow.Author.Needs.{needs}
 use Rattle.wave_reading.specs.declared.Located.{Located}
