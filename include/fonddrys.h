@@ -133,7 +133,8 @@ uint32_t fonddrys_order_position(fonddrys_unit *unit, uint32_t side, uint32_t ba
  * Answers 0, or 14, 1, 3, 4. */
 uint32_t fonddrys_order_factor(fonddrys_unit *unit, uint32_t side, uint32_t band, float factor);
 
-/* To mute: the target 0. Answers 0, or 14, 1. */
+/* To mute. The target of a band is -8,388,608: a band of the house set then nearly cancels the
+ * sound at its centre. That of the volume is 0. Answers 0, or 14, 1. */
 uint32_t fonddrys_order_mute(fonddrys_unit *unit, uint32_t side, uint32_t band);
 
 /* ---- Blocks of frames --------------------------------------------------------------------- */

@@ -46,10 +46,11 @@ pub const RUN_RESULTS: [i32; 3] = [403, 1_208, 1_607];
 pub const QUIET: [(i32, i32, u8); 7] =
     [(0, 0, 0), (419, 419, 2), (420, 419, 2), (8_388_607, 419, 2), (418, 418, 2), (256, 256, 1), (128, 128, 0)];
 
-/// "From 0, position 31 takes 9,989 frames for a band, 20,021 for the volume." The target, the way of a frame and the
-/// frames.
+/// "From 0, position 31 takes 9,989 frames for a band, 20,021 for the volume; mute takes 9,999 for a band." The target,
+/// the way of a frame and the frames.
 pub const BAND_31: (i32, i32, i32) = (8_380_215, 839, 9_989);
 pub const VOLUME_31: (i32, i32, i32) = (8_388_600, 419, 20_021);
+pub const BAND_MUTED: (i32, i32, i32) = (-8_388_608, -839, 9_999);
 
 /// The target that an order sets, or its refusal.
 pub type Wanted = Result<i32, u32>;

@@ -79,7 +79,8 @@ static void test_bands(void)
     }
 }
 
-/* Orders to a unit with one target of 7: accepted, the number at the place is then the target. */
+/* Orders to a unit with the volume's target and one of a gain at 7: accepted, the number at the
+ * place is then the target. */
 static const struct order {
     enum { POSITION, FACTOR, MUTE } kind;
     uint32_t side, band;
@@ -95,7 +96,8 @@ static const struct order {
     {FACTOR, 3, 0, 0, NAN, 1, 0, 0},
     {FACTOR, 2, 0, 0, INFINITY, 3, 0, 0},
     {FACTOR, 2, 0, 0, 1.0f, 4, 0, 0},
-    {MUTE, 0, 3, 0, 0, 0, FONDDRYS_AT_GAIN_TARGET(0, 3), 0},
+    {MUTE, 0, 3, 0, 0, 0, FONDDRYS_AT_GAIN_TARGET(0, 3), -8388608},
+    {MUTE, 2, 10, 0, 0, 0, FONDDRYS_AT_VOLUME_TARGET, 0},
     {MUTE, 2, 11, 0, 0, 1, 0, 0},
 };
 
@@ -113,7 +115,7 @@ static void test_orders(void)
     for (size_t i = 0; i < COUNT(orders); i++) {
         const fonddrys_unit unfit = unit_with(-1, 0, 0);
         fonddrys_unit refused = unfit;
-        fonddrys_unit unit = unit_with(0, 0, 0);
+        fonddrys_unit unit = unit_with(7, 0, 0);
         unit.numbers[FONDDRYS_AT_GAIN_TARGET(0, 3)] = 7;
         fonddrys_unit want = unit;
         if (orders[i].want == 0) {

@@ -10,12 +10,13 @@ use Rattle.bands.specs.House.{houseSet}
 use Rattle.settings.specs.declared.Setting.the-variants.{Position, Factor, Mute}
 use Rattle.closeness.specs.Claim.{Call, order, block, Exact, silent, allExacts}
 
--- with the house set: the volume to position 31; the left 16 kHz band to the factor 1/2; an order for a side that is not there; a block
--- of three bytes; and the frames (32767, -32768) and (-32768, 32767)
+-- with the house set: the volume to position 31; the left 16 kHz band to the factor 1/2; the left 62 Hz band muted; an order for a side
+-- that is not there; a block of three bytes; and the frames (32767, -32768) and (-32768, 32767)
 abbrev pub exampleCalls : List Call
 exampleCalls =
     order 2 10 (Position 31)
     ∷ order 0 9 (Factor (fin false 1 (negsuc 0)))
+    ∷ order 0 1 Mute
     ∷ order 3 0 Mute
     ∷ block (1 ∷ 2 ∷ 3 ∷ []) (replicate 3 7)
     ∷ block (255 ∷ 127 ∷ 0 ∷ 128 ∷ 0 ∷ 128 ∷ 255 ∷ 127 ∷ []) (replicate 9 7)
@@ -33,10 +34,10 @@ abbrev pub second : Exact
 second = getD (allExacts 2 0 houseSet exampleCalls) 1 silent
 
 abbrev pub secondOutput : ℤ
-secondOutput = negℤ (pos 1037518747253361699215064330240)
+secondOutput = negℤ (pos 1037519395682638678721079631872)
 
 abbrev pub secondBound : ℕ
-secondBound = 316912773770710131934844944384
+secondBound = 316912773844765107465652011008
 
 -- so many bands with the largest alpha, and the largest sample: a section limits
 abbrev pub loudSet : ℕ → List ℤ

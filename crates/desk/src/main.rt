@@ -41,6 +41,7 @@ fn tell(count: usize, first: &[u8], request: Request)
         &USAGE,
         b"Gives level orders to a strip sheet, 1 to 31 of them, all or none.\n\
           SIDE is 0 left, 1 right, 2 both. BAND is 0 to 9, or 10 for the volume, with side 2. POSITION is 0 to 31, or mute.\n\
+          At 16 a band is flat; muted, a band of the house set nearly cancels the sound at its centre. The volume is silent at 0 and muted.\n\
           A refusal is one line on standard error, its number, and nothing is written: 1 for a side and band that are not there,\n\
           2 for a position over 31, 8 to 14 for the sheet.\n",
     );

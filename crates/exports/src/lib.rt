@@ -152,8 +152,8 @@ pub extern "C" fn fonddrys_order_factor(
     lending::order(numbers, side, band, Setting::Factor(factor))
 }
 
-// Mutes a band of a side, or the volume (band 10 of side 2): the target 0. The lent numbers are then those of the unit after the
-// order. 0 for an accepted order, else the number of its refusal: the lent numbers are then as they were.
+// Mutes a band of a side, the target -8,388,608, or the volume (band 10 of side 2), the target 0. The lent numbers are then those of the
+// unit after the order. 0 for an accepted order, else the number of its refusal: the lent numbers are then as they were.
 #[no_mangle]
 pub extern "C" fn fonddrys_order_mute(
     numbers: &mut [i32; numbers::UNIT_SIZE],

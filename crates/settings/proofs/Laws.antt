@@ -138,18 +138,21 @@ target-volume side band setting e b = go setting (level-accepted side band setti
     go : (s : Setting) → isAccepted (levelVerdict band s) ≡ true → isVolume (targetOf band s) ≡ true
     go (Position p) a = simp is-volume (volume-position p (position-accepted band p a))
     go (Factor f) a = volume-target f (simp is-volume at (factor-accepted band f a))
-    go Mute a = refl
+    go Mute a = simp is-volume refl
 
 -- "Gains g are words": so are their targets
 pub target-word : (side band : ℕ) (setting : Setting) → isAccepted (orderArguments side band setting) ≡ true → isWord (targetOf band setting) ≡ true
 unfolding targetOf within
 target-word side band setting e = go setting (level-accepted side band setting e)
   where
+    either : (t : Bool) (v g : ℤ) → isWord v ≡ true → isWord g ≡ true → isWord (cond t v g) ≡ true
+    either true v g hv hg = hv
+    either false v g hv hg = hg
+
     go : (s : Setting) → isAccepted (levelVerdict band s) ≡ true → isWord (targetOf band s) ≡ true
-    go (Position p) a = either (eqb band volumeBand)
-      where
-        either : (t : Bool) → isWord (cond t (volumePosition p) (bandPosition p)) ≡ true
-        either true = volume-word (volumePosition p) (volume-position p (position-accepted band p a))
-        either false = band-position p (position-accepted band p a)
+    go (Position p) a =
+        either (eqb band volumeBand) (volumePosition p) (bandPosition p)
+        (volume-word (volumePosition p) (volume-position p (position-accepted band p a)))
+        (band-position p (position-accepted band p a))
     go (Factor f) a = factor-word f
-    go Mute a = refl
+    go Mute a = either (eqb band volumeBand) (pos 0) wordLow refl refl

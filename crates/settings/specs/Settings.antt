@@ -8,6 +8,7 @@ use Rattle.refusals.specs.Numbers.{unless}
 use Rattle.refusals.specs.declared.Verdict.{Verdict}
 use Rattle.refusals.specs.declared.Verdict.the-variants.{Accepted, NoPlace, PositionOver, NotFinite, FactorRange}
 use Rattle.bands.specs.Bands.{bandCount}
+use Rattle.bands.specs.Words.{wordLow}
 use Rattle.floats.specs.Value.{isFinite, inRange, bandLowest, volumeLowest, factorTarget}
 use Rattle.settings.specs.declared.Setting.{Setting}
 use Rattle.settings.specs.declared.Setting.the-variants.{Position, Factor, Mute}
@@ -51,11 +52,11 @@ bandPosition p = (pos p -ℤ pos middlePosition) *ℤ bandStep p
 unfoldable pub volumePosition : ℕ → ℤ
 volumePosition p = pos p *ℤ pos 270600
 
--- the target that a level gives to this band, or to the volume. "Mute sets the target 0"
+-- the target that a level gives to this band, or to the volume. "Mute sets a band's target to -8,388,608; it sets the volume's to 0"
 unfoldable pub targetOf : ℕ → Setting → ℤ
 targetOf band (Position p) = cond (eqb band volumeBand) (volumePosition p) (bandPosition p)
 targetOf band (Factor f) = factorTarget f
-targetOf band Mute = pos 0
+targetOf band Mute = cond (eqb band volumeBand) (pos 0) wordLow
 
 -- ---- refusals
 

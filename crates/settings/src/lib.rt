@@ -24,6 +24,11 @@ const STEP_BELOW: i64 = 104857;
 
 const VOLUME_STEP: i64 = 270600;
 
+// The target of a muted band, and that of the muted volume.
+const MUTED_GAIN: i64 = bands::WORD_LOW;
+
+const MUTED_VOLUME: i64 = 0;
+
 // "A level is a position, a factor as an f32, or mute": what an order asks for.
 pub enum Setting {
     Position(u8),
@@ -106,7 +111,7 @@ pub fn target_of(band: u32, setting: Setting) -> i64
     match setting {
         Setting::Position(position) => position_target(band, position),
         Setting::Factor(factor) => floats::factor_target(factor),
-        Setting::Mute => 0,
+        Setting::Mute => muted_target(band),
     }
 }
 
@@ -120,6 +125,16 @@ fn position_target(band: u32, position: u8) -> i64
     }
     let step = band_step(position);
     (p - MIDDLE_POSITION as i64) * step
+}
+
+// The target of mute: a band goes to the lowest gain, the volume to silence.
+fn muted_target(band: u32) -> i64
+    ensures { λ r. ⌜ r ≡ targetOf band Setting.Mute ⌝ }
+{
+    if band == VOLUME_BAND {
+        return MUTED_VOLUME;
+    }
+    MUTED_GAIN
 }
 
 // What a position is worth to a band: more above the middle than below it.

@@ -156,16 +156,18 @@ pub fn of_orders(run: &mut Run) -> Checked {
     for (position, of_band, of_volume) in POSITIONS {
         run.every_place(|side, band| Order::position(side, band, position), Ok(of_band), Ok(of_volume))?;
     }
-    run.every_place(Order::mute, Ok(0), Ok(0))?;
-    for (side, band, level, figure) in [
-        (0, 0, gain(LEFT, 0), BAND_31),
-        (1, 9, gain(RIGHT, 9), BAND_31),
-        (BOTH, 4, gain(LEFT, 4), BAND_31),
-        (BOTH, 4, gain(RIGHT, 4), BAND_31),
-        (BOTH, VOLUME_BAND, VOLUME, VOLUME_31),
+    run.every_place(Order::mute, Ok(BAND_MUTED.0), Ok(0))?;
+    for (order, level, figure) in [
+        (Order::position(0, 0, 31), gain(LEFT, 0), BAND_31),
+        (Order::position(1, 9, 31), gain(RIGHT, 9), BAND_31),
+        (Order::position(BOTH, 4, 31), gain(LEFT, 4), BAND_31),
+        (Order::position(BOTH, 4, 31), gain(RIGHT, 4), BAND_31),
+        (Order::position(BOTH, VOLUME_BAND, 31), VOLUME, VOLUME_31),
+        (Order::mute(0, 1), gain(LEFT, 1), BAND_MUTED),
+        (Order::mute(BOTH, 9), gain(RIGHT, 9), BAND_MUTED),
     ] {
         let mut numbers = house_unit();
-        run.order(&mut numbers, &Order::position(side, band, 31))?;
+        run.order(&mut numbers, &order)?;
         run.slope(numbers, level, figure)?;
     }
     Ok(())

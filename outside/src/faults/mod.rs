@@ -190,6 +190,16 @@ wrong! {
             Setting::Factor(f) => ((f64::from(f) * 8_388_608.0 + 0.5).floor() as i32).min(WORD_MAX),
             _ => right,
         });
+    "a muted band left flat" [ORDERS ORDER_FIGURES LISTS_OF_CALLS DISTANCE]
+        order = |unit, given| order_with(unit, given, |right| match given.setting {
+            Setting::Mute => 0,
+            _ => right,
+        });
+    "a muted band one above the lowest gain" [ORDERS ORDER_FIGURES LISTS_OF_CALLS]
+        order = |unit, given| order_with(unit, given, |right| match given.setting {
+            Setting::Mute if !given.is_volume() => WORD_MIN + 1,
+            _ => right,
+        });
     "the volume accepted for side 0" [ORDERS FACTORS LISTS_OF_CALLS DISTANCE]
         order = |unit, given| match given.side {
             0 if given.is_volume() => order(unit, &Order { side: BOTH, ..*given }),

@@ -30,8 +30,10 @@ returns-2 c =
     ∙ sym (ap (targetOf (c .before .before .before .before .args .band)) (c .before .before .setting2 .given .1))
 
 returns-3 : tie.Need-returns-3
-unfolding targetOf
-returns-3 c = sym (ap (targetOf (c .before .before .args .band)) (c .enum-told .given .1))
+returns-3 c =
+    toZ-ofZ {w = w64} (record { sfits = c .muted-target .ok })
+    ∙ c .muted-target .ensures
+    ∙ sym (ap (targetOf (c .before .before .before .args .band)) (c .before .enum-told .given .1))
 
 pub target-of-spec : {M : Type 1} → statement M
 target-of-spec =
@@ -42,6 +44,7 @@ target-of-spec =
     (λ c. search needs)
     factor-target-requires
     (λ c. search needs)
+    (λ c κs. search needs)
     returns
     returns-2
     returns-3)

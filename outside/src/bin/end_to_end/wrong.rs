@@ -78,8 +78,9 @@ pub const WRONG: [Wrong; 49] = [
         r#"exec "$0" "$@" >/dev/null"#),
     ("house-waits", "house waits for the end of its input", &[HOUSE], "house",
         r#"cat >/dev/null 2>&1; exec "$0" "$@""#),
-    ("mute-as-16", "mute is position 16", &[DESK], "desk orders, chains",
-        r#"for word; do shift; [ "$word" != mute ] || word=16; set -- "$@" "$word"; done; exec "$0" "$@""#),
+    ("flat-mute", "a muted band is at position 16", &[DESK], "desk orders, chains",
+        r#"list=; while [ $# -gt 2 ]; do at=$3; case $2-$3 in 10-mute) ;; *-mute) at=16 ;; esac; list="$list $1 $2 $at"; shift 3; done
+        exec "$0" $list "$@""#),
     ("desk-one-read", "desk takes what one read gives as the sheet", &[DESK], "desk orders",
         r#"dd bs=4K count=1 status=none 2>/dev/null | "$0" "$@""#),
     ("desk-reversed", "the last of several orders comes first", &[DESK], "desk orders, desk refusals",

@@ -4,7 +4,7 @@
 pub mod exact;
 pub mod fast;
 
-use crate::reference::ACCEPTED;
+use crate::reference::{ACCEPTED, WORD_MIN};
 
 /// "The desk: 1 no such side and band; 2 position over 31; 3 factor not finite; 4 factor outside its range."
 pub const NO_SIDE_AND_BAND: u32 = 1;
@@ -79,12 +79,14 @@ fn refusal_by(order: &Order, factor: impl Fn(f32, bool) -> u32) -> u32 {
     }
 }
 
-/// The target that an accepted order sets, "Mute sets the target 0"; a factor's is worked by the given function.
+/// The target that an accepted order sets, "Mute sets a band's target to -8,388,608; it sets the volume's to 0"; a
+/// factor's is worked by the given function.
 fn target_by(order: &Order, factor: impl Fn(f32) -> i32) -> i32 {
     match order.setting {
         Setting::Position(position) => position_target(position, order.is_volume()),
         Setting::Factor(f) => factor(f),
-        Setting::Mute => 0,
+        Setting::Mute if order.is_volume() => 0,
+        Setting::Mute => WORD_MIN,
     }
 }
 

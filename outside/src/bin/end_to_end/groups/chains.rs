@@ -81,5 +81,6 @@ pub fn all(test: &mut Test) -> Result<(), Difference> {
     played(test, &two, &bytes)?;
     played(test, &two, &bytes[..4 * FRAMES - 1])?;
     played_on(test, &two, "2 10 mute", &bytes)?;
+    played_on(test, &two, "0 3 mute", &bytes)?;
     played_on(test, &two, "1 3 0 2 10 31", &bytes)
 }
