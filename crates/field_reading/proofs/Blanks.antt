@@ -1,8 +1,9 @@
 -- The blanks that bytes begin with: counted one by one, and told from bytes taken as one number.
-use mathlib.Core.Bool.{Bool, true, false, cond, _&&_}
+use mathlib.Core.Bool.{Bool, true, false, cond, _&&_, and-true, and-assoc}
 use mathlib.Core.List.{List, [], _∷_}
-use mathlib.Core.Path.{_≡_, refl, sym, ap, _∙_}
+use mathlib.Core.Path.{_≡_, refl, sym, ap, ap₂, _∙_}
 use Prim.Native.Nat.{ℕ, zero, suc, _+_, _*_, _≤_, _<_}
+use native.Mathlib.Nat.{zero-add, add-zero}
 use native.Mathlib.Numerals.{add-one}
 use native.Mathlib.Omega.{arith}
 use lib.Dec.{eqb, eqb·zero-suc, eqb·suc-suc}
@@ -60,15 +61,32 @@ count-test true m n = sym (eqb·suc-suc m n)
 count-test false m n = sym (eqb·zero-suc n)
 
 module _ (bytes : List ℕ) (at end : ℕ) (long : end ≤ length bytes) (small : (i : ℕ) → getD bytes i 0 < 256) where
-  -- bytes are all blank where they make the number of as many blanks
-  pub blank-word : (n k : ℕ) → at + k + n ≡ end
-      → eqb (wordFrom (λ (i : ℕ). getD bytes (at + i) 0) n k) (wordFrom (λ (i : ℕ). blank) n k) ≡ eqb (blanksOf (slice (at + k) end bytes)) n
-  blank-word zero k e = sym (eq-eqb (blanksOf (slice (at + k) end bytes)) 0 (none-left bytes (at + k) end (omega arith)))
-  blank-word (suc n) k e =
-      let byte : ℕ → ℕ = λ i. getD bytes (at + i) 0 in
+  abbrev byte : ℕ → ℕ
+  byte i = getD bytes (at + i) 0
+
+  -- n bytes make the number of n blanks and m blanks follow where there are n + m
+  pub blank-word : (n k m : ℕ) → at + k + n ≤ end
+      → eqb (wordFrom byte n k) (wordFrom (λ (i : ℕ). blank) n k) && eqb (blanksOf (slice (at + (k + n)) end bytes)) m
+      ≡ eqb (blanksOf (slice (at + k) end bytes)) (n + m)
+  blank-word zero k m h = ap₂ (λ (i s : ℕ). eqb (blanksOf (slice (at + i) end bytes)) s) (add-zero k) (sym (zero-add m))
+  blank-word (suc n) k m h =
       let next : at + suc k ≡ at + k + 1 = omega arith in
-      word-test (byte k) blank (wordFrom byte n (suc k)) (wordFrom (λ (i : ℕ). blank) n (suc k)) (small (at + k)) (omega arith)
-      ∙ ap (λ (t : Bool). eqb (byte k) blank && t) (blank-word n (suc k) (omega arith))
-      ∙ count-test (eqb (byte k) blank) (blanksOf (slice (at + suc k) end bytes)) n
-      ∙ ap (λ (i : ℕ). eqb (cond (eqb (byte k) blank) (suc (blanksOf (slice i end bytes))) 0) (suc n)) next
-      ∙ ap (λ (m : ℕ). eqb m (suc n)) (sym (blanks-first bytes (at + k) end (omega arith) long))
+      let place : k + suc n ≡ suc k + n = omega arith in
+      let total : suc n + m ≡ suc (n + m) = omega arith in
+      let rest = eqb (blanksOf (slice (at + (suc k + n)) end bytes)) m in
+      ap₂ (λ (t : Bool) (i : ℕ). t && eqb (blanksOf (slice (at + i) end bytes)) m)
+      (word-test (byte k) blank (wordFrom byte n (suc k)) (wordFrom (λ (i : ℕ). blank) n (suc k)) (small (at + k)) (omega arith)) place
+      ∙ and-assoc (eqb (byte k) blank) (eqb (wordFrom byte n (suc k)) (wordFrom (λ (i : ℕ). blank) n (suc k))) rest
+      ∙ ap (λ (t : Bool). eqb (byte k) blank && t) (blank-word n (suc k) m (omega arith))
+      ∙ count-test (eqb (byte k) blank) (blanksOf (slice (at + suc k) end bytes)) (n + m)
+      ∙ ap (λ (i : ℕ). eqb (cond (eqb (byte k) blank) (suc (blanksOf (slice i end bytes))) 0) (suc (n + m))) next
+      ∙ ap₂ eqb (sym (blanks-first bytes (at + k) end (omega arith) long)) (sym total)
+
+  -- up to the end there are n where n bytes make the number of n blanks
+  pub last-word : (n k : ℕ) → at + k + n ≡ end
+      → eqb (wordFrom byte n k) (wordFrom (λ (i : ℕ). blank) n k) ≡ eqb (blanksOf (slice (at + k) end bytes)) n
+  last-word n k e =
+      let word = eqb (wordFrom byte n k) (wordFrom (λ (i : ℕ). blank) n k) in
+      let none = eq-eqb (blanksOf (slice (at + (k + n)) end bytes)) 0 (none-left bytes (at + (k + n)) end (omega arith)) in
+      sym (and-true word) ∙ ap (λ (t : Bool). word && t) (sym none) ∙ blank-word n k 0 (omega arith)
+      ∙ ap (eqb (blanksOf (slice (at + k) end bytes))) (add-zero n)

@@ -13,9 +13,9 @@ use borrow.Author.Tests.{eq-eqb, ne-eqb, eqb-true, ltb-true}
 use Rattle.integers.proofs.Order.{both-true}
 use Rattle.fields.specs.Fields.{fieldSize, lastColumn, blank, minus, fieldAt, noNumber, fieldRead}
 use Rattle.fields.proofs.Laws.{nine-columns}
-use Rattle.field_reading.specs.Scan.{blanksOf, digitsRead, longAt}
+use Rattle.field_reading.specs.Scan.{blanksOf, digitsRead, numberRead, longAt}
 use Rattle.field_reading.proofs.Blanks.{blanks-le, one-more, no-more}
-use Rattle.field_reading.proofs.Reading.{headed, fieldRead-last, fieldRead-signed}
+use Rattle.field_reading.proofs.Reading.{fieldRead-last, fieldRead-signed}
 
 -- n bytes from place a on
 slice-take : (a n : ℕ) (l : List ℕ) → slice a (a + n) l ≡ take n (drop a l)
@@ -23,10 +23,22 @@ slice-take zero n l = ap (λ (k : ℕ). take k l) (zero-add n)
 slice-take (suc a) n [] = ap (drop (suc a)) (take-nil (suc a + n)) ∙ sym (take-nil n)
 slice-take (suc a) n (x ∷ l) = ap (λ (k : ℕ). slice (suc a) k (x ∷ l)) (suc-add a n) ∙ slice-take a n l
 
--- a minus is one byte, none is none
-pub byte-le : (t : Bool) → boolByte t ≤ 1
-byte-le true = omega arith
-byte-le false = omega arith
+-- digits from a place on: by the byte at the place they lead with 0 or not
+module _ (bytes : List ℕ) (from end : ℕ) (inside : from < end) (negative : Bool) where
+  first : getD (slice from end bytes) 0 0 ≡ getD bytes from 0
+  first =
+      getD-drop from (take end bytes) 0 0 ∙ ap (λ (n : ℕ). getD (take end bytes) n 0) (add-zero from) ∙ getD-take end bytes from 0 inside
+
+  led : (t : Bool) → eqb (getD bytes from 0) 48 ≡ t → numberRead negative (slice from end bytes) ≡ cond t noNumber (digitsRead negative (slice from end bytes))
+  led t e = ap (λ (z : Bool). cond z noNumber (digitsRead negative (slice from end bytes))) (ap (λ (b : ℕ). eqb b 48) first ∙ e)
+
+  -- a leading 0 is refused
+  pub read-zero : getD bytes from 0 ≡ 48 → numberRead negative (slice from end bytes) ≡ noNumber
+  read-zero e = led true (eq-eqb (getD bytes from 0) 48 e)
+
+  -- other digits are read
+  pub read-number : (getD bytes from 0 ≡ 48 → ⊥) → numberRead negative (slice from end bytes) ≡ digitsRead negative (slice from end bytes)
+  read-number e = led false (ne-eqb (getD bytes from 0) 48 e)
 
 module _ (bytes : List ℕ) (at : ℕ) (long : at + fieldSize ≤ length bytes) where
   -- the first eight
@@ -56,53 +68,35 @@ module _ (bytes : List ℕ) (at : ℕ) (long : at + fieldSize ≤ length bytes) 
     pub start-low : (blanks ≡ lastColumn → ⊥) → start < at + lastColumn
     start-low h = omega (arith, blanks-le (slice at (at + lastColumn) bytes), length-slice at (at + lastColumn) bytes (omega arith))
 
-    abbrev negative : Bool
-    negative = eqb (getD bytes start 0) minus
-
-    abbrev from : ℕ
-    from = start + boolByte negative
-
     -- the digits, behind blanks and a minus or none
-    read-signed : start < at + lastColumn → fieldRead (fieldAt bytes at) ≡ headed negative (slice from (at + fieldSize) bytes)
-    read-signed h =
+    read-signed : start < at + lastColumn → (t : Bool) → eqb (getD bytes start 0) minus ≡ t
+        → fieldRead (fieldAt bytes at) ≡ numberRead t (slice (start + boolByte t) (at + fieldSize) bytes)
+    read-signed h t e =
         let column : getD (fieldAt bytes at) blanks 0 ≡ getD bytes start 0 = column-at blanks (omega arith) ∙ ap (λ (n : ℕ). getD bytes n 0) (sym skipped) in
-        let place : at + (blanks + boolByte negative) ≡ from = omega arith in
+        let place : at + (blanks + boolByte t) ≡ start + boolByte t = omega arith in
         fieldRead-signed (fieldAt bytes at) (nine-columns bytes at long) blanks (ap blanksOf front) (omega arith)
-        ∙ ap (λ (c : ℕ). headed (eqb c minus) (drop (boolByte (eqb c minus)) (drop blanks (fieldAt bytes at)))) column
-        ∙ ap (headed negative)
-        (drop-drop (boolByte negative) blanks (fieldAt bytes at) ∙ behind (blanks + boolByte negative)
+        ∙ ap (λ (s : Bool). numberRead s (drop (boolByte s) (drop blanks (fieldAt bytes at)))) (ap (λ (c : ℕ). eqb c minus) column ∙ e)
+        ∙ ap (numberRead t)
+        (drop-drop (boolByte t) blanks (fieldAt bytes at) ∙ behind (blanks + boolByte t)
         ∙ ap (λ (n : ℕ). slice n (at + fieldSize) bytes) place)
 
-    -- the first of the digits
-    first : start < at + lastColumn → getD (slice from (at + fieldSize) bytes) 0 0 ≡ getD bytes from 0
-    first h =
-        getD-drop from (take (at + fieldSize) bytes) 0 0 ∙ ap (λ (n : ℕ). getD (take (at + fieldSize) bytes) n 0) (add-zero from)
-        ∙ getD-take (at + fieldSize) bytes from 0 (omega (arith, byte-le negative))
+    -- behind a minus
+    pub read-minus : start < at + lastColumn → getD bytes start 0 ≡ minus → fieldRead (fieldAt bytes at) ≡ numberRead true (slice (start + 1) (at + fieldSize) bytes)
+    read-minus h e = read-signed h true (eq-eqb (getD bytes start 0) minus e)
 
-    -- what is read, by whether it leads with 0
-    led : start < at + lastColumn → (t : Bool) → eqb (getD bytes from 0) 48 ≡ t
-        → fieldRead (fieldAt bytes at) ≡ cond t noNumber (digitsRead negative (slice from (at + fieldSize) bytes))
-    led h t e =
-        read-signed h
-        ∙ ap (λ (z : Bool). cond z noNumber (digitsRead negative (slice from (at + fieldSize) bytes))) (ap (λ (b : ℕ). eqb b 48) (first h) ∙ e)
-
-    -- a leading 0 is refused
-    pub read-zero : start < at + lastColumn → getD bytes from 0 ≡ 48 → fieldRead (fieldAt bytes at) ≡ noNumber
-    read-zero h e = led h true (eq-eqb (getD bytes from 0) 48 e)
-
-    -- other digits are read
-    pub read-number : start < at + lastColumn → (getD bytes from 0 ≡ 48 → ⊥) → fieldRead (fieldAt bytes at) ≡ digitsRead negative (slice from (at + fieldSize) bytes)
-    read-number h e = led h false (ne-eqb (getD bytes from 0) 48 e)
+    -- without one
+    pub read-plain : start < at + lastColumn → (getD bytes start 0 ≡ minus → ⊥) → fieldRead (fieldAt bytes at) ≡ numberRead false (slice start (at + fieldSize) bytes)
+    read-plain h e =
+        read-signed h false (ne-eqb (getD bytes start 0) minus e) ∙ ap (λ (n : ℕ). numberRead false (slice n (at + fieldSize) bytes)) (add-zero start)
 
   -- the digits, where two columns are blanks and a minus or none, and the third has more than 0
   read-behind : (n : ℕ) (t : Bool) → blanks ≡ n → n + boolByte t ≡ 2 → eqb (getD bytes (at + n) 0) minus ≡ t → 48 < getD bytes (at + 2) 0
       → fieldRead (fieldAt bytes at) ≡ digitsRead t (slice (at + 2) (at + fieldSize) bytes)
   read-behind n t e two q h =
       let place : at + n + boolByte t ≡ at + 2 = omega arith in
-      let first = ap (λ (s : Bool). at + n + boolByte s) q ∙ place in
-      read-number (at + n) (ap (λ (k : ℕ). at + k) (sym e)) (omega arith) (λ z. omega (arith, ap (λ (k : ℕ). getD bytes k 0) first))
-      ∙ ap (λ (s : Bool). digitsRead s (slice (at + n + boolByte s) (at + fieldSize) bytes)) q
-      ∙ ap (λ (k : ℕ). digitsRead t (slice k (at + fieldSize) bytes)) place
+      read-signed (at + n) (ap (λ (k : ℕ). at + k) (sym e)) (omega arith) t q
+      ∙ ap (λ (k : ℕ). numberRead t (slice k (at + fieldSize) bytes)) place
+      ∙ read-number bytes (at + 2) (at + fieldSize) (omega arith) t (λ z. omega arith)
 
   -- the second column and the third
   abbrev second : ℕ
@@ -128,14 +122,14 @@ module _ (bytes : List ℕ) (at : ℕ) (long : at + fieldSize ≤ length bytes) 
     one = one-more bytes at (at + lastColumn) (omega arith) (omega arith) (eqb-true (getD bytes at 0) blank (fronts .0))
 
     -- a minus ends the blanks at one
-    read-minus : eqb second minus ≡ true → fieldRead (fieldAt bytes at) ≡ digitsRead true (slice (at + 2) (at + fieldSize) bytes)
-    read-minus q =
+    long-minus : eqb second minus ≡ true → fieldRead (fieldAt bytes at) ≡ digitsRead true (slice (at + 2) (at + fieldSize) bytes)
+    long-minus q =
         let none = no-more bytes (at + 1) (at + lastColumn) (omega arith) (omega arith) (λ z. omega (arith, eqb-true second minus q)) in
         read-behind 1 true (one ∙ ap suc none) refl q above
 
     -- without it there are two blanks
-    read-plain : eqb second minus ≡ false → fieldRead (fieldAt bytes at) ≡ digitsRead false (slice (at + 2) (at + fieldSize) bytes)
-    read-plain q =
+    long-plain : eqb second minus ≡ false → fieldRead (fieldAt bytes at) ≡ digitsRead false (slice (at + 2) (at + fieldSize) bytes)
+    long-plain q =
         let is-blank = sym (or-false (eqb second blank)) ∙ ap (λ (s : Bool). eqb second blank || s) (sym q) ∙ fronts .1 in
         let two = one-more bytes (at + 1) (at + lastColumn) (omega arith) (omega arith) (eqb-true second blank is-blank) in
         let next : at + 1 + 1 ≡ at + 2 = omega arith in
@@ -147,5 +141,5 @@ module _ (bytes : List ℕ) (at : ℕ) (long : at + fieldSize ≤ length bytes) 
     read-long = go (eqb second minus) refl
       where
         go : (t : Bool) → eqb second minus ≡ t → fieldRead (fieldAt bytes at) ≡ digitsRead t (slice (at + 2) (at + fieldSize) bytes)
-        go true q = read-minus q
-        go false q = read-plain q
+        go true q = long-minus q
+        go false q = long-plain q

@@ -16,7 +16,7 @@ use Rattle.integers.specs.Signed.{signed}
 use Rattle.fields.specs.Fields.{fieldSize, blank, minus, isDigit, digitIn, valueFrom, hasMinus, numberIn, noNumber, fieldRead}
 use Rattle.fields.proofs.Bytes.{digit-low, digitIn-yes}
 use Rattle.fields.proofs.Laws.{answer}
-use Rattle.field_reading.specs.Scan.{blanksOf, allDigits, digitsRead}
+use Rattle.field_reading.specs.Scan.{blanksOf, allDigits, digitsRead, numberRead}
 use Rattle.field_reading.proofs.Fits.{fits, ends}
 use Rattle.field_reading.proofs.Scan.{scan, isField-scan}
 
@@ -63,10 +63,6 @@ scan-digits (c ∷ r) b v m lead sign =
 abbrev reading : Bool → ℕ → List ℕ → ℤ
 reading m b r = answer (scan 0 m b r) (signed (m || hasMinus (b ∷ r)) (valueFrom 0 (b ∷ r)))
 
--- digits without a leading 0
-abbrev pub headed : Bool → List ℕ → ℤ
-headed m l = cond (eqb (getD l 0 0) 48) noNumber (digitsRead m l)
-
 -- where all that fits is digits, the digits are read
 reading-digits : (m : Bool) (b : ℕ) (r : List ℕ) → scan 0 m b r ≡ allDigits (b ∷ r) → reading m b r ≡ digitsRead m (b ∷ r)
 unfolding digitsRead
@@ -79,9 +75,9 @@ reading-digits m b r e =
     go false d = refl
 
 -- where a leading 0 is refused, and no blank or minus comes first
-reading-headed : (m : Bool) (b : ℕ) (r : List ℕ) → not m && (eqb b blank || eqb b minus) ≡ false → scan 0 m 48 r ≡ false
-    → reading m b r ≡ headed m (b ∷ r)
-reading-headed m b r sign zero-bad = go (eqb b 48) refl
+reading-number : (m : Bool) (b : ℕ) (r : List ℕ) → not m && (eqb b blank || eqb b minus) ≡ false → scan 0 m 48 r ≡ false
+    → reading m b r ≡ numberRead m (b ∷ r)
+reading-number m b r sign zero-bad = go (eqb b 48) refl
   where
     go : (t : Bool) → eqb b 48 ≡ t → reading m b r ≡ cond t noNumber (digitsRead m (b ∷ r))
     go true e =
@@ -99,19 +95,19 @@ zero-refused (c ∷ r) = refl
 
 -- a minus or none
 signed-first : (c b : ℕ) (r : List ℕ) → eqb c blank ≡ false
-    → reading false c (b ∷ r) ≡ headed (eqb c minus) (drop (boolByte (eqb c minus)) (c ∷ b ∷ r))
+    → reading false c (b ∷ r) ≡ numberRead (eqb c minus) (drop (boolByte (eqb c minus)) (c ∷ b ∷ r))
 unfolding fits digitIn
 signed-first c b r e = go (eqb c minus) refl
   where
-    go : (t : Bool) → eqb c minus ≡ t → reading false c (b ∷ r) ≡ headed t (drop (boolByte t) (c ∷ b ∷ r))
-    go true q = ap (λ (k : ℕ). reading false k (b ∷ r)) (eqb-true c minus q) ∙ reading-headed true b r refl (zero-refused r)
-    go false q = reading-headed false c (b ∷ r) (ap₂ _||_ e q) refl
+    go : (t : Bool) → eqb c minus ≡ t → reading false c (b ∷ r) ≡ numberRead t (drop (boolByte t) (c ∷ b ∷ r))
+    go true q = ap (λ (k : ℕ). reading false k (b ∷ r)) (eqb-true c minus q) ∙ reading-number true b r refl (zero-refused r)
+    go false q = reading-number false c (b ∷ r) (ap₂ _||_ e q) refl
 
 -- what is read behind the blanks: a last digit, or a minus or none and digits
 abbrev opened : List ℕ → ℤ
 opened [] = noNumber
 opened (c ∷ []) = digitsRead false (c ∷ [])
-opened (c ∷ b ∷ r) = headed (eqb c minus) (drop (boolByte (eqb c minus)) (c ∷ b ∷ r))
+opened (c ∷ b ∷ r) = numberRead (eqb c minus) (drop (boolByte (eqb c minus)) (c ∷ b ∷ r))
 
 -- a blank in front counts for nothing
 blank-first : (b c : ℕ) (r : List ℕ) (k : ℕ) → reading false c r ≡ opened (drop k (c ∷ r))
@@ -145,7 +141,7 @@ opened-one (c ∷ []) e = refl
 opened-one (c ∷ b ∷ r) e = absurd (omega arith)
 
 -- more are read as a minus or none and digits
-opened-more : (u : List ℕ) → 1 < length u → opened u ≡ headed (eqb (getD u 0 0) minus) (drop (boolByte (eqb (getD u 0 0) minus)) u)
+opened-more : (u : List ℕ) → 1 < length u → opened u ≡ numberRead (eqb (getD u 0 0) minus) (drop (boolByte (eqb (getD u 0 0) minus)) u)
 opened-more [] h = absurd (omega arith)
 opened-more (c ∷ []) h = absurd (omega arith)
 opened-more (c ∷ b ∷ r) h = refl
@@ -157,8 +153,8 @@ fieldRead-last w l k e h =
 
 -- fewer: a minus or none, and digits
 pub fieldRead-signed : (w : List ℕ) → length w ≡ fieldSize → (k : ℕ) → k ≡ blanksOf (take 8 w) → k < 8
-    → fieldRead w ≡ headed (eqb (getD w k 0) minus) (drop (boolByte (eqb (getD w k 0) minus)) (drop k w))
+    → fieldRead w ≡ numberRead (eqb (getD w k 0) minus) (drop (boolByte (eqb (getD w k 0) minus)) (drop k w))
 fieldRead-signed w l k e h =
     let first : getD (drop k w) 0 0 ≡ getD w k 0 = getD-drop k w 0 0 ∙ ap (λ (n : ℕ). getD w n 0) (add-zero k) in
     fieldRead-opened w l ∙ ap (λ (n : ℕ). opened (drop n w)) (sym e) ∙ opened-more (drop k w) (omega (arith, length-drop k w))
-    ∙ ap (λ (c : ℕ). headed (eqb c minus) (drop (boolByte (eqb c minus)) (drop k w))) first
+    ∙ ap (λ (c : ℕ). numberRead (eqb c minus) (drop (boolByte (eqb c minus)) (drop k w))) first

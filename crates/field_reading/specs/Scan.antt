@@ -22,6 +22,10 @@ allDigits (byte ∷ rest) = isDigit byte && allDigits rest
 unfoldable pub digitsRead : Bool → List ℕ → ℤ
 digitsRead negative bytes = cond (allDigits bytes) (signed negative (valueFrom 0 bytes)) noNumber
 
+-- the number of some digits, or none where they lead with 0 or one of the bytes is no digit
+abbrev pub numberRead : Bool → List ℕ → ℤ
+numberRead negative bytes = cond (eqb (getD bytes 0 0) (digit 0)) noNumber (digitsRead negative bytes)
+
 -- seven digits may follow in a field: a blank, a blank or a minus, and a byte above the digit 0
 abbrev pub longAt : List ℕ → ℕ → Bool
 longAt bytes at =

@@ -83,11 +83,21 @@ fn channel_fits(channel: Channel) -> bool
     sections_fit(sections)
 }
 
-// Whether v is a word and a multiple of 256.
-pub fn input_fits(v: i64) -> bool
+// Whether v is a word and a multiple of 256, of a number of 64 bits.
+fn input_fits(v: i64) -> bool
     ensures { λ r. ⌜ r ≡ isInput v ⌝ }
 {
     if !is_word(v) {
+        return false;
+    }
+    is_input(v as i32)
+}
+
+// Whether v is a word and a multiple of 256.
+pub fn is_input(v: i32) -> bool
+    ensures { λ r. ⌜ r ≡ isInput v ⌝ }
+{
+    if !bands::is_word(v) {
         return false;
     }
     v - 256 * (v >> 8) <= 0

@@ -14,9 +14,9 @@ use refusals::Verdict;
 use sheet::Line;
 
 // The numbers of nine digits: a number of a C line has no range by itself.
-const LEAST: i64 = -999_999_999;
+const LEAST: i32 = -999_999_999;
 
-const MOST: i64 = 999_999_999;
+const MOST: i32 = 999_999_999;
 
 // Where the flag of an L or an R line stands behind its first field.
 const FLAG_AT: usize = fields::FIELD_SIZE * unit::FLAG;
@@ -27,8 +27,8 @@ pub fn read_line(
     at: usize,
     letter: u8,
     count: usize,
-    low: i64,
-    high: i64,
+    low: i32,
+    high: i32,
     numbers: &mut [i32; numbers::UNIT_SIZE],
     place: usize,
 ) -> Verdict
@@ -136,7 +136,7 @@ fn read_input(
     if input == fields::NO_NUMBER {
         return Verdict::FieldForm;
     }
-    if !fitness::input_fits(input as i64) {
+    if !fitness::is_input(input) {
         return Verdict::Unfit;
     }
     numbers[place] = input;
@@ -148,8 +148,8 @@ fn read_fields(
     bytes: &[u8],
     at: usize,
     count: usize,
-    low: i64,
-    high: i64,
+    low: i32,
+    high: i32,
     numbers: &mut [i32; numbers::UNIT_SIZE],
     place: usize,
 ) -> Verdict
@@ -162,7 +162,7 @@ fn read_fields(
         if number == fields::NO_NUMBER {
             return Verdict::FieldForm;
         }
-        if !rounding::in_range(low, high, number as i64) {
+        if !rounding::in_range_i32(low, high, number) {
             return Verdict::Unfit;
         }
         numbers[place + i] = number;

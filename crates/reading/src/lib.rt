@@ -15,7 +15,7 @@ use sheet::Line;
 use unit::Unit;
 
 // The least volume.
-const VOLUME_LEAST: i64 = 0;
+const VOLUME_LEAST: i32 = 0;
 
 // What reading a sheet gives.
 pub struct SheetRead {
@@ -67,7 +67,7 @@ fn read_lines(bytes: &[u8], numbers: &mut [i32; numbers::UNIT_SIZE]) -> Verdict
         sheet::VOLUME_LETTER,
         sheet::VOLUME_FIELDS,
         VOLUME_LEAST,
-        bands::WORD_HIGH,
+        bands::WORD_MOST,
         numbers,
         0,
     );
@@ -179,8 +179,8 @@ fn read_words(
         at,
         sheet::SECTION_LETTER,
         sheet::SECTION_FIELDS,
-        bands::WORD_LOW,
-        bands::WORD_HIGH,
+        bands::WORD_LEAST,
+        bands::WORD_MOST,
         numbers,
         place,
     )

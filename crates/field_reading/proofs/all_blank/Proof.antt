@@ -1,17 +1,18 @@
 -- `field_reading::all_blank` meets its contract.
+use mathlib.Core.Bool.{Bool, _&&_}
 use mathlib.Core.List.{List}
-use mathlib.Core.Path.{_≡_, ap, _∙_}
-use Prim.Native.Nat.{ℕ, _+_, _*_, _<_}
+use mathlib.Core.Path.{_≡_, ap, ap₂, _∙_}
+use Prim.Native.Nat.{ℕ, _+_, _≤_, _<_}
 use native.Mathlib.Nat.{add-zero}
 use native.Mathlib.Omega.{arith}
 use lib.Dec.{eqb}
-use lib.ListN.{getD}
+use lib.ListN.{length, getD}
 use lib.Seq.{slice}
 use denote.Ref.{now}
 use borrow.Author.Needs.{needs}
 use Rattle.fields.specs.Fields.{lastColumn}
 use Rattle.field_reading.specs.Scan.{blanksOf}
-use Rattle.field_reading.proofs.Blanks.{wordFrom, blank-word}
+use Rattle.field_reading.proofs.Blanks.{wordFrom, blank-word, last-word}
 use Rattle.field_reading.proofs.all_blank.Statement.{statement}
 use Rattle.field_reading.proofs.all_blank.Tie as tie
 
@@ -22,41 +23,36 @@ module _ (c : tie.After-four2) where
   abbrev at : ℕ
   at = c .before .before .before .before .before .before .before .before .before .before .before .args .at
 
+  long : at + lastColumn ≤ length bytes
+  long = c .before .before .before .before .before .before .before .before .before .before .before .pre
+
+  -- a byte is below 256
+  small : (i : ℕ) → getD bytes i 0 < 256
+  small i = omega (arith, c .before .shared-slice-known9 .given i)
+
+  abbrev byte : ℕ → ℕ
+  byte i = getD bytes (at + i) 0
+
   abbrev low : ℕ
   low = c .before .before .before .before .before .four .result
 
   abbrev high : ℕ
   high = c .four2 .result
 
-  -- a byte is below 256
-  small : (i : ℕ) → getD bytes i 0 < 256
-  small i = omega (arith, c .before .shared-slice-known9 .given i)
+  -- the first four columns as one number, and the next four
+  low-is : low ≡ wordFrom byte 4 0
+  low-is = omega (arith, c .before .before .before .before .before .four .ensures, ap (λ (i : ℕ). getD bytes i 0) (add-zero at))
 
-  -- four of them fit 32 bits
-  low-fits : low < 4294967296
-  low-fits = omega (arith, c .before .before .before .before .before .four .ensures, small at, small (at + 1), small (at + 2), small (at + 3))
-
-  high-fits : high < 4294967296
-  high-fits = omega (arith, c .four2 .ensures, small (at + 4), small (at + 5), small (at + 6), small (at + 7))
-
-  -- the two make the number of the eight bytes
-  word-is : low + 4294967296 * high ≡ wordFrom (λ (i : ℕ). getD bytes (at + i) 0) lastColumn 0
-  word-is =
-      let first = ap (λ (i : ℕ). getD bytes i 0) (add-zero at) in
-      omega (arith, c .before .before .before .before .before .four .ensures, c .four2 .ensures, first)
-
-mul-result : tie.Need-mul-result
-mul-result c = record { fits = omega (arith, high-fits c) }
-
-add-result : tie.Need-add-result
-add-result c = record { fits = omega (arith, low-fits c, high-fits c) }
+  high-is : high ≡ wordFrom byte 4 4
+  high-is = omega (arith, c .four2 .ensures)
 
 returns : tie.Need-returns
 returns c =
-    let entry = c .before .before .before .before .before .before .before .before .before .before .before in
-    ap (λ (n : ℕ). eqb n 0x2020_2020_2020_2020) (word-is c)
-    ∙ blank-word (bytes c) (at c) (at c + lastColumn) (entry .pre) (small c) lastColumn 0 (omega arith)
-    ∙ ap (λ (i : ℕ). eqb (blanksOf (slice i (at c + lastColumn) (bytes c))) lastColumn) (add-zero (at c))
+    let end = at c + lastColumn in
+    ap₂ (λ (l h : ℕ). eqb l 0x2020_2020 && eqb h 0x2020_2020) (low-is c) (high-is c)
+    ∙ ap (λ (t : Bool). eqb (wordFrom (byte c) 4 0) 0x2020_2020 && t) (last-word (bytes c) (at c) end (long c) (small c) 4 4 (omega arith))
+    ∙ blank-word (bytes c) (at c) end (long c) (small c) 4 0 4 (omega arith)
+    ∙ ap (λ (i : ℕ). eqb (blanksOf (slice i end (bytes c))) lastColumn) (add-zero (at c))
 
 pub all-blank-spec : {M : Type 1} → statement M
 all-blank-spec =
@@ -79,6 +75,4 @@ all-blank-spec =
     (λ c. search needs)
     (λ c. search needs)
     (λ c κs. search needs)
-    mul-result
-    add-result
     returns)

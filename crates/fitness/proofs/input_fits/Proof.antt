@@ -1,66 +1,44 @@
--- `fitness::input_fits` meets its contract: what is left at shift 8 is 0 up to 255.
-use mathlib.Core.Path.{_≡_, ap, _∙_}
-use lib.IntN.{ℤ, pos, _-ℤ_, _*ℤ_}
-use lib.Signed.{leZ, shrZ}
-use mir.Syntax.{w64}
+-- `fitness::input_fits` meets its contract: a word fits 32 bits, in which it is tested.
+use mathlib.Core.Path.{_≡_, sym, ap, _∙_}
+use lib.IntN.{ℤ}
+use mir.Syntax.{w32}
 use mir.Val.{SFits}
 use mir.Facts.{toZ-ofZ}
-use Rattle.integers.proofs.Parts.{linear}
-use Rattle.integers.proofs.Order.{and-fails, and-passes}
-use Rattle.integers.proofs.Machine.{Num, num, literal, unary, binary, binary-need, shr-fits, range-fits}
-use Rattle.rounding.specs.Rounding.{floor, rest}
-use Rattle.rounding.proofs.Floor.{rest-low, rest-high, multiple-mag}
-use Rattle.bands.specs.Words.{isWord}
-use Rattle.unit.specs.Fit.{isInput}
 use borrow.Author.Needs.{needs}
+use borrow.Author.Tests.{not-false}
+use Rattle.integers.proofs.Order.{and-fails}
+use Rattle.integers.proofs.Machine.{num, below-fits, unary-need, unary-reads}
+use Rattle.bands.specs.Words.{isWord}
+use Rattle.bands.proofs.Laws.{word-size}
+use Rattle.unit.specs.Fit.{isInput}
 use Rattle.fitness.proofs.input_fits.Statement.{statement}
 use Rattle.fitness.proofs.input_fits.Tie as tie
 use Rattle.fitness.proofs.input_fits.Reads as reads
 use Rattle.fitness.proofs.input_fits.Lts as lts
+use Rattle.fitness.proofs.is_input.Reads as is-input-reads
 use Rattle.fitness.proofs.is_word.Reads as is-word-reads
 
-module _ (c : lts.After-is-word (is-word-reads.Asked, is-word-reads.Learnt) reads.Pre reads.Post) where
+word-test : (c : lts.After-is-word (is-word-reads.Asked, is-word-reads.Learnt, is-input-reads.Asked, is-input-reads.Learnt) reads.Pre reads.Post) → c .is-word .result ≡ isWord (c .before .args .v)
+word-test c = c .is-word .ensures ∙ ap isWord (toZ-ofZ (c .before .fits .v))
+
+-- a word fits
+module _ (c : lts.Else1 (is-word-reads.Asked, is-word-reads.Learnt, is-input-reads.Asked, is-input-reads.Learnt) reads.Pre reads.Post) where
   abbrev v : ℤ
-  v = c .before .args .v
+  v = c .before .before .args .v
 
-  fits : SFits w64 v
-  fits = c .before .fits .v
-
-  word-test : c .is-word .result ≡ isWord v
-  word-test = c .is-word .ensures ∙ ap isWord (toZ-ofZ fits)
-
-  multiple-fits : SFits w64 (pos 256 *ℤ shrZ v 256)
-  unfolding floor
-  multiple-fits = record { sfits = multiple-mag v 55 8 (fits .sfits) }
-
-  rest-fits : SFits w64 (v -ℤ pos 256 *ℤ shrZ v 256)
-  unfolding floor rest
-  rest-fits = range-fits (rest v 8) (omega (linear, rest-low v 8)) (omega (linear, rest-high v 8))
-
-  abbrev Whole : Num w64
-  Whole = num v fits
-
-  abbrev Below : Num w64
-  Below = unary (λ (z : ℤ). shrZ z 256) Whole (shr-fits 256 fits)
-
-  abbrev Multiple : Num w64
-  Multiple = binary _*ℤ_ (literal 256) Below multiple-fits
+  fits : SFits w32 v
+  fits = below-fits (word-size v (sym (word-test (c .before)) ∙ not-false _ (c .if1 .left))) tt
 
 returns : tie.Need-returns
 unfolding isInput
 returns c = and-fails (word-test (c .before)) _ (c .if1 .taken)
 
-mul-result : tie.Need-mul-result
-mul-result c = binary-need _*ℤ_ (literal 256) (Below (c .before)) (multiple-fits (c .before))
-
-sub-result : tie.Need-sub-result
-sub-result c = binary-need _-ℤ_ (Whole (c .before)) (Multiple (c .before)) (rest-fits (c .before))
+cast-is-input : tie.Need-cast-is-input
+cast-is-input c = unary-need (λ (x : ℤ). x) (num (v c) (c .before .before .fits .v)) (fits c)
 
 returns-2 : tie.Need-returns-2
-unfolding isInput rest floor
 returns-2 c =
-    and-passes (word-test (c .before)) (c .if1 .left)
-    (ap (λ (z : ℤ). leZ z (pos 0)) (binary _-ℤ_ (Whole (c .before)) (Multiple (c .before)) (rest-fits (c .before)) .reads))
+    c .is-input .ensures ∙ ap isInput (unary-reads (λ (x : ℤ). x) (num (v (c .before)) (c .before .before .before .fits .v)) (fits (c .before)))
 
 pub input-fits-spec : {M : Type 1} → statement M
-input-fits-spec = tie.close (tie.spec (λ c κs. search needs) returns mul-result sub-result returns-2)
+input-fits-spec = tie.close (tie.spec (λ c κs. search needs) returns cast-is-input (λ c κs. search needs) returns-2)

@@ -7,12 +7,12 @@ use native.Mathlib.Omega.{arith}
 use lib.IntN.{ℤ}
 use lib.ListN.{length, set, length-set, drop, replicate}
 use denote.Ref.{now}
-use mir.Syntax.{w32, w64}
+use mir.Syntax.{w32}
 use mir.Val.{toZ, ofZ}
 use mir.Facts.{toZ-ofZ}
 use borrow.Author.Needs.{needs}
 use borrow.Author.Tests.{not-true, not-false}
-use Rattle.integers.proofs.Machine.{reads-back, widened, widen-need}
+use Rattle.integers.proofs.Machine.{reads-back}
 use Rattle.rounding.specs.Rounding.{within}
 use Rattle.refusals.specs.Numbers.{isAccepted}
 use Rattle.refusals.specs.declared.Verdict.{Verdict}
@@ -28,12 +28,12 @@ use Rattle.line_reading.proofs.read_fields.Tie as tie
 use Rattle.line_reading.proofs.read_fields.Reads as reads
 use Rattle.line_reading.proofs.read_fields.Lts as lts
 use Rattle.field_reading.proofs.read_field.Reads as read-field-reads
-use Rattle.rounding.proofs.in_range.Reads as in-range-reads
+use Rattle.rounding.proofs.in_range_i32.Reads as in-range-reads
 
 -- the fields from the ith on are left; the range's ends are given by their bits
 abbrev Left : List ℕ → ℕ → ℕ → ℕ → ℕ → List ℤ → ℕ → List ℤ → ℕ → Type 0
 Left bytes at count low high before place numbers i =
-    LeftFrom (fieldIn (within (toZ w64 low) (toZ w64 high))) fieldSize 1 count bytes at before place i numbers
+    LeftFrom (fieldIn (within (toZ w32 low) (toZ w32 high))) fieldSize 1 count bytes at before place i numbers
 
 abbrev Inv-loop : tie.InvT-loop
 Inv-loop bytes at count low high numbers₀ place i₀ numbers i =
@@ -44,7 +44,7 @@ abbrev μ-loop : tie.MeasureT-loop
 
 module _ (c : lts.Start (read-field-reads.Asked, read-field-reads.Learnt, in-range-reads.Asked, in-range-reads.Learnt) reads.Pre reads.Post Inv-loop μ-loop) where
   abbrev range : ℤ → Bool
-  range = within (toZ w64 (ofZ w64 (c .args .low))) (toZ w64 (ofZ w64 (c .args .high)))
+  range = within (toZ w32 (ofZ w32 (c .args .low))) (toZ w32 (ofZ w32 (c .args .high)))
 
   -- what is stored of the fields, in the words of the contract
   in-words : {v : Verdict} {m : List ℤ} → ReadGives (repeated (fieldIn range) fieldSize (c .args .count) (drop (c .args .at) (now (c .args .bytes)))) (now (c .args .numbers)) (c .args .place) v m
@@ -102,17 +102,14 @@ returns c =
     let o = c .before in
     refused o (field-badly (range (start o)) (bytes o) (here o) (long o) (number o) (o .read-field .ok) (o .read-field .ensures) (c .if1 .taken)) refl
 
-cast-in-range : tie.Need-cast-in-range Inv-loop μ-loop
-cast-in-range c = widen-need tt (c .before .read-field .result) (record { sfits = c .before .read-field .ok })
-
 -- ---- its number tested
 
-module _ (c : lts.After-in-range (read-field-reads.Asked, read-field-reads.Learnt, in-range-reads.Asked, in-range-reads.Learnt) reads.Pre reads.Post Inv-loop μ-loop) where
+module _ (c : lts.After-in-range-i32 (read-field-reads.Asked, read-field-reads.Learnt, in-range-reads.Asked, in-range-reads.Learnt) reads.Pre reads.Post Inv-loop μ-loop) where
   abbrev o : lts.After-read-field (read-field-reads.Asked, read-field-reads.Learnt, in-range-reads.Asked, in-range-reads.Learnt) reads.Pre reads.Post Inv-loop μ-loop
   o = c .before .before
 
-  test-is : c .in-range .result ≡ range (start o) (number o)
-  test-is = c .in-range .ensures ∙ ap (range (start o)) (widened tt (number o) (record { sfits = o .read-field .ok }) .reads)
+  test-is : c .in-range-i32 .result ≡ range (start o) (number o)
+  test-is = c .in-range-i32 .ensures ∙ ap (range (start o)) (reads-back w32 (number o) (o .read-field .ok))
 
 returns-2 : tie.Need-returns-2 Inv-loop μ-loop
 returns-2 c =
@@ -130,7 +127,7 @@ loop-again c = (
       (below (o t)) (here (o t)) (spot (o t)) refl (omega arith) stored refl (ap length (field-number (range s) (fieldAt (bytes (o t)) (here (o t))) (ap isAccepted (sym (stored .verdict-is))))),
 )
   where
-    t : lts.After-in-range (read-field-reads.Asked, read-field-reads.Learnt, in-range-reads.Asked, in-range-reads.Learnt) reads.Pre reads.Post Inv-loop μ-loop
+    t : lts.After-in-range-i32 (read-field-reads.Asked, read-field-reads.Learnt, in-range-reads.Asked, in-range-reads.Learnt) reads.Pre reads.Post Inv-loop μ-loop
     t = c .before
 
     s : lts.Start (read-field-reads.Asked, read-field-reads.Learnt, in-range-reads.Asked, in-range-reads.Learnt) reads.Pre reads.Post Inv-loop μ-loop
@@ -158,7 +155,6 @@ read-fields-spec =
     (λ c. search needs)
     (λ c κs. search needs)
     returns
-    cast-in-range
     (λ c κs. search needs)
     returns-2
     (λ c. search needs)

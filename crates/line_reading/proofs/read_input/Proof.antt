@@ -4,7 +4,7 @@ use denote.Ref.{now}
 use mir.Syntax.{w32}
 use borrow.Author.Needs.{needs}
 use borrow.Author.Tests.{not-true, not-false}
-use Rattle.integers.proofs.Machine.{reads-back, widened, widen-need}
+use Rattle.integers.proofs.Machine.{reads-back}
 use Rattle.unit.specs.Fit.{isInput}
 use Rattle.line_reading.proofs.Field.{field-badly, field-outside, field-inside}
 use Rattle.line_reading.proofs.read_input.Statement.{statement}
@@ -12,23 +12,18 @@ use Rattle.line_reading.proofs.read_input.Tie as tie
 use Rattle.line_reading.proofs.read_input.Reads as reads
 use Rattle.line_reading.proofs.read_input.Lts as lts
 use Rattle.field_reading.proofs.read_field.Reads as read-field-reads
-use Rattle.fitness.proofs.input_fits.Reads as input-fits-reads
+use Rattle.fitness.proofs.is_input.Reads as is-input-reads
 
 returns : tie.Need-returns
 returns c =
     let s = c .before .before .before in
     field-badly isInput (now (s .args .bytes)) (s .args .at) (s .pre .0) (c .before .read-field .result) (c .before .read-field .ok) (c .before .read-field .ensures) (c .if1 .taken)
 
-cast-input-fits : tie.Need-cast-input-fits
-cast-input-fits c = widen-need tt (c .before .read-field .result) (record { sfits = c .before .read-field .ok })
-
 -- ---- the number tested
 
-module _ (c : lts.After-input-fits (read-field-reads.Asked, read-field-reads.Learnt, input-fits-reads.Asked, input-fits-reads.Learnt) reads.Pre reads.Post) where
-  test-is : c .input-fits .result ≡ isInput (c .before .before .read-field .result)
-  test-is =
-      c .input-fits .ensures
-      ∙ ap isInput (widened tt (c .before .before .read-field .result) (record { sfits = c .before .before .read-field .ok }) .reads)
+module _ (c : lts.After-is-input (read-field-reads.Asked, read-field-reads.Learnt, is-input-reads.Asked, is-input-reads.Learnt) reads.Pre reads.Post) where
+  test-is : c .is-input .result ≡ isInput (c .before .before .read-field .result)
+  test-is = c .is-input .ensures ∙ ap isInput (reads-back w32 (c .before .before .read-field .result) (c .before .before .read-field .ok))
 
 returns-2 : tie.Need-returns-2
 returns-2 c =
@@ -52,7 +47,6 @@ read-input-spec =
     (tie.spec
     (λ c κs. search needs)
     returns
-    cast-input-fits
     (λ c κs. search needs)
     returns-2
     (λ c. search needs)

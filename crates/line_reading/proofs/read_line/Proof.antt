@@ -8,7 +8,7 @@ use lib.IntN.{ℤ}
 use lib.ListN.{length, drop, replicate, length-replicate}
 use denote.Ref.{now}
 use mir.Facts.{toZ-ofZ}
-use mir.Syntax.{w64}
+use mir.Syntax.{w32}
 use mir.Val.{toZ, ofZ}
 use borrow.Author.Needs.{needs}
 use borrow.Author.Tests.{not-true, not-false}
@@ -32,7 +32,7 @@ module _ (c : lts.Start (check-mark-reads.Asked, check-mark-reads.Learnt, accept
 
   -- the ranges of the fields
   abbrev ranges : List (ℤ → Bool)
-  ranges = replicate (c .args .count) (within (toZ w64 (ofZ w64 (c .args .low))) (toZ w64 (ofZ w64 (c .args .high))))
+  ranges = replicate (c .args .count) (within (toZ w32 (ofZ w32 (c .args .low))) (toZ w32 (ofZ w32 (c .args .high))))
 
   abbrev end : Part
   end = endPart (length ranges) (drop (c .args .at) bytes)
@@ -76,7 +76,7 @@ returns-3 c =
     in-words s
     (fields-passed (s .args .letter) (ranges s) (end s) (bytes s) (s .args .at) (now (s .args .numbers)) (s .args .place) (o .before .before .before .before .check-mark .ensures)
     (passed o) (o .read-fields .ensures) (sym (t .before .accepted2 .ensures) ∙ not-false _ (t .if2 .left)) _ _
-    (line-ended (bytes s) (s .args .at) (length (ranges s)) (s .args .at + 9 * s .args .count + 1) (omega (arith, length-replicate (s .args .count) (within (toZ w64 (ofZ w64 (s .args .low))) (toZ w64 (ofZ w64 (s .args .high)))))) (c .check-mark2 .ensures)))
+    (line-ended (bytes s) (s .args .at) (length (ranges s)) (s .args .at + 9 * s .args .count + 1) (omega (arith, length-replicate (s .args .count) (within (toZ w32 (ofZ w32 (s .args .low))) (toZ w32 (ofZ w32 (s .args .high)))))) (c .check-mark2 .ensures)))
 
 pub read-line-spec : {M : Type 1} → statement M
 read-line-spec =
