@@ -5,7 +5,7 @@ mod sheets;
 mod sound;
 mod waves;
 
-use self::sheets::{exchanged, flag_2, last_line_unread, letters_first};
+use self::sheets::{exchanged, flag_2, four_blanks_for_eight, last_line_unread, letters_first};
 use self::sound::{
     block_with, frames_with, halves_up, levels, mix, nine_first, order_with, output, output_unlimited, past_target,
     raise_flags, step_with, worked_again, wrapped,
@@ -252,6 +252,8 @@ wrong! {
             let blank = |&byte: &u8| if byte == b'\t' { b' ' } else { byte };
             read(unit, &bytes.iter().map(blank).collect::<Vec<u8>>())
         };
+    "four blank columns taken for eight" [SHEETS SHEET_FIGURES SHEET_FIELDS SHEET_LINES DAMAGED_SHEETS SHEET_LISTS]
+        sheet_read = four_blanks_for_eight;
     "the flag 2 accepted" [SHEET_FIELDS SHEET_LINES]
         sheet_read = flag_2;
     "bytes behind a sheet ignored" [SHEET_LENGTHS]

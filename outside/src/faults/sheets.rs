@@ -2,6 +2,7 @@
 
 use crate::reference::ACCEPTED;
 use crate::unit::sheet::fast::{read, write};
+use crate::unit::sheet::places::fields;
 use crate::unit::sheet::{LETTER_OR_END, LINE_FEED, SHEET};
 use crate::unit::{house_unit, Numbers, LEFT, RIGHT, SIDE_COUNT, STRIPS};
 
@@ -38,6 +39,17 @@ pub fn letters_first(unit: &mut Numbers, bytes: &[u8]) -> u32 {
     } else {
         read(unit, bytes)
     }
+}
+
+/// A reader that takes a field for one digit where its first four columns are blank.
+pub fn four_blanks_for_eight(unit: &mut Numbers, bytes: &[u8]) -> u32 {
+    let mut other = bytes.to_vec();
+    for field in fields().filter(|_| bytes.len() == SHEET) {
+        if bytes[field.clone()].starts_with(b"    ") {
+            other[field.start + 4..field.end - 1].fill(b' ');
+        }
+    }
+    read(unit, &other)
 }
 
 /// A reader that leaves the last four numbers as they were given.
