@@ -83,7 +83,7 @@ fn channel_fits(channel: Channel) -> bool
     sections_fit(sections)
 }
 
-// Whether v is a word and a multiple of 256, of a number of 64 bits.
+// Whether a number of 64 bits is an input. A word fits 32 bits, in which the rest is tested.
 fn input_fits(v: i64) -> bool
     ensures { λ r. ⌜ r ≡ isInput v ⌝ }
 {
@@ -93,7 +93,7 @@ fn input_fits(v: i64) -> bool
     is_input(v as i32)
 }
 
-// Whether v is a word and a multiple of 256.
+// Whether v is an input: a word and a multiple of 256.
 pub fn is_input(v: i32) -> bool
     ensures { λ r. ⌜ r ≡ isInput v ⌝ }
 {
