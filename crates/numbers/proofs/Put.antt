@@ -4,27 +4,14 @@ use mathlib.Core.List.{List, [], _∷_, _++_, append-assoc, append-nil}
 use Prim.Native.Nat.{ℕ, _+_, _-_, _≤_, _<_}
 use native.Mathlib.Numerals.{add-one}
 use native.Mathlib.Omega.{arith}
-use lib.IntN.{ℤ, pos, natAbs}
+use lib.IntN.{ℤ, pos}
 use lib.ListN.{length, getD, take, drop, set, length-set}
 use lib.Seq.{take-suc-set, take-all, take-suc, getD-drop, drop-drop, drop-set-lt}
-use mir.Syntax.{w32, w64}
-use mir.Val.{SFits, toZ, ofZ}
-use Rattle.integers.proofs.Machine.{num, below-fits, unary-need, unary-reads}
-use Rattle.bands.specs.Words.{wordSize}
 use Rattle.numbers.specs.Layout.{unitSize, joined, PutGives}
 
 -- the number behind a start
 pub behind : (l : List ℤ) (start i j : ℕ) → j ≡ start + i → getD l j (pos 0) ≡ getD (drop start l) i (pos 0)
 behind l start i j e = ap (λ (n : ℕ). getD l n (pos 0)) e ∙ sym (getD-drop start l i (pos 0))
-
--- ---- a number of the size of a word loses nothing in 32 bits
-
-module _ (z : ℤ) (size : natAbs z ≤ wordSize) where
-  pub narrow-need : SFits w32 (toZ w64 (ofZ w64 z))
-  narrow-need = unary-need (λ (x : ℤ). x) (num z (below-fits size tt)) (below-fits size tt)
-
-  pub narrow-reads : toZ w32 (ofZ w32 (toZ w64 (ofZ w64 z))) ≡ z
-  narrow-reads = unary-reads (λ (x : ℤ). x) (num z (below-fits size tt)) (below-fits size tt)
 
 -- ---- stores
 

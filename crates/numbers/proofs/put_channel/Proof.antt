@@ -13,12 +13,13 @@ use Rattle.integers.proofs.Parts.{linear}
 use Rattle.integers.proofs.Abs.{abs-le}
 use Rattle.rounding.proofs.Limit.{within-bounds}
 use Rattle.bands.specs.Bands.{bandCount}
+use Rattle.bands.proofs.Laws.{narrow-need, narrow-reads}
 use Rattle.bands.specs.Words.{wordSize}
 use Rattle.unit.specs.Sizes.{headSize, sectionSize, channelSize}
 use Rattle.unit.specs.Fit.{isFlag}
 use Rattle.unit.proofs.Ranges.{input-size}
 use Rattle.numbers.specs.Layout.{channelNumbers, PutGives}
-use Rattle.numbers.proofs.Put.{narrow-need, narrow-reads, put-three, put-then}
+use Rattle.numbers.proofs.Put.{put-three, put-then}
 use borrow.Author.Needs.{needs}
 use Rattle.numbers.proofs.put_channel.Statement.{statement}
 use Rattle.numbers.proofs.put_channel.Tie as tie

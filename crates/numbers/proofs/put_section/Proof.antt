@@ -3,9 +3,9 @@ use Prim.Native.Nat.{_≤_}
 use lib.IntN.{natAbs}
 use denote.Ref.{now}
 use Rattle.bands.specs.Words.{wordSize}
-use Rattle.bands.proofs.Laws.{word-size}
+use Rattle.bands.proofs.Laws.{word-size, narrow-need, narrow-reads}
 use Rattle.unit.specs.Fit.{SectionFit}
-use Rattle.numbers.proofs.Put.{narrow-need, narrow-reads, put-four}
+use Rattle.numbers.proofs.Put.{put-four}
 use borrow.Author.Needs.{needs}
 use Rattle.numbers.proofs.put_section.Statement.{statement}
 use Rattle.numbers.proofs.put_section.Tie as tie

@@ -4,8 +4,9 @@ use lib.Dec.{lit≤}
 use lib.IntN.{natAbs}
 use denote.Ref.{now}
 use Rattle.bands.specs.Words.{wordSize}
+use Rattle.bands.proofs.Laws.{narrow-need, narrow-reads}
 use Rattle.unit.proofs.Ranges.{volume-size}
-use Rattle.numbers.proofs.Put.{narrow-need, narrow-reads, put-two}
+use Rattle.numbers.proofs.Put.{put-two}
 use borrow.Author.Needs.{needs}
 use Rattle.numbers.proofs.put_volume.Statement.{statement}
 use Rattle.numbers.proofs.put_volume.Tie as tie
