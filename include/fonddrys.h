@@ -56,7 +56,7 @@ enum {
     FONDDRYS_NOT_FINITE = 3,    /* factor not finite */
     FONDDRYS_FACTOR_RANGE = 4,  /* factor outside its range */
     FONDDRYS_INPUT_LENGTH = 5,  /* input bytes no multiple of four; too many for a wave file */
-    FONDDRYS_OUTPUT_SHORT = 6,  /* output shorter than input, or than the wave file */
+    FONDDRYS_OUTPUT_SHORT = 6,  /* output, or a preview's buffer, too short for what it is to hold */
     FONDDRYS_SET_LENGTH = 7,    /* a set that isn't thirty numbers */
     FONDDRYS_ALPHA = 8,         /* A isn't from 0 to 8,388,607 */
     FONDDRYS_BETA = 9,          /* B isn't from -4,194,303 to 4,194,303 */
@@ -199,42 +199,29 @@ typedef struct {
 /* No padding: else the section isn't seven numbers, and this array has no size. */
 typedef char fonddrys_section_is_seven_numbers[sizeof(fonddrys_section) == 28 ? 1 : -1];
 
-/* Steps the section on x, a word: y is (A * (x - x2) + G * y1 - B * y2) / 2^22, rounded, then
- * limited to a word. The answer holds y, whether the section has limited, and the refusal's
- * number: (2 * refusal + limited) * 2^32 + y. Since y may be negative, take it apart by the three
- * functions below, and not by a shift. Refusals: 8, 9, 10, then 15 where x, x1, x2, y1 or y2 is no
- * word; y and limited are then 0. */
-int64_t fonddrys_section_step(fonddrys_section *section, int32_t x);
+/* What a step gives. */
+typedef struct {
+    int32_t y;         /* the result, a word */
+    int32_t remainder; /* what rounding took, from -2,097,152 to 2,097,152 */
+    uint32_t limited;  /* 1 where the section has limited, else 0 */
+    uint32_t refusal;  /* 0; else the refusal's number, and the three above are 0 */
+} fonddrys_step;
 
-/* y of a step's answer. Adding 2^31 first leaves no negative number to divide. */
-static inline int32_t fonddrys_step_y(int64_t answer)
-{
-    const int64_t half = (int64_t)1 << 31;
-    return (int32_t)((answer + half) % (2 * half) - half);
-}
-
-/* 1 where the section has limited in the step, else 0. */
-static inline uint32_t fonddrys_step_limited(int64_t answer)
-{
-    const int64_t half = (int64_t)1 << 31;
-    return (uint32_t)((answer + half) / (2 * half) % 2);
-}
-
-/* 0 for an accepted step, else the refusal's number. */
-static inline uint32_t fonddrys_step_refusal(int64_t answer)
-{
-    const int64_t half = (int64_t)1 << 31;
-    return (uint32_t)((answer + half) / (4 * half));
-}
+/* Steps the section on x, a word. With S = A * (x - x2) + G * y1 - B * y2, y is S / 2^22, rounded,
+ * then limited to a word. The remainder is S less 2^22 times the rounded number, before limiting;
+ * the section doesn't keep it. Refusals: 8, 9, 10, then 15 where x, x1, x2, y1 or y2 is no word. */
+fonddrys_step fonddrys_section_step(fonddrys_section *section, int32_t x);
 
 /* ---- The floating preview ----------------------------------------------------------------- */
 
-/* Previews a section: the results of the band's section, from a cleared start, over a list of
- * words, worked in floating point and equal to those of fonddrys_section_step. They fill the front
- * of results; entries behind keep their contents. Answers 0, or 8, 9, 10, then 6 where
- * result_count is less than word_count, then 15 where a number of the list is no word. */
+/* Previews a section: the results and the remainders of the band's section, from a cleared start,
+ * over a list of words, worked in floating point and equal to those of fonddrys_section_step. They
+ * fill the fronts of results and of remainders; entries behind keep their contents. Answers 0, or
+ * 8, 9, 10, then 6 where result_count or remainder_count is less than word_count, then 15 where a
+ * number of the list is no word. */
 uint32_t fonddrys_preview(int32_t alpha, int32_t beta, int32_t gamma, const int32_t *words,
-                          size_t word_count, int32_t *results, size_t result_count);
+                          size_t word_count, int32_t *results, size_t result_count,
+                          int32_t *remainders, size_t remainder_count);
 
 /* ---- Arithmetic --------------------------------------------------------------------------- */
 

@@ -1,18 +1,20 @@
 //! The library's C ABI and thin safe wrappers.
 
-use crate::reference::Section;
+use crate::reference::{Section, Step};
 use crate::unit::orders::{Order, Setting};
 use crate::unit::Numbers;
 use crate::wave::Read;
 
 /// The functions as the static library `exports` gives them.
 pub mod raw {
+    use crate::reference::Step;
+
     extern "C" {
         pub fn fonddrys_nearest(v: i64, k: u32) -> i64;
         pub fn fonddrys_limit(low: i64, high: i64, v: i64) -> i64;
         pub fn fonddrys_band_refusal(a: i32, b: i32, g: i32) -> u32;
         pub fn fonddrys_house_set(words: *mut [i32; 30]);
-        pub fn fonddrys_section_step(section: *mut [i32; 7], x: i32) -> i64;
+        pub fn fonddrys_section_step(section: *mut [i32; 7], x: i32) -> Step;
         pub fn fonddrys_level_moved(present: i32, target: i32, slope: u32) -> i32;
         pub fn fonddrys_load(unit: *mut [i32; 118], set: *const i32, set_len: usize) -> u32;
         pub fn fonddrys_unit_fit(unit: *const [i32; 118]) -> u32;
@@ -36,6 +38,8 @@ pub mod raw {
             words_len: usize,
             results: *mut i32,
             results_len: usize,
+            remainders: *mut i32,
+            remainders_len: usize,
         ) -> u32;
         pub fn fonddrys_wave_refusal(file: *const u8, file_len: usize) -> u32;
         pub fn fonddrys_wave_from(file: *const u8, file_len: usize) -> usize;
@@ -66,7 +70,7 @@ pub fn house_set() -> [i32; 30] {
     words
 }
 
-pub fn section_step(section: &mut Section, x: i32) -> i64 {
+pub fn section_step(section: &mut Section, x: i32) -> Step {
     // SAFETY: the pointer is to seven numbers that nobody else holds.
     unsafe { raw::fonddrys_section_step(section, x) }
 }
@@ -116,11 +120,12 @@ pub fn sheet_read(unit: &mut Numbers, bytes: &[u8]) -> u32 {
     unsafe { raw::fonddrys_sheet_read(unit, bytes.as_ptr(), bytes.len()) }
 }
 
-pub fn preview([a, b, g]: [i32; 3], words: &[i32], results: &mut [i32]) -> u32 {
-    let (from, to) = (words.as_ptr(), results.as_mut_ptr());
-    // SAFETY: the words are only read, the results are lent to the library alone, and each pointer comes with its own
+pub fn preview([a, b, g]: [i32; 3], words: &[i32], results: &mut [i32], remainders: &mut [i32]) -> u32 {
+    let (from, count) = (words.as_ptr(), words.len());
+    let [(to, room), (left, spare)] = [results, remainders].map(|buffer| (buffer.as_mut_ptr(), buffer.len()));
+    // SAFETY: the words are only read, both buffers are lent to the library alone, and each pointer comes with its own
     // length.
-    unsafe { raw::fonddrys_preview(a, b, g, from, words.len(), to, results.len()) }
+    unsafe { raw::fonddrys_preview(a, b, g, from, count, to, room, left, spare) }
 }
 
 pub fn wave_read(file: &[u8]) -> Read {

@@ -5,7 +5,7 @@ use crate::checks::groups::{Group, CUTS, FITNESS, HOUSE, LOADS, ORDERS, PREVIEW_
 use crate::checks::groups::{DAMAGED_WAVES, WAVES, WAVES_WRITTEN, WAVE_CASES};
 use crate::checks::groups::{REFUSED_PREVIEWS, SHEETS, SHEET_LENGTHS, SHEET_LINES};
 use crate::ffi::{self, raw};
-use crate::reference::Section;
+use crate::reference::{Section, Step};
 use crate::subject::Subject;
 use crate::unit::orders::Order;
 use crate::unit::{house_unit, Numbers};
@@ -116,7 +116,7 @@ impl Subject for Lent {
         self.lend(MARK, &mut words, |words| unsafe { raw::fonddrys_house_set(numbers(words)) });
         words
     }
-    fn section_step(&self, section: &mut Section, x: i32) -> i64 {
+    fn section_step(&self, section: &mut Section, x: i32) -> Step {
         self.lend(MARK, section, |section| ffi::section_step(numbers(section), x))
     }
     fn load(&self, unit: &mut Numbers, set: &[i32]) -> u32 {
@@ -140,8 +140,11 @@ impl Subject for Lent {
     fn sheet_read(&self, unit: &mut Numbers, bytes: &[u8]) -> u32 {
         self.lend(MARK, unit, |unit| self.show(MARK_BYTE, bytes, |bytes| ffi::sheet_read(numbers(unit), bytes)))
     }
-    fn preview(&self, band: [i32; 3], words: &[i32], results: &mut [i32]) -> u32 {
-        self.show(MARK, words, |words| self.lend(MARK, results, |results| ffi::preview(band, words, results)))
+    fn preview(&self, band: [i32; 3], words: &[i32], results: &mut [i32], remainders: &mut [i32]) -> u32 {
+        let mut fill = |words: &[i32], results: &mut [i32]| {
+            self.lend(MARK, remainders, |remainders| ffi::preview(band, words, results, remainders))
+        };
+        self.show(MARK, words, |words| self.lend(MARK, results, |results| fill(words, results)))
     }
     fn wave_read(&self, file: &[u8]) -> Read {
         self.show(MARK_BYTE, file, |file| ffi::wave_read(file))

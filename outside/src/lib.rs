@@ -8,6 +8,7 @@ pub mod faults;
 pub mod ffi;
 pub mod figures;
 pub mod lent;
+pub mod noise;
 pub mod preview;
 pub mod random;
 pub mod reference;

@@ -84,20 +84,27 @@ pub fn step_refusal(section: &Section, x: i32) -> u32 {
     }
 }
 
-/// The answer of a step as one number: (2 × refusal + limited) × 2^32 + y.
-pub fn pack(refusal: u32, limited: bool, y: i32) -> i64 {
-    ((2 * i64::from(refusal) + i64::from(limited)) << 32) + i64::from(y)
+/// What a step gives, as it crosses the C ABI.
+#[repr(C)]
+#[derive(Clone, Copy, Debug, Default, PartialEq, Eq)]
+pub struct Step {
+    pub y: i32,
+    pub remainder: i32,
+    /// 1 where the section has limited, else 0.
+    pub limited: u32,
+    pub refusal: u32,
 }
 
-/// A packed answer taken apart: 2 × refusal + limited, and y.
-pub fn unpack(answer: i64) -> (i64, i32) {
-    let y = answer as i32;
-    (answer.wrapping_sub(i64::from(y)) >> 32, y)
+impl Step {
+    /// After a refusal "the result and the remainder are 0".
+    pub fn refused(refusal: u32) -> Step {
+        Step { refusal, ..Step::default() }
+    }
 }
 
 /// The plain meaning.
 pub mod exact {
-    use super::{pack, step_refusal, Section, ACCEPTED, WORD_MAX, WORD_MIN};
+    use super::{step_refusal, Section, Step, ACCEPTED, WORD_MAX, WORD_MIN};
 
     /// v / 2^k by "Rounding to nearest, halves to even".
     pub fn nearest(v: i64, k: u32) -> i64 {
@@ -127,25 +134,27 @@ pub mod exact {
     }
 
     /// One step of a section. "y is S / 2^22 rounded, then limited to a word. The section has limited in this step
-    /// exactly when the rounded number was no word. The limited y is the one remembered." After a refusal "the result
-    /// is 0 and the section is unchanged."
-    pub fn step(section: &mut Section, x: i32) -> i64 {
+    /// exactly when the rounded number was no word. The limited y is the one remembered." The remainder is "S less 2^22
+    /// times the rounded number, before limiting". After a refusal "the section is unchanged."
+    pub fn step(section: &mut Section, x: i32) -> Step {
         let refusal = step_refusal(section, x);
         if refusal != ACCEPTED {
-            return pack(refusal, false, 0);
+            return Step::refused(refusal);
         }
-        let rounded = nearest(sum(section, x) as i64, 22);
+        let sum = sum(section, x);
+        let rounded = nearest(sum as i64, 22);
+        let remainder = (sum - 4_194_304 * i128::from(rounded)) as i32;
         let y = limit(rounded, i64::from(WORD_MIN), i64::from(WORD_MAX)) as i32;
-        let limited = rounded != i64::from(y);
+        let limited = u32::from(rounded != i64::from(y));
         let [a, b, g, x1, _, y1, _] = *section;
         *section = [a, b, g, x, x1, y, y1];
-        pack(ACCEPTED, limited, y)
+        Step { y, remainder, limited, refusal }
     }
 }
 
 /// What one would write for use: i64, shifts, no division.
 pub mod fast {
-    use super::{pack, step_refusal, Section, ACCEPTED, WORD_MAX, WORD_MIN};
+    use super::{step_refusal, Section, Step, ACCEPTED, WORD_MAX, WORD_MIN};
 
     /// v / 2^k rounded to nearest, halves to even.
     pub fn nearest(v: i64, k: u32) -> i64 {
@@ -171,18 +180,19 @@ pub mod fast {
 
     /// One step of a section.
     #[inline]
-    pub fn step(section: &mut Section, x: i32) -> i64 {
+    pub fn step(section: &mut Section, x: i32) -> Step {
         let refusal = step_refusal(section, x);
         if refusal != ACCEPTED {
-            return pack(refusal, false, 0);
+            return Step::refused(refusal);
         }
         let [a, b, g, x1, x2, y1, y2] = *section;
         let inputs = i64::from(a) * i64::from(x - x2);
         let results = i64::from(g) * i64::from(y1) - i64::from(b) * i64::from(y2);
-        let rounded = round_sum(inputs + results);
+        let sum = inputs + results;
+        let rounded = round_sum(sum);
         let limited = rounded.clamp(i64::from(WORD_MIN), i64::from(WORD_MAX));
         let y = limited as i32;
         section[3..].copy_from_slice(&[x, x1, y, y1]);
-        pack(ACCEPTED, limited != rounded, y)
+        Step { y, remainder: (sum - (rounded << 22)) as i32, limited: u32::from(limited != rounded), refusal }
     }
 }

@@ -1,6 +1,6 @@
 //! What the comparison can be run against.
 
-use crate::reference::{self, fast, Section};
+use crate::reference::{self, fast, Section, Step};
 use crate::unit::{self, orders, orders::Order, sheet, Numbers};
 use crate::wave::{self, Read};
 use crate::{ffi, preview};
@@ -37,7 +37,7 @@ functions! {
     limit(v: i64, low: i64, high: i64) -> i64 = |v, low, high| if v < low { low } else { v.min(high) };
     band_refusal(a: i32, b: i32, g: i32) -> u32 = reference::band_refusal;
     house_set() -> [i32; 30] = reference::house_set;
-    section_step(section: &mut Section, x: i32) -> i64 = fast::step;
+    section_step(section: &mut Section, x: i32) -> Step = fast::step;
     level_moved(present: i32, target: i32, slope: u32) -> i32 = unit::fast::level_moved;
     load(numbers: &mut Numbers, set: &[i32]) -> u32 = unit::load;
     unit_fit(numbers: &Numbers) -> u32 = |numbers| unit::fast::fit(numbers).into();
@@ -45,7 +45,7 @@ functions! {
     order(numbers: &mut Numbers, order: &Order) -> u32 = orders::fast::order;
     sheet_write(numbers: &Numbers, buffer: &mut [u8]) -> usize = sheet::fast::write;
     sheet_read(numbers: &mut Numbers, bytes: &[u8]) -> u32 = sheet::fast::read;
-    preview(band: [i32; 3], words: &[i32], results: &mut [i32]) -> u32 = preview::fast::preview;
+    preview(band: [i32; 3], words: &[i32], results: &mut [i32], remainders: &mut [i32]) -> u32 = preview::fast::preview;
     wave_read(file: &[u8]) -> Read = wave::read;
     wave_write(frames: &[u8], buffer: &mut [u8]) -> u32 = wave::write;
 }

@@ -232,29 +232,32 @@ static void test_waves(void)
     }
 }
 
+/* Steps with A = 2^22 and G = 5, so that S is 2^22 * (x - x2) + 5 * y1: one that limits and leaves 5,
+ * and one that leaves -5. Then a refused one for each number. */
 static void test_section(void)
 {
     static const struct {
         fonddrys_section section;
-        uint32_t want;
+        int32_t x, y, remainder;
+        uint32_t limited, refusal;
+        fonddrys_section after;
     } rows[] = {
-        {{-1, 0, 0, 0, 0, 0, 0}, 8},       {{0, 4194304, 0, 0, 0, 0, 0}, 9},
-        {{0, 0, 4194304, 0, 0, 0, 0}, 10}, {{1, 2, 3, 4, 5, 6, 8388608}, 15},
+        {{4194304, 0, 5, 7, -1, 1, 0}, 8388607, 8388607, 5, 1, 0,
+         {4194304, 0, 5, 8388607, 7, 8388607, 1}},
+        {{4194304, 0, 5, 7, 1, -1, 0}, 3, 2, -5, 0, 0, {4194304, 0, 5, 3, 7, 2, -1}},
+        {{-1, 0, 0, 0, 0, 0, 0}, 0, 0, 0, 0, 8, {-1, 0, 0, 0, 0, 0, 0}},
+        {{0, 4194304, 0, 0, 0, 0, 0}, 0, 0, 0, 0, 9, {0, 4194304, 0, 0, 0, 0, 0}},
+        {{0, 0, 4194304, 0, 0, 0, 0}, 0, 0, 0, 0, 10, {0, 0, 4194304, 0, 0, 0, 0}},
+        {{1, 2, 3, 4, 5, 6, 8388608}, 0, 0, 0, 0, 15, {1, 2, 3, 4, 5, 6, 8388608}},
     };
-    const fonddrys_section stepped = {4194304, 0, 0, 8388607, 7, 8388607, 0};
-    fonddrys_section section = {4194304, 0, 0, 7, -1, 0, 0}; /* y is x - x2, and is limited */
-    int64_t answer = fonddrys_section_step(&section, 8388607);
-    CHECK(0, fonddrys_step_y(answer), 8388607);
-    CHECK(0, fonddrys_step_limited(answer), 1);
-    CHECK(0, fonddrys_step_refusal(answer), 0);
-    SAME(0, section, stepped);
     for (size_t i = 0; i < COUNT(rows); i++) {
-        section = rows[i].section;
-        answer = fonddrys_section_step(&section, 0);
-        CHECK(i, fonddrys_step_y(answer), 0);
-        CHECK(i, fonddrys_step_limited(answer), 0);
-        CHECK(i, fonddrys_step_refusal(answer), rows[i].want);
-        SAME(i, section, rows[i].section);
+        fonddrys_section section = rows[i].section;
+        fonddrys_step step = fonddrys_section_step(&section, rows[i].x);
+        CHECK(i, step.y, rows[i].y);
+        CHECK(i, step.remainder, rows[i].remainder);
+        CHECK(i, step.limited, rows[i].limited);
+        CHECK(i, step.refusal, rows[i].refusal);
+        SAME(i, section, rows[i].after);
     }
 }
 
@@ -262,23 +265,27 @@ static void test_preview(void)
 {
     static const struct {
         int32_t alpha, beta, gamma, words[2];
-        size_t result_count;
+        size_t result_count, remainder_count;
         uint32_t want;
-        int32_t results[3];
+        int32_t results[3], remainders[3];
     } rows[] = {
-        {6606, 4181093, 8375315, {256000, 256000}, 3, 0, {403, 1208, 7}},
-        {-1, 0, 0, {0, 8388608}, 1, 8, {7, 7, 7}},
-        {0, 4194304, 0, {0, 8388608}, 1, 9, {7, 7, 7}},
-        {0, 0, 4194304, {0, 8388608}, 1, 10, {7, 7, 7}},
-        {1, 2, 3, {0, 8388608}, 1, 6, {7, 7, 7}},
-        {1, 2, 3, {0, 8388608}, 2, 15, {7, 7, 7}},
+        {6606, 4181093, 8375315, {256000, 256000}, 3, 2, 0, {403, 1208, 7}, {831488, -331287, 9}},
+        {6606, 4181093, 8375315, {256000, 256000}, 2, 3, 0, {403, 1208, 7}, {831488, -331287, 9}},
+        {-1, 0, 0, {0, 8388608}, 1, 1, 8, {7, 7, 7}, {9, 9, 9}},
+        {0, 4194304, 0, {0, 8388608}, 1, 1, 9, {7, 7, 7}, {9, 9, 9}},
+        {0, 0, 4194304, {0, 8388608}, 1, 1, 10, {7, 7, 7}, {9, 9, 9}},
+        {1, 2, 3, {0, 8388608}, 1, 3, 6, {7, 7, 7}, {9, 9, 9}},
+        {1, 2, 3, {0, 8388608}, 3, 1, 6, {7, 7, 7}, {9, 9, 9}},
+        {1, 2, 3, {0, 8388608}, 2, 2, 15, {7, 7, 7}, {9, 9, 9}},
     };
     for (size_t i = 0; i < COUNT(rows); i++) {
-        int32_t results[3] = {7, 7, 7};
-        uint32_t refusal = fonddrys_preview(rows[i].alpha, rows[i].beta, rows[i].gamma,
-                                            rows[i].words, 2, results, rows[i].result_count);
+        int32_t results[3] = {7, 7, 7}, remainders[3] = {9, 9, 9};
+        uint32_t refusal =
+            fonddrys_preview(rows[i].alpha, rows[i].beta, rows[i].gamma, rows[i].words, 2, results,
+                             rows[i].result_count, remainders, rows[i].remainder_count);
         CHECK(i, refusal, rows[i].want);
         SAME(i, results, rows[i].results);
+        SAME(i, remainders, rows[i].remainders);
     }
 }
 

@@ -87,7 +87,8 @@ fn section_turn(
     let alpha = bands[bands::BAND_SIZE * b];
     let gamma = bands[bands::BAND_SIZE * b + 2];
     let beta = bands[bands::BAND_SIZE * b + 1];
-    let rounded = section::rounded_sum(alpha, beta, gamma, x, x2, y1, y2);
+    let sum = section::exact_sum(alpha, beta, gamma, x, x2, y1, y2);
+    let rounded = rounding::round_near(sum, section::SUM_SHIFT);
     let y = limit_word(channel, rounded);
     let after = BandSection {
         y1: y,

@@ -14,8 +14,10 @@ ghost use Rattle.loading.specs.Loading.{loaded};
 ghost use Rattle.numbers.specs.Layout.{unitOf, numbersOf};
 ghost use Rattle.wave_reading.specs.Reading.{found};
 ghost use Rattle.wave_writing.specs.Writing.{writeVerdict, written};
-ghost use Rattle.lending.specs.Layout.{loneSection, loneNumbers, packed, PreviewGives, BlockGives, OrderGives, SheetWriteGives, SheetReadGives};
+ghost use Rattle.preview.specs.Preview.{buffersOf};
+ghost use Rattle.lending.specs.Layout.{loneSection, loneNumbers, answerOf, PreviewGives, BlockGives, OrderGives, SheetWriteGives, SheetReadGives};
 use bands::Band;
+use lending::StepAnswer;
 use levels::Level;
 use settings::Setting;
 
@@ -52,20 +54,20 @@ pub extern "C" fn fonddrys_house_set(words: &mut [i32; bands::SET_SIZE])
 }
 
 // One step of the section whose seven numbers are lent: A, B, G, x1, x2, y1, y2. They are those of the section after the step;
-// refused, they stay as they are. The answer is one number: 2^32 times the sum of the mark for limiting and twice the refusal's number, and
-// y added, which may be negative.
+// refused, they stay as they are.
 #[no_mangle]
 pub extern "C" fn fonddrys_section_step(
     numbers: &mut [i32; lending::SECTION_NUMBERS],
     x: i32,
-) -> i64
-    ensures { λ r. ⌜ (r ≡ packed (stepped (loneSection (now (numbers .entry))) x)) × (now (numbers .exit) ≡ loneNumbers (stepped (loneSection (now (numbers .entry))) x .section)) ⌝ }
+) -> StepAnswer
+    ensures { λ r. ⌜ (r ≡ answerOf (stepped (loneSection (now (numbers .entry))) x)) × (now (numbers .exit) ≡ loneNumbers (stepped (loneSection (now (numbers .entry))) x .section)) ⌝ }
 {
     lending::section_step(numbers, x)
 }
 
-// The floating preview of the section with the band A, B, G, over a list of words from a cleared start. The results fill the front of the
-// buffer, and entries past them keep their contents. 0 for an accepted call, else the number of its refusal: the buffer is then as it was.
+// The floating preview of the section with the band A, B, G, over a list of words from a cleared start. The results fill the front of one
+// buffer and the remainders that of the other; entries past them keep their contents. 0 for an accepted call, else the number of its
+// refusal: both buffers are then as they were.
 #[no_mangle]
 pub extern "C" fn fonddrys_preview(
     alpha: i32,
@@ -73,10 +75,11 @@ pub extern "C" fn fonddrys_preview(
     gamma: i32,
     words: &[i32],
     results: &mut [i32],
+    remainders: &mut [i32],
 ) -> u32
-    ensures { λ r. ⌜ PreviewGives (bandOf alpha beta gamma) (now (words .entry)) (now (results .entry)) r (now (results .exit)) ⌝ }
+    ensures { λ r. ⌜ PreviewGives (bandOf alpha beta gamma) (now (words .entry)) (buffersOf (now (results .entry)) (now (remainders .entry))) r (buffersOf (now (results .exit)) (now (remainders .exit))) ⌝ }
 {
-    let verdict = preview::fill(Band { alpha, beta, gamma }, words, results);
+    let verdict = preview::fill(Band { alpha, beta, gamma }, words, results, remainders);
     refusals::number(verdict)
 }
 

@@ -3,13 +3,13 @@
 use mathlib.Core.Bool.{true, false}
 use mathlib.Core.List.{List, [], _∷_}
 use Prim.Native.Nat.{ℕ, _^_}
-use lib.IntN.{ℤ, pos, negsuc, negℤ, _*ℤ_}
+use lib.IntN.{ℤ, pos, negsuc, negℤ, _+ℤ_, _*ℤ_}
 use lib.Ieee.{fin}
 use lib.ListN.{getD}
 use Rattle.bands.specs.Bands.{bandAt}
 use Rattle.bands.specs.House.{houseSet}
 use Rattle.section.specs.Equation.{sumShift, flag, worked}
-use Rattle.section.specs.Step.{clearedSection, resultsOver}
+use Rattle.section.specs.Step.{clearedSection, resultsOver, remaindersOver}
 use Rattle.unit.specs.declared.Unit.{Unit}
 use Rattle.unit.specs.Cleared.{clearedChannel, bandsOf}
 use Rattle.unit.specs.Frame.{unitFrame, heard}
@@ -28,13 +28,23 @@ given is printed = record { given = given; printed = printed }
 abbrev y-of : ℤ → ℤ
 y-of S = worked S .y
 
+-- what the rounding takes of S
+abbrev left-of : ℤ → ℤ
+left-of S = worked S .remainder
+
 -- whether a section limits where the rounded number is r: S is 2^22 × r
 abbrev limits : ℤ → ℤ
 limits r = pos (flag (worked (pos (2 ^ sumShift) *ℤ r) .limited))
 
--- results of the house set's 31 Hz band, cleared: from x = 256,000, 256,000, 0
+-- results and remainders of the house set's 31 Hz band, cleared: from x = 256,000, 256,000, 0
+abbrev inputs : List ℤ
+inputs = pos 256000 ∷ pos 256000 ∷ pos 0 ∷ []
+
 abbrev result : ℕ → ℤ
-result n = getD (resultsOver (clearedSection (bandAt houseSet 0)) (pos 256000 ∷ pos 256000 ∷ pos 0 ∷ [])) n (pos 0)
+result n = getD (resultsOver (clearedSection (bandAt houseSet 0)) inputs) n (pos 0)
+
+abbrev remainder : ℕ → ℤ
+remainder n = getD (remaindersOver (clearedSection (bandAt houseSet 0)) inputs) n (pos 0)
 
 -- a cleared unit of one channel with the house set, its volume at v
 abbrev unitAt : ℤ → Unit
@@ -53,15 +63,29 @@ starred =
     ∷ (y-of (pos 6291456) is pos 2)
     ∷ (y-of (negℤ (pos 2097152)) is pos 0)
     ∷ (y-of (negℤ (pos 6291456)) is negℤ (pos 2))
+    -- "S = 2,097,152 leaves the remainder 2,097,152; 2,097,153 leaves -2,097,151; 6,291,456 leaves -2,097,152; -2,097,152 leaves -2,097,152;
+    -- -6,291,456 leaves 2,097,152"
+    ∷ (left-of (pos 2097152) is pos 2097152)
+    ∷ (left-of (pos 2097153) is negℤ (pos 2097151))
+    ∷ (left-of (pos 6291456) is negℤ (pos 2097152))
+    ∷ (left-of (negℤ (pos 2097152)) is negℤ (pos 2097152))
+    ∷ (left-of (negℤ (pos 6291456)) is pos 2097152)
     -- "Rounded 8,388,607 and -8,388,608 don't limit; 8,388,608 and -8,388,609 do"
     ∷ (limits (pos 8388607) is pos 0)
     ∷ (limits (negℤ (pos 8388608)) is pos 0)
     ∷ (limits (pos 8388608) is pos 1)
     ∷ (limits (negℤ (pos 8388609)) is pos 1)
+    -- "S = 2^22 × 8,388,608 + 5 limits, and leaves 5"
+    ∷ (y-of (pos (2 ^ sumShift) *ℤ pos 8388608 +ℤ pos 5) is pos 8388607)
+    ∷ (left-of (pos (2 ^ sumShift) *ℤ pos 8388608 +ℤ pos 5) is pos 5)
     -- "31 Hz, cleared, x = 256,000, 256,000, 0: y = 403, 1,208, 1,607"
     ∷ (result 0 is pos 403)
     ∷ (result 1 is pos 1208)
     ∷ (result 2 is pos 1607)
+    -- "the remainders are 831,488, -331,287, 1,017,513"
+    ∷ (remainder 0 is pos 831488)
+    ∷ (remainder 1 is negℤ (pos 331287))
+    ∷ (remainder 2 is pos 1017513)
     -- "Factor 1 - 2^-24: target 8,388,607. Factor -1: -8,388,608". The first is 16,777,215 × 2^-24
     ∷ (targetOf 0 (Factor (fin false 16777215 (negsuc 23))) is pos 8388607)
     ∷ (targetOf 0 (Factor (fin true 1 (pos 0))) is negℤ (pos 8388608))

@@ -2,8 +2,8 @@
 use mathlib.Core.Path.{_≡_}
 use mathlib.Core.Bool.{cond}
 use mathlib.Core.List.{List, [], _∷_}
-use Prim.Native.Nat.{ℕ, _+_, _*_, _^_}
-use lib.IntN.{ℤ, pos, _+ℤ_}
+use Prim.Native.Nat.{ℕ}
+use lib.IntN.{ℤ, pos}
 use lib.ListN.{length, getD}
 use Rattle.refusals.specs.Numbers.{numberOf, isAccepted}
 use Rattle.refusals.specs.declared.Verdict.{Verdict}
@@ -12,7 +12,7 @@ use Rattle.bands.specs.declared.Band.{Band}
 use Rattle.section.specs.Equation.{flag}
 use Rattle.section.specs.declared.Section.{Section}
 use Rattle.section.specs.declared.Stepped.{Stepped}
-use Rattle.preview.specs.Preview.{previewVerdict, previewed}
+use Rattle.preview.specs.Preview.{Buffers, previewVerdict, previewed}
 use Rattle.unit.specs.declared.Unit.{Unit}
 use Rattle.settings.specs.declared.Setting.{Setting}
 use Rattle.orders.specs.Orders.{ordered}
@@ -20,6 +20,7 @@ use Rattle.blocks.specs.Block.{blockPlayed, blockOutput}
 use Rattle.numbers.specs.Layout.{unitOf, numbersOf}
 use Rattle.writing.specs.Written.{filledCount, filled}
 use Rattle.reading.specs.Reading.{sheetRead}
+use Rattle.lending.specs.declared.StepAnswer.{StepAnswer}
 
 -- a section is seven numbers: A, B, G, x1, x2, y1, y2
 abbrev pub loneSection : List ℤ → Section
@@ -35,14 +36,15 @@ loneSection l =
 abbrev pub loneNumbers : Section → List ℤ
 loneNumbers s = s .band .alpha ∷ s .band .beta ∷ s .band .gamma ∷ s .x1 ∷ s .x2 ∷ s .y1 ∷ s .y2 ∷ []
 
--- an answer in one number: y in the low 32 bits, above it 1 where the section has limited, and twice the refusal's number
-abbrev pub packed : Stepped → ℤ
-packed r = pos ((2 * numberOf (r .verdict) + flag (r .limited)) * 2 ^ 32) +ℤ r .y
+-- a step's answer as numbers: y, the remainder, 1 where the section has limited, and the refusal's number
+abbrev pub answerOf : Stepped → StepAnswer
+answerOf r =
+    record { y = r .y; remainder = r .remainder; limited = flag (r .limited); refusal = numberOf (r .verdict) }
 
--- a preview: the refusal's number, and the buffer
-pub record PreviewGives (band : Band) (words room : List ℤ) (number : ℕ) (filled : List ℤ) : Type 0 where
-  pub number-is : number ≡ numberOf (previewVerdict band words (length room))
-  pub buffer-is : filled ≡ previewed band words room
+-- a preview: the refusal's number, and the two buffers
+pub record PreviewGives (band : Band) (words : List ℤ) (lent : Buffers) (number : ℕ) (after : Buffers) : Type 0 where
+  pub number-is : number ≡ numberOf (previewVerdict band words (length (lent .results)) (length (lent .remainders)))
+  pub buffers-are : after ≡ previewed band words lent
 
 -- ---- calls on a unit's numbers
 

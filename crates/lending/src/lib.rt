@@ -6,7 +6,7 @@ ghost use Rattle.section.specs.Step.{stepped};
 ghost use Rattle.unit.specs.Fit.{Fit};
 ghost use Rattle.loading.specs.Loading.{loaded};
 ghost use Rattle.numbers.specs.Layout.{numbersOf};
-ghost use Rattle.lending.specs.Layout.{loneSection, loneNumbers, packed, numbersAfter, BlockGives, OrderGives, SheetReadGives};
+ghost use Rattle.lending.specs.Layout.{loneSection, loneNumbers, answerOf, numbersAfter, BlockGives, OrderGives, SheetReadGives};
 use bands::Band;
 use refusals::Verdict;
 use section::Section;
@@ -17,11 +17,19 @@ use unit::Unit;
 // A section as numbers: A, B, G, x1, x2, y1, y2.
 pub const SECTION_NUMBERS: usize = 7;
 
+// What a step gives, as numbers: y, the remainder, 1 where the section has limited, else 0, and the refusal's number, 0 where there is none.
+#[repr(C)]
+pub struct StepAnswer {
+    pub y: i32,
+    pub remainder: i32,
+    pub limited: u32,
+    pub refusal: u32,
+}
+
 // One step of the section whose seven numbers are lent: A, B, G, x1, x2, y1, y2. They are those of the section after the step;
-// refused, they stay as they are. The answer is one number: 2^32 times the sum of the mark for limiting and twice the refusal's number, and
-// y added, which may be negative.
-pub fn section_step(numbers: &mut [i32; SECTION_NUMBERS], x: i32) -> i64
-    ensures { λ r. ⌜ (r ≡ packed (stepped (loneSection (now (numbers .entry))) x)) × (now (numbers .exit) ≡ loneNumbers (stepped (loneSection (now (numbers .entry))) x .section)) ⌝ }
+// refused, they stay as they are.
+pub fn section_step(numbers: &mut [i32; SECTION_NUMBERS], x: i32) -> StepAnswer
+    ensures { λ r. ⌜ (r ≡ answerOf (stepped (loneSection (now (numbers .entry))) x)) × (now (numbers .exit) ≡ loneNumbers (stepped (loneSection (now (numbers .entry))) x .section)) ⌝ }
 {
     let alpha = numbers[0];
     let beta = numbers[1];
@@ -50,7 +58,7 @@ pub fn section_step(numbers: &mut [i32; SECTION_NUMBERS], x: i32) -> i64
         after.y1,
         after.y2,
     ];
-    pack(answer)
+    answer_of(answer)
 }
 
 // Loads a band set: the lent numbers are then those of the loaded unit. 0 for an accepted set, else the number of its refusal.
@@ -109,12 +117,15 @@ fn store(numbers: &mut [i32; numbers::UNIT_SIZE], verdict: Verdict, after: Unit)
     refusals::number(verdict)
 }
 
-// An answer in one number.
-fn pack(answer: Stepped) -> i64
-    ensures { λ r. ⌜ r ≡ packed answer ⌝ }
+// An answer as numbers.
+fn answer_of(answer: Stepped) -> StepAnswer
+    ensures { λ r. ⌜ r ≡ answerOf answer ⌝ }
 {
     let verdict = answer.verdict;
-    let number = refusals::number(verdict) as i64;
-    let limited = answer.limited as i64;
-    (2 * number + limited) * 0x1_0000_0000 + answer.y as i64
+    StepAnswer {
+        y: answer.y,
+        remainder: answer.remainder,
+        limited: answer.limited as u32,
+        refusal: refusals::number(verdict),
+    }
 }

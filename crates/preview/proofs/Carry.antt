@@ -1,7 +1,7 @@
--- A preview carries its section whole: the section is read back from the floats, none of which is minus zero, and the result from the
--- preview after a step.
-use mathlib.Core.Path.{_≡_, sym, ap, _∙_}
-use mathlib.Core.Bool.{true}
+-- A preview carries its section whole: the section is read back from the floats, none of which is minus zero, and so are the result and the
+-- remainder after a step.
+use mathlib.Core.Path.{_≡_, sym, ap, _∙_, subst}
+use mathlib.Core.Bool.{true, false}
 use Prim.Native.Nat.{_^_, _≤_}
 use native.Mathlib.Nat.{le-trans, lt-of-le-of-lt}
 use lib.Dec.{T, lit≤, lit<}
@@ -11,15 +11,18 @@ use Rattle.refusals.specs.Numbers.{isAccepted}
 use Rattle.bands.specs.Bands.{bandOf}
 use Rattle.bands.specs.Words.{wordSize, isWord}
 use Rattle.bands.proofs.Laws.{Accepts, band-sizes, word-size}
+use Rattle.floats.specs.Whole.{isMinusZero}
 use Rattle.floats.proofs.Casts.{int-back}
 use Rattle.floats.proofs.Quotient.{whole-back}
 use Rattle.floats.proofs.WholeNumbers.{of-plus-zero}
 use Rattle.section.specs.declared.Section.{Section}
 use Rattle.section.specs.declared.Stepped.{Stepped}
+use Rattle.section.specs.Equation.{exactSum}
 use Rattle.section.specs.Step.{stepVerdict, acceptedStep, stepped}
+use Rattle.section.proofs.Laws.{remainder-size}
 use Rattle.section.proofs.Ready.{HoldsWords, accepted-advances, ready-accepts, ready-stays}
 use Rattle.preview.specs.declared.Preview.{Preview}
-use Rattle.preview.specs.Carried.{float, carried, sectionIn, PlusZero, StepAsks}
+use Rattle.preview.specs.Carried.{float, carried, carriedStep, sectionIn, PlusZero, StepAsks}
 use Rattle.preview.proofs.Sum.{below}
 
 -- each number of the section is at most 2^53 in size
@@ -99,7 +102,7 @@ module _ (s : Section) (r : HoldsWords s) where
         advances : stepped s x ≡ acceptedStep s x
         advances = accepted-advances s x (ready-accepts s x r w)
 
-    -- so its cast to an i32 loses nothing
+    -- so the cast of it to an i32 loses nothing
     pub result-back : T (inSigned binary64 31 (float (next .y1))) × (toSigned 31 (float (next .y1)) ≡ stepped s x .y)
     result-back = (cast .0, cast .1 ∙ next-result)
       where
@@ -108,3 +111,16 @@ module _ (s : Section) (r : HoldsWords s) where
           where
             size : natAbs (next .y1) ≤ wordSize
             size = word-size (next .y1) (ready-stays s x r w .y1-word)
+
+    -- the remainder is at most 2^21 in size
+    remainder-small : natAbs (stepped s x .remainder) ≤ 2 ^ 21
+    unfolding acceptedStep
+    remainder-small = subst (λ (a : Stepped). natAbs (a .remainder) ≤ 2 ^ 21) (sym (accepted-advances s x (ready-accepts s x r w))) (remainder-size (exactSum (s .band) x (s .x2) (s .y1) (s .y2)))
+
+    -- so the cast of it loses nothing either
+    pub remainder-back : T (inSigned binary64 31 (float (stepped s x .remainder))) × (toSigned 31 (float (stepped s x .remainder)) ≡ stepped s x .remainder)
+    remainder-back = int-back binary64 31 (stepped s x .remainder) (le-trans remainder-small (lit≤ tt)) (lt-of-le-of-lt remainder-small (lit< tt))
+
+    -- and it is plus zero where it is zero
+    pub remainder-plus : isMinusZero (carriedStep (stepped s x) .remainder) ≡ false
+    remainder-plus = of-plus-zero binary64 (stepped s x .remainder) (le-trans remainder-small (lit≤ tt))

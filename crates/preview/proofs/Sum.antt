@@ -1,19 +1,19 @@
 -- S of a step in floats. Each coefficient and each word is at most 2^23 in size, so products and sums are whole and below 2^53: nothing is
 -- rounded. The sums are floats of whole numbers, so that none of them is minus zero; of the products only that they are whole is known.
-use mathlib.Core.Path.{_≡_, ap, _∙_, subst}
-use Prim.Native.Nat.{ℕ, _+_, _*_, _^_, _≤_, _<_}
-use native.Mathlib.Nat.{le-trans, lt-of-le-of-lt}
+use mathlib.Core.Path.{_≡_, ap, _∙_}
+use Prim.Native.Nat.{ℕ, _+_, _*_, _^_, _≤_}
+use native.Mathlib.Nat.{le-trans}
 use native.Mathlib.Omega.{arith}
-use lib.Dec.{T, leb, lit≤, lit<, leb→le}
+use lib.Dec.{T, leb, lit≤, leb→le}
 use lib.IntN.{ℤ, pos, natAbs, _+ℤ_, _-ℤ_, _*ℤ_, +ℤ-idl}
 use lib.Ieee.{Float, binary64, prec, add, sub, mul}
 use Rattle.integers.proofs.Parts.{var, _⊕_, _⊖_, terms-eq}
-use Rattle.integers.proofs.Machine.{sum-sized, difference-sized, product-sized}
+use Rattle.integers.proofs.Machine.{difference-sized, product-sized}
 use Rattle.bands.specs.Words.{wordSize}
 use Rattle.bands.specs.declared.Band.{Band}
 use Rattle.floats.proofs.WholeNumbers.{Whole, of-whole, add-whole, sub-whole, mul-whole}
 use Rattle.section.specs.Equation.{exactSum}
-use Rattle.section.specs.Asks.{RoundedSumAsks}
+use Rattle.section.specs.Asks.{ExactSumAsks}
 use Rattle.preview.specs.Carried.{float}
 
 -- the code's S
@@ -25,7 +25,7 @@ floatSum zero alpha beta gamma x x2 y1 y2 =
 pub below : {n m : ℕ} → n ≤ m → T (leb m (2 ^ prec binary64)) → n ≤ 2 ^ prec binary64
 below {n} {m} h t = le-trans h (leb→le m (2 ^ prec binary64) t)
 
-module _ (band : Band) (x x2 y1 y2 : ℤ) (small : RoundedSumAsks band x x2 y1 y2) where
+module _ (band : Band) (x x2 y1 y2 : ℤ) (small : ExactSumAsks band x x2 y1 y2) where
   -- A × (x - x2), G × y1 and B × y2
   abbrev forward : ℤ
   forward = band .alpha *ℤ (x -ℤ x2)
@@ -55,10 +55,6 @@ module _ (band : Band) (x x2 y1 y2 : ℤ) (small : RoundedSumAsks band x x2 y1 y
   reordered : forward -ℤ back2 +ℤ back1 ≡ exactSum band x x2 y1 y2
   unfolding exactSum
   reordered = terms-eq (var forward ⊖ var back2 ⊕ var back1) (var forward ⊕ var back1 ⊖ var back2) (omega arith)
-
-  -- S is below 2^53
-  pub sum-size : natAbs (exactSum band x x2 y1 y2) < 2 ^ prec binary64
-  sum-size = subst (λ (z : ℤ). natAbs z < 2 ^ prec binary64) reordered (lt-of-le-of-lt (sum-sized (forward -ℤ back2) back1 part-size back1-size) (lit< tt))
 
   -- a coefficient or a word as a float
   word : (z : ℤ) → natAbs z ≤ wordSize → Whole (float z) z

@@ -1,15 +1,17 @@
 -- "The preview keeps coefficients and delayed words as f64": how it carries a section. Definitions only, by docs/SPECIFICATION.md, The floating preview.
 use mathlib.Core.Path.{_≡_}
 use mathlib.Core.Bool.{true, false}
-use Prim.Native.Nat.{_^_, _<_}
+use Prim.Native.Nat.{_^_, _≤_}
 use lib.IntN.{ℤ, natAbs}
 use lib.Ieee.{Float, binary64, prec, ofInt}
 use Rattle.refusals.specs.Numbers.{isAccepted}
 use Rattle.bands.specs.Bands.{bandOf}
 use Rattle.floats.specs.Whole.{wholeOf, isMinusZero}
 use Rattle.section.specs.declared.Section.{Section}
+use Rattle.section.specs.declared.Stepped.{Stepped}
 use Rattle.section.specs.Step.{stepVerdict}
 use Rattle.preview.specs.declared.Preview.{Preview}
+use Rattle.preview.specs.declared.PreviewStep.{PreviewStep}
 
 -- a whole number as an f64
 abbrev pub float : ℤ → Float
@@ -27,6 +29,10 @@ carried s =
       y1 = float (s .y1);
       y2 = float (s .y2);
     }
+
+-- what a step gives that carries a section's answer: the preview of the section after it, and the remainder as an f64
+abbrev pub carriedStep : Stepped → PreviewStep
+carriedStep r = record { preview = carried (r .section); remainder = float (r .remainder) }
 
 -- the section that a preview carries: its floats are whole, so each is the nearest whole number to itself
 abbrev pub sectionIn : Preview → Section
@@ -54,7 +60,7 @@ pub record StepAsks (p : Preview) (x : ℤ) : Type 0 where
   pub carries : p ≡ carried (sectionIn p)
   pub accepted : isAccepted (stepVerdict (sectionIn p) x) ≡ true
 
--- what the result asks of S: a whole number below 2^53 in size
-pub record ResultOfAsks (sum : Float) : Type 0 where
-  pub whole : sum ≡ float (wholeOf sum)
-  pub small : natAbs (wholeOf sum) < 2 ^ prec binary64
+-- what limiting asks of a number: whole, and at most 2^53 in size
+pub record LimitWordAsks (rounded : Float) : Type 0 where
+  pub whole : rounded ≡ float (wholeOf rounded)
+  pub small : natAbs (wholeOf rounded) ≤ 2 ^ prec binary64

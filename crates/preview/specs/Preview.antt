@@ -1,4 +1,4 @@
--- What the preview gives: the integer section's results over a list of words. Definitions only, by docs/SPECIFICATION.md, The floating preview.
+-- What the preview gives: the integer section's results and remainders over a list of words. Definitions only, by docs/SPECIFICATION.md, The floating preview.
 use mathlib.Core.Bool.{Bool, true, cond, _&&_}
 use mathlib.Core.List.{List, [], _∷_, _++_}
 use Prim.Native.Nat.{ℕ}
@@ -11,22 +11,40 @@ use Rattle.refusals.specs.declared.Verdict.the-variants.{Accepted, OutputShort,
 use Rattle.bands.specs.Words.{isWord}
 use Rattle.bands.specs.Bands.{bandVerdict}
 use Rattle.bands.specs.declared.Band.{Band}
-use Rattle.section.specs.Step.{clearedSection, resultsOver}
+use Rattle.section.specs.Step.{clearedSection, resultsOver, remaindersOver}
 
 -- every number of the list is a word
 unfoldable pub areWords : List ℤ → Bool
 areWords [] = true
 areWords (x ∷ xs) = isWord x && areWords xs
 
--- "8 to 10, then 6 (results buffer shorter than the words), then 15 a number that is no word"
-unfoldable pub previewVerdict : Band → List ℤ → ℕ → Verdict
-previewVerdict band words room =
-    firstOf (bandVerdict band) (unless (leb (length words) room) OutputShort (unless (areWords words) NotWord Accepted))
+-- "8 to 10, then 6 (either buffer shorter than the words), then 15 a number that is no word"
+unfoldable pub previewVerdict : Band → List ℤ → ℕ → ℕ → Verdict
+previewVerdict band words results remainders =
+    firstOf (bandVerdict band)
+    (unless (leb (length words) results && leb (length words) remainders) OutputShort (unless (areWords words) NotWord Accepted))
 
--- "from a cleared start its results equal the section's", and "its entries past the results keep their contents"
-abbrev pub sectionResults : Band → List ℤ → List ℤ → List ℤ
-sectionResults band words room = resultsOver (clearedSection band) words ++ drop (length words) room
+-- the two buffers that are lent
+pub record Buffers : Type 0 where
+  pub results : List ℤ
+  pub remainders : List ℤ
 
--- the buffer after a call: refused, "the buffer is unchanged"
-unfoldable pub previewed : Band → List ℤ → List ℤ → List ℤ
-previewed band words room = cond (isAccepted (previewVerdict band words (length room))) (sectionResults band words room) room
+abbrev pub buffersOf : List ℤ → List ℤ → Buffers
+buffersOf results remainders = record { results = results; remainders = remainders }
+
+-- a buffer whose front is filled: "entries past the results, and past the remainders, keep their contents"
+abbrev pub filledFront : List ℤ → List ℤ → List ℤ
+filledFront numbers room = numbers ++ drop (length numbers) room
+
+-- "from a cleared start its results and remainders equal the section's"
+abbrev pub sectionBuffers : Band → List ℤ → Buffers → Buffers
+sectionBuffers band words lent =
+    record {
+      results = filledFront (resultsOver (clearedSection band) words) (lent .results);
+      remainders = filledFront (remaindersOver (clearedSection band) words) (lent .remainders);
+    }
+
+-- the buffers after a call: refused, "both buffers are unchanged"
+unfoldable pub previewed : Band → List ℤ → Buffers → Buffers
+previewed band words lent =
+    cond (isAccepted (previewVerdict band words (length (lent .results)) (length (lent .remainders)))) (sectionBuffers band words lent) lent

@@ -2,7 +2,7 @@
 
 use super::run::{Checked, Run};
 use crate::figures::*;
-use crate::reference::{pack, Section, ACCEPTED};
+use crate::reference::{Section, Step, ACCEPTED};
 use crate::unit::orders::{Order, BOTH, VOLUME_BAND};
 use crate::unit::sheet::{exact, SHEET};
 use crate::unit::{cleared, house_unit, Numbers, LEFT, RIGHT, STRIPS, VOLUME};
@@ -13,19 +13,21 @@ fn gain(side: usize, band: usize) -> usize {
 }
 
 impl Run<'_> {
-    fn step_gives(&mut self, section: &mut Section, x: i32, (limited, y): (bool, i32)) -> Checked {
+    fn step_gives(&mut self, section: &mut Section, x: i32, limited: bool, [y, remainder]: [i32; 2]) -> Checked {
         let before = *section;
         let answer = self.subject.section_step(&mut before.clone(), x);
         self.step(section, x)?;
-        self.same(pack(ACCEPTED, limited, y), answer, || format!("step of {before:?} with x = {x}"))
+        let expected = Step { y, remainder, limited: limited.into(), refusal: ACCEPTED };
+        self.same(expected, answer, || format!("step of {before:?} with x = {x}"))
     }
 
-    /// A list with its results, and an entry behind them.
-    fn preview_gives(&mut self, band: [i32; 3], words: &[i32], results: &[i32]) -> Checked {
-        let mut lent = vec![i32::MIN; words.len() + 1];
+    /// A list with its results and its remainders, an entry behind the first and two behind the others.
+    fn preview_gives(&mut self, band: [i32; 3], words: &[i32], given: [&[i32]; 2]) -> Checked {
+        let behind: [&[i32]; 2] = [&[i32::MIN], &[i32::MAX, i32::MIN]];
+        let mut lent = behind.map(|behind| [vec![7; words.len()], behind.to_vec()].concat());
         self.preview_into(band, words, &lent)?;
-        let answer = self.subject.preview(band, words, &mut lent);
-        let expected = [results, &[i32::MIN]].concat();
+        let answer = self.asked_preview(band, words, &mut lent);
+        let expected = [0, 1].map(|buffer| [given[buffer], behind[buffer]].concat());
         self.same((ACCEPTED, expected), (answer, lent), || format!("preview with {band:?} of {words:?}"))
     }
 
@@ -93,32 +95,32 @@ impl Run<'_> {
 }
 
 pub fn of_sections(run: &mut Run) -> Checked {
-    for (s, y) in ROUNDED {
+    for (s, y, remainder) in ROUNDED {
         run.same(y.into(), run.subject.nearest(s.into(), 22), || format!("S = {s}"))?;
         // With B = G = 0 and x = 1 or -1, S is A or -A.
-        run.step_gives(&mut [s.abs(), 0, 0, 0, 0, 0, 0], s.signum(), (false, y))?;
+        run.step_gives(&mut [s.abs(), 0, 0, 0, 0, 0, 0], s.signum(), false, [y, remainder])?;
     }
-    for (mut section, x, limited, y) in STEPS_AT_THE_ENDS {
-        run.step_gives(&mut section, x, (limited, y))?;
+    for (mut section, x, limited, y, remainder) in STEPS_AT_THE_ENDS {
+        run.step_gives(&mut section, x, limited, [y, remainder])?;
     }
     let house = run.subject.house_set();
     run.same(&FIRST_TWO[..], &house[..6], || "house set".to_string())?;
     let mut section = [house[0], house[1], house[2], 0, 0, 0, 0];
-    for (x, y) in RUN_WORDS.into_iter().zip(RUN_RESULTS) {
-        run.step_gives(&mut section, x, (false, y))?;
+    for (place, x) in RUN_WORDS.into_iter().enumerate() {
+        run.step_gives(&mut section, x, false, [RUN_RESULTS[place], RUN_REMAINDERS[place]])?;
     }
     Ok(())
 }
 
 pub fn of_previews(run: &mut Run) -> Checked {
-    for (s, y) in ROUNDED {
-        run.preview_gives([s.abs(), 0, 0], &[s.signum()], &[y])?;
+    for (s, y, remainder) in ROUNDED {
+        run.preview_gives([s.abs(), 0, 0], &[s.signum()], [&[y], &[remainder]])?;
     }
-    for (band, words, results) in PREVIEWS_AT_THE_ENDS {
-        run.preview_gives(band, &words, &results)?;
+    for (band, words, results, remainders) in PREVIEWS_AT_THE_ENDS {
+        run.preview_gives(band, &words, [&results, &remainders])?;
     }
     let house = run.subject.house_set();
-    run.preview_gives([house[0], house[1], house[2]], &RUN_WORDS, &RUN_RESULTS)?;
+    run.preview_gives([house[0], house[1], house[2]], &RUN_WORDS, [&RUN_RESULTS, &RUN_REMAINDERS])?;
     Ok(())
 }
 

@@ -1,11 +1,11 @@
-//! Previews that are refused: "8 to 10, then 6 (results buffer shorter than the words), then 15 a number that is no
-//! word. The buffer is unchanged".
+//! Previews that are refused: "8 to 10, then 6 (either buffer shorter than the words), then 15 a number that is no word.
+//! Refused, both buffers are unchanged".
 
 use super::bands::{corner_bands, random_accepted, Band};
 use super::run::{Checked, Run};
 use super::sounds::{Sound, WORD_SOUNDS};
 use super::steps::{number_for, spoil, wrong_numbers};
-use crate::preview::RESULTS_TOO_SHORT;
+use crate::preview::BUFFER_TOO_SHORT;
 use crate::reference::{NO_WORD, WORD_MAX, WORD_MIN};
 
 /// Accepted bands, into which wrong numbers are put.
@@ -14,8 +14,10 @@ const FIT_BANDS: [Band; 4] =
 
 /// What can be wrong in a call; the first three are A, B and G.
 const BAND: u32 = 7;
-const SHORT: u32 = 8;
-const WORD: u32 = 16;
+const RESULTS: u32 = 8;
+const REMAINDERS: u32 = 16;
+const SHORT: u32 = RESULTS | REMAINDERS;
+const WORD: u32 = 32;
 
 /// A number that is no word.
 fn no_word(turn: usize) -> i32 {
@@ -35,19 +37,19 @@ fn spoilt(run: &mut Run, fit: Band, length: usize, wrong: u32, turn: usize) -> C
     if wrong & WORD != 0 {
         words[turn % length] = no_word(turn);
     }
-    let room = match (wrong & SHORT != 0, turn % 3) {
+    let rooms = [RESULTS, REMAINDERS].map(|short| match (wrong & short != 0, turn % 3) {
         (true, 0) => length - 1,
         (true, _) => run.random.below(length as u64) as usize,
         (false, more) => length + more,
-    };
-    let number = if wrong & BAND == 0 && wrong & SHORT != 0 { RESULTS_TOO_SHORT } else { number_for(wrong) };
-    run.stated_preview(band, &words, room, (number, 0))
+    });
+    let number = if wrong & BAND == 0 && wrong & SHORT != 0 { BUFFER_TOO_SHORT } else { number_for(wrong) };
+    run.stated_preview(band, &words, rooms, (number, 0))
 }
 
 /// Everything that can be wrong, alone and together.
 fn together(run: &mut Run, fit: Band) -> Checked {
     for length in [1, 2, 3, 8, 33] {
-        for wrong in 1..32 {
+        for wrong in 1..64 {
             for turn in 0..20 {
                 spoilt(run, fit, length, wrong, turn)?;
             }
@@ -64,10 +66,10 @@ fn each_place(run: &mut Run, fit: Band) -> Checked {
             for turn in 0..10 {
                 let mut words = right.clone();
                 words[place] = no_word(turn);
-                run.stated_preview(fit, &words, length + turn % 2, (NO_WORD, 0))?;
+                run.stated_preview(fit, &words, [length + turn % 2, length], (NO_WORD, 0))?;
                 let other = run.random.below(length as u64) as usize;
                 words[other] = no_word(turn + 3);
-                run.stated_preview(fit, &words, length, (NO_WORD, 0))?;
+                run.stated_preview(fit, &words, [length; 2], (NO_WORD, 0))?;
             }
         }
     }
@@ -81,20 +83,22 @@ fn long(run: &mut Run, fit: Band) -> Checked {
     for place in [0, 1, 34_463, 65_535, 65_536, LENGTH - 1] {
         let mut words = right.clone();
         words[place] = run.random.pick(&[WORD_MIN - 1, WORD_MAX + 1]);
-        run.stated_preview(fit, &words, LENGTH, (NO_WORD, 0))?;
+        run.stated_preview(fit, &words, [LENGTH; 2], (NO_WORD, 0))?;
     }
     for room in [0, 34_464, 65_536, LENGTH - 1] {
-        run.stated_preview(fit, &right, room, (RESULTS_TOO_SHORT, 0))?;
+        for rooms in [[room, LENGTH], [LENGTH, room]] {
+            run.stated_preview(fit, &right, rooms, (BUFFER_TOO_SHORT, 0))?;
+        }
     }
     Ok(())
 }
 
-/// A band with right words, with a short buffer and with a wrong number.
+/// A band with right words, with short buffers and with a wrong number.
 fn any_band(run: &mut Run, band: Band) -> Checked {
     let right = words(run, 3);
     let wrong = [right[0], no_word(run.random.below(10) as usize), right[2]];
-    for (words, room) in [(&right[..], 3), (&right, 2), (&wrong, 4), (&wrong, 1), (&[], 2)] {
-        run.preview(band, words, room)?;
+    for (words, rooms) in [(&right[..], [3, 4]), (&right, [2, 3]), (&wrong, [4, 3]), (&wrong, [3, 1]), (&[], [2, 0])] {
+        run.preview(band, words, rooms)?;
     }
     Ok(())
 }

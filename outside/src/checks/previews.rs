@@ -1,12 +1,13 @@
 //! Lists previewed with bands of every kind, held against the exact reference, and against the section of the subject
-//! and nothing else. Lists and results buffers of every small length and of larger ones: "6 (results buffer shorter
-//! than the words)"; "after an accepted call its entries past the results keep their contents."
+//! and nothing else. Lists and buffers of every small length and of larger ones, the two buffers of one length and of
+//! different ones: "6 (either buffer shorter than the words)"; "after an accepted call entries past the results, and
+//! past the remainders, keep their contents."
 
 use super::bands::{extreme_accepted, half_accepted, house_bands, random_accepted, slow_accepted, Band};
 use super::run::{Checked, Run};
-use super::same_preview::buffer;
+use super::same_preview::buffers;
 use super::sounds::{Sound, WORD_SOUNDS};
-use crate::preview::RESULTS_TOO_SHORT;
+use crate::preview::BUFFER_TOO_SHORT;
 use crate::reference::{ACCEPTED, WORD_MAX, WORD_MIN};
 
 const MILLION: usize = 1_000_000;
@@ -14,19 +15,19 @@ const MILLION: usize = 1_000_000;
 /// How a list is compared.
 type Compare = fn(&mut Run, Band, &[i32]) -> Checked;
 
-/// With the exact reference, a few entries of room behind the results.
+/// With the exact reference, a few entries of room behind the results and behind the remainders.
 fn with_the_exact(run: &mut Run, band: Band, words: &[i32]) -> Checked {
-    let room = words.len() + run.random.below(9) as usize;
-    run.preview(band, words, room).map(|_| ())
+    let rooms = [(); 2].map(|()| words.len() + run.random.below(9) as usize);
+    run.preview(band, words, rooms).map(|_| ())
 }
 
-/// With the subject's own section, the buffer just long enough: "its results equal the section's".
+/// With the subject's own section, the buffers just long enough: "its results and remainders equal the section's".
 fn with_the_section(run: &mut Run, band: Band, words: &[i32]) -> Checked {
-    let mut results = buffer(words.len(), &mut run.random);
-    let answer = run.subject.preview(band, words, &mut results);
+    let mut filled = buffers([words.len(); 2], &mut run.random);
+    let answer = run.asked_preview(band, words, &mut filled);
     run.same(ACCEPTED, answer, || format!("preview with {band:?} of {} words", words.len()))?;
     run.tally.words += words.len() as u64;
-    run.as_the_section(band, words, &results)
+    run.as_the_section(band, words, &filled)
 }
 
 fn list(run: &mut Run, compare: Compare, band: Band, sound: Sound, length: usize) -> Checked {
@@ -85,7 +86,7 @@ pub fn beside_section(run: &mut Run) -> Checked {
 /// What lies behind a list in memory: no words.
 const BEHIND: [i32; 4] = [WORD_MAX + 1, i32::MIN, i32::MAX, WORD_MIN - 1];
 
-/// A list of so many words with buffers of these lengths.
+/// A list of so many words with both buffers of each of these lengths, and with one of them just long enough or longer.
 fn with_rooms(run: &mut Run, band: Band, length: usize, rooms: impl IntoIterator<Item = usize>) -> Checked {
     let sound = match run.random.below(3) {
         0 => Sound::Ends,
@@ -94,8 +95,11 @@ fn with_rooms(run: &mut Run, band: Band, length: usize, rooms: impl IntoIterator
     let mut numbers = sound.list(length, &mut run.random);
     numbers.extend(BEHIND);
     for room in rooms {
-        let stated = if room < length { (RESULTS_TOO_SHORT, 0) } else { (ACCEPTED, length) };
-        run.stated_preview(band, &numbers[..length], room, stated)?;
+        let other = length + run.random.below(5) as usize;
+        let stated = if room < length { (BUFFER_TOO_SHORT, 0) } else { (ACCEPTED, length) };
+        for rooms in [[room; 2], [room, other], [other, room]] {
+            run.stated_preview(band, &numbers[..length], rooms, stated)?;
+        }
     }
     Ok(())
 }

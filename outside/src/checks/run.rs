@@ -7,7 +7,7 @@ use super::units::{random_fit, Sets};
 use super::{Difference, Tally};
 use crate::calls::Call;
 use crate::random::Random;
-use crate::reference::{exact, unpack, Section};
+use crate::reference::{exact, Section, ACCEPTED};
 use crate::subject::Subject;
 use crate::unit::orders::{self, Order};
 use crate::unit::{self, Numbers};
@@ -44,18 +44,17 @@ impl<'a> Run<'a> {
         }
     }
 
-    /// One step: compares 2 × refusal + limited, y and all seven numbers afterwards.
+    /// One step: compares the four numbers of the answer and all seven of the section afterwards.
     pub fn step(&mut self, section: &mut Section, x: i32) -> Checked {
         let before = *section;
         let mut other = before;
-        let (status, y) = unpack(exact::step(section, x));
-        let got = unpack(self.subject.section_step(&mut other, x));
+        let expected = exact::step(section, x);
+        let got = self.subject.section_step(&mut other, x);
         let inputs = || format!("step of A, B, G, x1, x2, y1, y2 = {before:?} with x = {x}");
-        self.same(((status, y), *section), (got, other), inputs)?;
-        if status > 1 {
-            self.tally.refused += 1;
-        } else {
-            self.tally.steps.count(&before, x, status == 1, y);
+        self.same((expected, *section), (got, other), inputs)?;
+        match expected.refusal {
+            ACCEPTED => self.tally.steps.count(&before, x, expected),
+            _ => self.tally.refused += 1,
         }
         Ok(())
     }

@@ -1,11 +1,11 @@
 //! Steps of a section: long lists of words, the corners of a word in every place, and refused steps: which number, the
-//! result 0, the section unchanged.
+//! result and the remainder 0, the section unchanged.
 
 use super::bands::{extreme_accepted, half_accepted, house_bands, random_accepted, Band};
 use super::run::{Checked, Run};
 use super::sounds::{Sound, WORD_SOUNDS};
 use crate::random::Random;
-use crate::reference::{pack, Section, NO_WORD, REFUSED_A, REFUSED_B, REFUSED_G, WORD_MAX, WORD_MIN};
+use crate::reference::{Section, Step, NO_WORD, REFUSED_A, REFUSED_B, REFUSED_G, WORD_MAX, WORD_MIN};
 
 /// What a cleared section remembers.
 const CLEARED: [i32; 4] = [0; 4];
@@ -121,7 +121,7 @@ fn refused(run: &mut Run, call: Call, number: u32) -> Checked {
     run.step(&mut before.clone(), x)?;
     let mut section = before;
     let answer = run.subject.section_step(&mut section, x);
-    run.same((pack(number, false, 0), before), (answer, section), || format!("step of {before:?} with x = {x}"))
+    run.same((Step::refused(number), before), (answer, section), || format!("step of {before:?} with x = {x}"))
 }
 
 pub fn refused_calls(run: &mut Run) -> Checked {

@@ -1,28 +1,45 @@
 //! What a group went through.
 
 use crate::exact_sound::judge::Distances;
-use crate::reference::{exact, unpack, Section, ACCEPTED};
+use crate::reference::{exact, Section, Step, ACCEPTED};
 use crate::unit::exact::{Halves, Met};
 use crate::unit::orders::{Order, Setting};
 use crate::unit::sheet::SHEET;
 use crate::wave;
 
+/// The largest S and the smallest: A, B and |G| as large as they may be, and words at their ends.
+const LARGEST: i128 = 8_388_607 * 16_777_215 + 8_388_606 * 8_388_608 + 4_194_303 * 8_388_608;
+const SMALLEST: i128 = -8_388_607 * 16_777_215 - 8_388_606 * 8_388_608 - 4_194_303 * 8_388_607;
+
 /// What accepted steps of a section met.
 #[derive(Clone, Copy, Default)]
 pub struct Steps {
+    pub count: u64,
     /// Steps that limited at the upper end of a word, and at the lower end.
     high: u64,
     low: u64,
     /// Steps where S / 2^22 lay at a half.
     halves: Halves,
+    /// Steps that left nothing, and those that limited and left something.
+    whole: u64,
+    limited_left: u64,
+    /// Steps with the largest S and with the smallest.
+    largest: u64,
+    smallest: u64,
 }
 
 impl Steps {
     /// Counts an accepted step by what the exact reference says of it.
-    pub fn count(&mut self, before: &Section, x: i32, limited: bool, y: i32) {
+    pub fn count(&mut self, before: &Section, x: i32, Step { y, limited, remainder, .. }: Step) {
+        let (sum, limited) = (exact::sum(before, x), limited == 1);
+        self.count += 1;
         self.high += u64::from(limited && y > 0);
         self.low += u64::from(limited && y < 0);
-        self.halves.count(exact::sum(before, x), 22);
+        self.halves.count(sum, 22);
+        self.whole += u64::from(remainder == 0);
+        self.limited_left += u64::from(limited && remainder != 0);
+        self.largest += u64::from(sum == LARGEST);
+        self.smallest += u64::from(sum == SMALLEST);
     }
 }
 
@@ -116,10 +133,9 @@ impl Tally {
         }
     }
 
-    pub fn count_previewed(&mut self, before: &Section, x: i32, answer: i64) {
-        let (status, y) = unpack(answer);
-        self.previewed.count(before, x, status == 1, y);
-        self.zeros_from_below += u64::from(y == 0 && exact::sum(before, x) < 0);
+    pub fn count_previewed(&mut self, before: &Section, x: i32, answer: Step) {
+        self.previewed.count(before, x, answer);
+        self.zeros_from_below += u64::from(answer.y == 0 && exact::sum(before, x) < 0);
     }
 
     pub fn count_wave(&mut self, file: &[u8], (refusal, from, size): wave::Read) {
@@ -166,11 +182,16 @@ macro_rules! counts {
 }
 
 counts! {
+    "steps" (steps.count)
     "refused steps" (refused)
     "steps limited at the upper end" (steps.high)
     "steps limited at the lower end" (steps.low)
     "halves of steps rounded up" (steps.halves.up)
     "halves of steps rounded down" (steps.halves.down)
+    "steps that left no remainder" (steps.whole)
+    "limited steps that left a remainder" (steps.limited_left)
+    "steps with the largest S" (steps.largest)
+    "steps with the smallest S" (steps.smallest)
     "frames" (frames)
     "blocks refused with 5" (blocks[5])
     "blocks refused with 6" (blocks[6])
@@ -213,6 +234,10 @@ counts! {
     "previews limited at the lower end" (previewed.low)
     "halves of previews rounded up" (previewed.halves.up)
     "halves of previews rounded down" (previewed.halves.down)
+    "previewed words that left no remainder" (previewed.whole)
+    "previewed words that limited and left a remainder" (previewed.limited_left)
+    "previewed words with the largest S" (previewed.largest)
+    "previewed words with the smallest S" (previewed.smallest)
     "previews rounded up to zero" (zeros_from_below)
     "previews refused with 6" (previews[6])
     "previews refused with 8" (previews[8])

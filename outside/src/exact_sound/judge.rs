@@ -5,7 +5,7 @@ use super::fraction::Fraction;
 use super::response::Responses;
 use super::{ExactSound, ONE};
 use crate::calls::{Call, List};
-use crate::reference::{exact, unpack, Section};
+use crate::reference::{exact, Section};
 
 /// What the frames of lists were found to be. A frame counts once a side.
 #[derive(Clone, Copy, Default)]
@@ -52,8 +52,7 @@ impl Limiting {
     fn frame(&mut self, samples: [i16; 2]) {
         for (place, sample) in samples.into_iter().enumerate() {
             for section in &mut self.sides[place] {
-                let (status, _) = unpack(exact::step(section, 256 * i32::from(sample)));
-                self.limited[place] |= status == 1;
+                self.limited[place] |= exact::step(section, 256 * i32::from(sample)).limited == 1;
             }
         }
     }

@@ -8,15 +8,14 @@ mod waves;
 use self::sheets::{exchanged, flag_2, four_blanks_for_eight, last_line_unread, letters_first};
 use self::sound::{
     block_with, frames_with, halves_up, levels, mix, nine_first, order_with, output, output_unlimited, past_target,
-    raise_flags, step_with, worked_again, wrapped,
+    preview_with, raise_flags, step_leaving, step_with, worked_again, wrapped,
 };
 use self::waves::{number, read_by, write_riff, write_with, Rules, RULES};
 use crate::checks::groups::*;
-use crate::preview::{fast::preview, RESULTS_TOO_SHORT};
+use crate::preview::{fast::preview, BUFFER_TOO_SHORT};
 use crate::reference::fast::{nearest, step};
 use crate::reference::{
-    band_refusal, house_set, is_word, pack, unpack, ACCEPTED, NO_WORD, REFUSED_A, REFUSED_G, TABLE_1, WORD_MAX,
-    WORD_MIN,
+    band_refusal, house_set, is_word, Step, ACCEPTED, NO_WORD, REFUSED_A, REFUSED_G, TABLE_1, WORD_MAX, WORD_MIN,
 };
 use crate::subject::{Form, FAST};
 use crate::unit::fast::{block, level_moved};
@@ -67,21 +66,37 @@ wrong! {
     "the word left to wrap" [LISTS CORNERS FIGURES]
         section_step = |section, x| step_with(section, x, |products| wrapped(nearest(products.iter().sum(), 22)));
     "counted as limited where y is at the end of a word" [CORNERS FIGURES]
-        section_step = |section, x| match unpack(step(section, x)) {
-            (0, y @ (WORD_MIN | WORD_MAX)) => pack(ACCEPTED, true, y),
-            (status, y) => (status << 32) + i64::from(y),
+        section_step = |section, x| match step(section, x) {
+            right @ Step { y: WORD_MIN | WORD_MAX, .. } => Step { limited: 1, ..right },
+            right => right,
+        };
+    "the remainder taken after limiting" [LISTS CORNERS FIGURES]
+        section_step = |section, x| step_leaving(section, x, |sum, right| (sum - (i128::from(right.y) << 22)) as i32);
+    "the remainder's sign turned" [LISTS CORNERS FIGURES]
+        section_step = |section, x| step_leaving(section, x, |_, right| -right.remainder);
+    "no remainder of a step that limits" [LISTS CORNERS FIGURES]
+        section_step = |section, x| step_leaving(section, x, |_, right| match right.limited {
+            0 => right.remainder,
+            _ => 0,
+        });
+    "what lies above the number below in place of the remainder" [LISTS CORNERS FIGURES]
+        section_step = |section, x| step_leaving(section, x, |sum, _| sum.rem_euclid(1 << 22) as i32);
+    "a remainder of a refused step" [REFUSED]
+        section_step = |section, x| match step(section, x) {
+            right @ Step { refusal: ACCEPTED, .. } => right,
+            right => Step { remainder: 1, ..right },
         };
     "9 tested ahead of 8" [BANDS REFUSED]
         band_refusal = |a, b, g| nine_first(b, band_refusal(a, b, g)),
         section_step = |section, x| {
-            let (status, y) = unpack(step(section, x));
-            pack(nine_first(section[1], (status >> 1) as u32), status & 1 == 1, y)
+            let right = step(section, x);
+            Step { refusal: nine_first(section[1], right.refusal), ..right }
         };
     "15 tested ahead of 8 to 10" [REFUSED]
         section_step = |section, x| {
             let [_, _, _, x1, x2, y1, y2] = *section;
             let words = [x, x1, x2, y1, y2].into_iter().all(is_word);
-            if words { step(section, x) } else { pack(NO_WORD, false, 0) }
+            if words { step(section, x) } else { Step::refused(NO_WORD) }
         };
     "high tested ahead of low" [LIMIT]
         limit = |v, low, high| if v > high { high } else { v.max(low) };
@@ -268,35 +283,82 @@ wrong! {
         };
 
     "silence for a preview" [PREVIEWS PREVIEW_LENGTHS PREVIEW_FIGURES PREVIEW_AND_SECTION]
-        preview = |band, words, results| {
-            let refusal = preview(band, words, results);
-            if refusal == ACCEPTED { results[..words.len()].fill(0); }
-            refusal
+        preview = |band, words, results, remainders| {
+            preview_with(band, words, results, remainders, |results, _| results.fill(0))
+        };
+    "no remainders from a preview" [PREVIEWS PREVIEW_LENGTHS PREVIEW_FIGURES PREVIEW_AND_SECTION]
+        preview = |band, words, results, remainders| {
+            preview_with(band, words, results, remainders, |_, remainders| remainders.fill(0))
+        };
+    "results and remainders exchanged" [PREVIEWS PREVIEW_LENGTHS PREVIEW_FIGURES PREVIEW_AND_SECTION]
+        preview = |band, words, results, remainders| {
+            preview_with(band, words, results, remainders, |results, remainders| results.swap_with_slice(remainders))
+        };
+    "remainders one place late" [PREVIEWS PREVIEW_LENGTHS PREVIEW_FIGURES PREVIEW_AND_SECTION]
+        preview = |band, words, results, remainders| {
+            preview_with(band, words, results, remainders, |_, remainders| {
+                remainders.rotate_right(usize::from(!remainders.is_empty()));
+            })
         };
     "the length taken modulo 65,536" [PREVIEWS PREVIEW_LENGTHS PREVIEW_AND_SECTION]
-        preview = |band, words, results| preview(band, &words[..words.len() % 65_536], results);
+        preview = |band, words, results, remainders| {
+            preview(band, &words[..words.len() % 65_536], results, remainders)
+        };
     "the entry behind the results written" [PREVIEWS PREVIEW_LENGTHS PREVIEW_FIGURES]
-        preview = |band, words, results| {
-            let refusal = preview(band, words, results);
+        preview = |band, words, results, remainders| {
+            let refusal = preview(band, words, results, remainders);
             if refusal == ACCEPTED && results.len() > words.len() { results[words.len()] = 0; }
             refusal
         };
+    "the entry behind the remainders written" [PREVIEWS PREVIEW_LENGTHS PREVIEW_FIGURES]
+        preview = |band, words, results, remainders| {
+            let refusal = preview(band, words, results, remainders);
+            if refusal == ACCEPTED && remainders.len() > words.len() { remainders[words.len()] = 0; }
+            refusal
+        };
     "each list refused" [PREVIEWS PREVIEW_LENGTHS REFUSED_PREVIEWS PREVIEW_FIGURES PREVIEW_AND_SECTION]
-        preview = |_, _, _| NO_WORD;
+        preview = |_, _, _, _| NO_WORD;
     "15 tested ahead of 6" [REFUSED_PREVIEWS]
-        preview = |band, words, results| match preview(band, words, results) {
-            RESULTS_TOO_SHORT if !words.iter().all(|&word| is_word(word)) => NO_WORD,
+        preview = |band, words, results, remainders| match preview(band, words, results, remainders) {
+            BUFFER_TOO_SHORT if !words.iter().all(|&word| is_word(word)) => NO_WORD,
             right => right,
         };
-    "a short buffer filled" [PREVIEW_LENGTHS REFUSED_PREVIEWS]
-        preview = |band, words, results| {
-            let refusal = preview(band, words, results);
-            if refusal == RESULTS_TOO_SHORT { preview(band, &words[..results.len()], results); }
+    "only the results' buffer tested by 6" [PREVIEW_LENGTHS REFUSED_PREVIEWS]
+        preview = |band, words, results, remainders| {
+            let count = words.len().min(remainders.len());
+            match preview(band, words, results, remainders) {
+                BUFFER_TOO_SHORT if results.len() >= words.len() => preview(band, &words[..count], results, remainders),
+                right => right,
+            }
+        };
+    "short buffers filled" [PREVIEW_LENGTHS REFUSED_PREVIEWS]
+        preview = |band, words, results, remainders| {
+            let refusal = preview(band, words, results, remainders);
+            let count = words.len().min(results.len()).min(remainders.len());
+            if refusal == BUFFER_TOO_SHORT { preview(band, &words[..count], results, remainders); }
+            refusal
+        };
+    "the remainders' buffer cleared by a refused call" [PREVIEW_LENGTHS REFUSED_PREVIEWS]
+        preview = |band, words, results, remainders| {
+            let refusal = preview(band, words, results, remainders);
+            if refusal != ACCEPTED { remainders.fill(0); }
             refusal
         };
     "a buffer longer than the words refused" [PREVIEWS PREVIEW_LENGTHS REFUSED_PREVIEWS PREVIEW_FIGURES]
-        preview = |band, words, results| {
-            if results.len() > words.len() { preview(band, &[0], &mut []) } else { preview(band, words, results) }
+        preview = |band, words, results, remainders| {
+            if results.len() > words.len() {
+                preview(band, &[0], &mut [], &mut [])
+            } else {
+                preview(band, words, results, remainders)
+            }
+        };
+    "buffers of different lengths refused" [PREVIEWS PREVIEW_LENGTHS REFUSED_PREVIEWS PREVIEW_FIGURES]
+        preview = |band, words, results, remainders| {
+            if results.len() != remainders.len() {
+                preview(band, &[0], &mut [], &mut [])
+            } else {
+                preview(band, words, results, remainders)
+            }
         };
 
     "the RIFF size used" [WAVES WAVE_CASES DAMAGED_WAVES]

@@ -1,7 +1,8 @@
 //! Steps, blocks and orders of the fast form, spoiled.
 
+use crate::preview::fast::preview;
 use crate::reference::fast::{nearest, step};
-use crate::reference::{band_refusal, pack, unpack, Section, ACCEPTED, REFUSED_A, REFUSED_B, WORD_MAX, WORD_MIN};
+use crate::reference::{band_refusal, exact, Section, Step, ACCEPTED, REFUSED_A, REFUSED_B, WORD_MAX, WORD_MIN};
 use crate::unit::fast::{block, fit};
 use crate::unit::orders::{fast as orders, Order};
 use crate::unit::{block_refusal, Numbers, GAIN_SLOPE, LEFT, RIGHT, STRIPS, VOLUME, VOLUME_SLOPE};
@@ -27,19 +28,45 @@ pub fn nine_first(b: i32, refusal: u32) -> u32 {
     }
 }
 
-/// A step whose result is worked from its three products by this function, and limited.
-pub fn step_with(section: &mut Section, x: i32, rounded: impl Fn([i64; 3]) -> i64) -> i64 {
+/// A step whose rounded number is worked from its three products by this function; the result and the remainder come of
+/// that number.
+pub fn step_with(section: &mut Section, x: i32, rounded: impl Fn([i64; 3]) -> i64) -> Step {
     let [a, b, g, _, x2, y1, y2] = section.map(i64::from);
     let products = [a * (i64::from(x) - x2), g * y1, -(b * y2)];
-    match unpack(step(section, x)) {
-        (0..=1, _) => {
-            let number = rounded(products);
-            let y = number.clamp(WORD_MIN.into(), WORD_MAX.into()) as i32;
-            section[5] = y;
-            pack(ACCEPTED, number != i64::from(y), y)
-        }
-        (status, y) => pack((status >> 1) as u32, false, y),
+    let right = step(section, x);
+    if right.refusal != ACCEPTED {
+        return right;
     }
+    let number = rounded(products);
+    let y = number.clamp(WORD_MIN.into(), WORD_MAX.into()) as i32;
+    section[5] = y;
+    let remainder = (products.iter().sum::<i64>() - (number << 22)) as i32;
+    Step { y, remainder, limited: u32::from(number != i64::from(y)), ..right }
+}
+
+/// An accepted step with another remainder; S is shown.
+pub fn step_leaving(section: &mut Section, x: i32, spoiled: impl Fn(i128, Step) -> i32) -> Step {
+    let sum = exact::sum(section, x);
+    let right = step(section, x);
+    match right.refusal {
+        ACCEPTED => Step { remainder: spoiled(sum, right), ..right },
+        _ => right,
+    }
+}
+
+/// An accepted preview that spoils the results and the remainders it leaves.
+pub fn preview_with(
+    band: [i32; 3],
+    words: &[i32],
+    results: &mut [i32],
+    remainders: &mut [i32],
+    spoil: impl FnOnce(&mut [i32], &mut [i32]),
+) -> u32 {
+    let refusal = preview(band, words, results, remainders);
+    if refusal == ACCEPTED {
+        spoil(&mut results[..words.len()], &mut remainders[..words.len()]);
+    }
+    refusal
 }
 
 /// A block that spoils the unit and the sound it leaves, where there is any.

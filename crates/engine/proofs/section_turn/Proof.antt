@@ -1,5 +1,5 @@
 -- `engine::section_turn` meets its contract: the section as read, its gain moved, its y worked, limited and stored, is the definition's.
-use mathlib.Core.Path.{_≡_, ap, ap₂, _∙_}
+use mathlib.Core.Path.{_≡_, sym, ap, ap₂, _∙_, subst}
 use mathlib.Core.Bool.{not}
 use mathlib.Core.List.{List}
 use Prim.Native.Nat.{ℕ, _≤_}
@@ -11,12 +11,13 @@ use mir.Val.{toZ, ofZ}
 use mir.Facts.{toZ-ofZ}
 use Rattle.integers.proofs.Machine.{Bounded, below-fits, product, result, result-need}
 use Rattle.rounding.specs.Rounding.{nearest, limit}
+use Rattle.rounding.specs.Asks.{RoundNearAsks}
 use Rattle.bands.specs.Words.{wordSize, wordLow, wordHigh, isWord}
 use Rattle.bands.specs.Bands.{bandOf, bandAt}
 use Rattle.bands.proofs.Laws.{band-sizes, word-size}
 use Rattle.section.specs.Equation.{exactSum, sumShift, worked}
-use Rattle.section.specs.Asks.{RoundedSumAsks}
-use Rattle.section.proofs.Laws.{worked-size}
+use Rattle.section.specs.Asks.{ExactSumAsks}
+use Rattle.section.proofs.Laws.{sum-roundable, worked-size}
 use Rattle.levels.specs.declared.Level.{Level}
 use Rattle.levels.specs.Levels.{gainSlope, moved}
 use Rattle.levels.proofs.Laws.{ramp-size}
@@ -33,12 +34,13 @@ use Rattle.engine.proofs.limit_word.Reads as limit-word-reads
 use Rattle.engine.proofs.put_section.Reads as put-section-reads
 use Rattle.engine.proofs.section_at.Reads as section-at-reads
 use Rattle.levels.proofs.Level.moved.Reads as moved-reads
-use Rattle.section.proofs.rounded_sum.Reads as rounded-sum-reads
+use Rattle.rounding.proofs.round_near.Reads as round-near-reads
+use Rattle.section.proofs.exact_sum.Reads as exact-sum-reads
 
 -- ---- the section as read
 
-module _ (c : lts.After-section-at (section-at-reads.Asked, section-at-reads.Learnt, moved-reads.Asked, moved-reads.Learnt, rounded-sum-reads.Asked, rounded-sum-reads.Learnt, limit-word-reads.Asked, limit-word-reads.Learnt, put-section-reads.Asked, put-section-reads.Learnt) reads.Pre reads.Post) where
-  abbrev start : lts.Start (section-at-reads.Asked, section-at-reads.Learnt, moved-reads.Asked, moved-reads.Learnt, rounded-sum-reads.Asked, rounded-sum-reads.Learnt, limit-word-reads.Asked, limit-word-reads.Learnt, put-section-reads.Asked, put-section-reads.Learnt) reads.Pre reads.Post
+module _ (c : lts.After-section-at (section-at-reads.Asked, section-at-reads.Learnt, moved-reads.Asked, moved-reads.Learnt, exact-sum-reads.Asked, exact-sum-reads.Learnt, round-near-reads.Asked, round-near-reads.Learnt, limit-word-reads.Asked, limit-word-reads.Learnt, put-section-reads.Asked, put-section-reads.Learnt) reads.Pre reads.Post) where
+  abbrev start : lts.Start (section-at-reads.Asked, section-at-reads.Learnt, moved-reads.Asked, moved-reads.Learnt, exact-sum-reads.Asked, exact-sum-reads.Learnt, round-near-reads.Asked, round-near-reads.Learnt, limit-word-reads.Asked, limit-word-reads.Learnt, put-section-reads.Asked, put-section-reads.Learnt) reads.Pre reads.Post
   start = c .before .before
 
   abbrev bands : List ℤ
@@ -66,7 +68,7 @@ module _ (c : lts.After-section-at (section-at-reads.Asked, section-at-reads.Lea
   fit = start .pre .section
 
   -- the coefficients and the numbers of the exact sum
-  small : RoundedSumAsks (bandAt bands b) x x2 (S .y1) (S .y2)
+  small : ExactSumAsks (bandAt bands b) x x2 (S .y1) (S .y2)
   small =
       omega (
         arith,
@@ -89,8 +91,8 @@ reads-small z h = toZ-ofZ (below-fits h tt)
 
 -- ---- its numbers as they are used
 
-module _ (c : lts.After-beta (section-at-reads.Asked, section-at-reads.Learnt, moved-reads.Asked, moved-reads.Learnt, rounded-sum-reads.Asked, rounded-sum-reads.Learnt, limit-word-reads.Asked, limit-word-reads.Learnt, put-section-reads.Asked, put-section-reads.Learnt) reads.Pre reads.Post) where
-  abbrev a : lts.After-section-at (section-at-reads.Asked, section-at-reads.Learnt, moved-reads.Asked, moved-reads.Learnt, rounded-sum-reads.Asked, rounded-sum-reads.Learnt, limit-word-reads.Asked, limit-word-reads.Learnt, put-section-reads.Asked, put-section-reads.Learnt) reads.Pre reads.Post
+module _ (c : lts.After-beta (section-at-reads.Asked, section-at-reads.Learnt, moved-reads.Asked, moved-reads.Learnt, exact-sum-reads.Asked, exact-sum-reads.Learnt, round-near-reads.Asked, round-near-reads.Learnt, limit-word-reads.Asked, limit-word-reads.Learnt, put-section-reads.Asked, put-section-reads.Learnt) reads.Pre reads.Post) where
+  abbrev a : lts.After-section-at (section-at-reads.Asked, section-at-reads.Learnt, moved-reads.Asked, moved-reads.Learnt, exact-sum-reads.Asked, exact-sum-reads.Learnt, round-near-reads.Asked, round-near-reads.Learnt, limit-word-reads.Asked, limit-word-reads.Learnt, put-section-reads.Asked, put-section-reads.Learnt) reads.Pre reads.Post
   a = c .before .before .before .before .before .before .before
 
   alpha-reads : toZ w64 (ofZ w64 (bandAt (bands a) (b a) .alpha)) ≡ bandAt (bands a) (b a) .alpha
@@ -117,20 +119,32 @@ module _ (c : lts.After-beta (section-at-reads.Asked, section-at-reads.Learnt, m
   abbrev sum : ℤ
   sum = exactSum (bandAt (bands a) (b a)) (x a) (x2 a) (S a .y1) (S a .y2)
 
+-- ---- the exact sum
+
+module _ (c : lts.After-exact-sum (section-at-reads.Asked, section-at-reads.Learnt, moved-reads.Asked, moved-reads.Learnt, exact-sum-reads.Asked, exact-sum-reads.Learnt, round-near-reads.Asked, round-near-reads.Learnt, limit-word-reads.Asked, limit-word-reads.Learnt, put-section-reads.Asked, put-section-reads.Learnt) reads.Pre reads.Post) where
+  sum-reads : toZ w64 (ofZ w64 (c .exact-sum .result)) ≡ sum (c .before)
+  sum-reads =
+      toZ-ofZ (record { sfits = c .exact-sum .ok })
+      ∙ c .exact-sum .ensures
+      ∙ (λ i. exactSum (bandOf (alpha-reads d i) (beta-reads d i) (gamma-reads d i)) (x-reads d i) (x2-reads d i) (y1-reads d i) (y2-reads d i))
+    where
+      d : lts.After-beta (section-at-reads.Asked, section-at-reads.Learnt, moved-reads.Asked, moved-reads.Learnt, exact-sum-reads.Asked, exact-sum-reads.Learnt, round-near-reads.Asked, round-near-reads.Learnt, limit-word-reads.Asked, limit-word-reads.Learnt, put-section-reads.Asked, put-section-reads.Learnt) reads.Pre reads.Post
+      d = c .before
+
 -- ---- rounded and limited, and the gain moved
 
-module _ (c : lts.After-limit-word (section-at-reads.Asked, section-at-reads.Learnt, moved-reads.Asked, moved-reads.Learnt, rounded-sum-reads.Asked, rounded-sum-reads.Learnt, limit-word-reads.Asked, limit-word-reads.Learnt, put-section-reads.Asked, put-section-reads.Learnt) reads.Pre reads.Post) where
-  abbrev d : lts.After-beta (section-at-reads.Asked, section-at-reads.Learnt, moved-reads.Asked, moved-reads.Learnt, rounded-sum-reads.Asked, rounded-sum-reads.Learnt, limit-word-reads.Asked, limit-word-reads.Learnt, put-section-reads.Asked, put-section-reads.Learnt) reads.Pre reads.Post
-  d = c .before .before .before
+module _ (c : lts.After-limit-word (section-at-reads.Asked, section-at-reads.Learnt, moved-reads.Asked, moved-reads.Learnt, exact-sum-reads.Asked, exact-sum-reads.Learnt, round-near-reads.Asked, round-near-reads.Learnt, limit-word-reads.Asked, limit-word-reads.Learnt, put-section-reads.Asked, put-section-reads.Learnt) reads.Pre reads.Post) where
+  abbrev d : lts.After-beta (section-at-reads.Asked, section-at-reads.Learnt, moved-reads.Asked, moved-reads.Learnt, exact-sum-reads.Asked, exact-sum-reads.Learnt, round-near-reads.Asked, round-near-reads.Learnt, limit-word-reads.Asked, limit-word-reads.Learnt, put-section-reads.Asked, put-section-reads.Learnt) reads.Pre reads.Post
+  d = c .before .before .before .before
 
-  abbrev o : lts.After-section-at (section-at-reads.Asked, section-at-reads.Learnt, moved-reads.Asked, moved-reads.Learnt, rounded-sum-reads.Asked, rounded-sum-reads.Learnt, limit-word-reads.Asked, limit-word-reads.Learnt, put-section-reads.Asked, put-section-reads.Learnt) reads.Pre reads.Post
+  abbrev o : lts.After-section-at (section-at-reads.Asked, section-at-reads.Learnt, moved-reads.Asked, moved-reads.Learnt, exact-sum-reads.Asked, exact-sum-reads.Learnt, round-near-reads.Asked, round-near-reads.Learnt, limit-word-reads.Asked, limit-word-reads.Learnt, put-section-reads.Asked, put-section-reads.Learnt) reads.Pre reads.Post
   o = a d
 
-  rounded-reads : toZ w64 (ofZ w64 (c .before .before .rounded-sum .result)) ≡ nearest (sum d) sumShift
+  rounded-reads : toZ w64 (ofZ w64 (c .before .before .round-near .result)) ≡ nearest (sum d) sumShift
   rounded-reads =
-      toZ-ofZ (record { sfits = c .before .before .rounded-sum .ok })
-      ∙ c .before .before .rounded-sum .ensures
-      ∙ (λ i. nearest (exactSum (bandOf (alpha-reads d i) (beta-reads d i) (gamma-reads d i)) (x-reads d i) (x2-reads d i) (y1-reads d i) (y2-reads d i)) sumShift)
+      toZ-ofZ (record { sfits = c .before .before .round-near .ok })
+      ∙ c .before .before .round-near .ensures
+      ∙ ap (λ (z : ℤ). nearest z sumShift) (sum-reads (c .before .before .before))
 
   y-reads : toZ w64 (ofZ w64 (c .limit-word .result)) ≡ worked (sum d) .y
   unfolding worked
@@ -172,11 +186,17 @@ module _ (c : lts.After-limit-word (section-at-reads.Asked, section-at-reads.Lea
   unfolding sectionFrame
   stored-is = λ i. record { y1 = y-reads i; y2 = y1-reads d i; gain = gain-is i }
 
-rounded-sum-requires : tie.Need-rounded-sum-requires
-rounded-sum-requires c κs =
+exact-sum-requires : tie.Need-exact-sum-requires
+exact-sum-requires c κs =
     simp (alpha-reads c, beta-reads c, gamma-reads c, x-reads c, x2-reads c, y1-reads c, y2-reads c) (small (a c))
 
-abbrev late : lts.After-struct-told3 (section-at-reads.Asked, section-at-reads.Learnt, moved-reads.Asked, moved-reads.Learnt, rounded-sum-reads.Asked, rounded-sum-reads.Learnt, limit-word-reads.Asked, limit-word-reads.Learnt, put-section-reads.Asked, put-section-reads.Learnt) reads.Pre reads.Post → lts.After-limit-word (section-at-reads.Asked, section-at-reads.Learnt, moved-reads.Asked, moved-reads.Learnt, rounded-sum-reads.Asked, rounded-sum-reads.Learnt, limit-word-reads.Asked, limit-word-reads.Learnt, put-section-reads.Asked, put-section-reads.Learnt) reads.Pre reads.Post
+round-near-requires : tie.Need-round-near-requires
+round-near-requires c κs =
+    let o = a (c .before) in
+    subst (λ (z : ℤ). RoundNearAsks z sumShift) (sym (sum-reads c))
+    (sum-roundable (bandAt (bands o) (b o)) (x o) (x2 o) (S o .y1) (S o .y2) (small o))
+
+abbrev late : lts.After-struct-told3 (section-at-reads.Asked, section-at-reads.Learnt, moved-reads.Asked, moved-reads.Learnt, exact-sum-reads.Asked, exact-sum-reads.Learnt, round-near-reads.Asked, round-near-reads.Learnt, limit-word-reads.Asked, limit-word-reads.Learnt, put-section-reads.Asked, put-section-reads.Learnt) reads.Pre reads.Post → lts.After-limit-word (section-at-reads.Asked, section-at-reads.Learnt, moved-reads.Asked, moved-reads.Learnt, exact-sum-reads.Asked, exact-sum-reads.Learnt, round-near-reads.Asked, round-near-reads.Learnt, limit-word-reads.Asked, limit-word-reads.Learnt, put-section-reads.Asked, put-section-reads.Learnt) reads.Pre reads.Post
 late c = c .before .before .before .before
 
 mul-result : tie.Need-mul-result
@@ -209,7 +229,8 @@ section-turn-spec =
     (λ c. search needs)
     (λ c. search needs)
     (λ c. search needs)
-    rounded-sum-requires
+    exact-sum-requires
+    round-near-requires
     (λ c κs. search needs)
     (λ c κs. search needs)
     mul-result

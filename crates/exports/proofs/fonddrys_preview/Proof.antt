@@ -10,7 +10,7 @@ use mir.Val.{toZ, ofZ}
 use Rattle.refusals.specs.Numbers.{numberOf}
 use Rattle.bands.specs.Bands.{bandOf}
 use Rattle.bands.specs.declared.Band.{Band}
-use Rattle.preview.specs.Preview.{previewVerdict, previewed}
+use Rattle.preview.specs.Preview.{Buffers, buffersOf, previewVerdict, previewed}
 use Rattle.lending.proofs.Laws.{band-reads}
 use Rattle.exports.proofs.fonddrys_preview.Statement.{statement}
 use Rattle.exports.proofs.fonddrys_preview.Tie as tie
@@ -22,24 +22,24 @@ use Rattle.refusals.proofs.number.Reads as number-reads
 returns : tie.Need-returns
 returns c =
     record {
-      number-is = c .number .ensures ∙ ap numberOf (f .fill .ensures .0 ∙ ap (λ (b : Band). previewVerdict b words (length room)) band-is);
-      buffer-is = f .fill .ensures .1 ∙ ap (λ (b : Band). previewed b words room) band-is;
+      number-is = c .number .ensures ∙ ap numberOf (f .fill .ensures .0 ∙ ap (λ (b : Band). previewVerdict b words (length (lent .results)) (length (lent .remainders))) band-is);
+      buffers-are = f .fill .ensures .1 ∙ ap (λ (b : Band). previewed b words lent) band-is;
     }
   where
     f : lts.After-fill (fill-reads.Asked, fill-reads.Learnt, number-reads.Asked, number-reads.Learnt) reads.Pre reads.Post
-    f = c .before .before
+    f = c .before .before .before
 
     s : lts.Start (fill-reads.Asked, fill-reads.Learnt, number-reads.Asked, number-reads.Learnt) reads.Pre reads.Post
-    s = f .before .before
+    s = f .before .before .before
 
     words : List ℤ
     words = now (s .args .words)
 
-    room : List ℤ
-    room = now (s .args .results)
+    lent : Buffers
+    lent = buffersOf (now (s .args .results)) (now (s .args .remainders))
 
     band-is : bandOf (toZ w32 (ofZ w32 (s .args .alpha))) (toZ w32 (ofZ w32 (s .args .beta))) (toZ w32 (ofZ w32 (s .args .gamma))) ≡ bandOf (s .args .alpha) (s .args .beta) (s .args .gamma)
     band-is = band-reads (s .fits .alpha) (s .fits .beta) (s .fits .gamma)
 
 pub fonddrys-preview-spec : {M : Type 1} → statement M
-fonddrys-preview-spec = tie.close (tie.spec (λ c κs. search needs) (λ c κs. search needs) (λ c. search needs) returns)
+fonddrys-preview-spec = tie.close (tie.spec (λ c κs. search needs) (λ c κs. search needs) (λ c. search needs) (λ c. search needs) returns)

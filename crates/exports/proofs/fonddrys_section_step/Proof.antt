@@ -5,14 +5,14 @@ use borrow.Author.Needs.{needs}
 use mir.Facts.{toZ-ofZ}
 use Rattle.section.specs.declared.Stepped.{Stepped}
 use Rattle.section.specs.Step.{stepped}
-use Rattle.lending.specs.Layout.{loneSection, loneNumbers, packed}
+use Rattle.lending.specs.Layout.{loneSection, loneNumbers, answerOf}
 use Rattle.exports.proofs.fonddrys_section_step.Statement.{statement}
 use Rattle.exports.proofs.fonddrys_section_step.Tie as tie
 
 returns : tie.Need-returns
 returns c =
     let answer = ap (stepped (loneSection (now (c .before .before .args .numbers)))) (toZ-ofZ (c .before .before .fits .x)) in (
-      toZ-ofZ (record { sfits = c .section-step .ok }) ∙ c .section-step .ensures .0 ∙ ap packed answer,
+      c .section-step .ensures .0 ∙ ap answerOf answer,
       c .section-step .ensures .1 ∙ ap (λ (r : Stepped). loneNumbers (r .section)) answer,
     )
 

@@ -1,16 +1,11 @@
 -- `exports::fonddrys_unit_fit` meets its contract: the test of the unit that the numbers stand for, as 1 or 0.
-use mathlib.Core.Path.{_≡_, refl, ap, _∙_}
-use mathlib.Core.Bool.{Bool, true, false}
-use mir.Val.{boolByte}
+use mathlib.Core.Path.{ap, _∙_}
+use borrow.Author.Needs.{needs}
 use Rattle.section.specs.Equation.{flag}
 use Rattle.unit.specs.Fit.{unitFits}
-use borrow.Author.Needs.{needs}
+use Rattle.lending.proofs.Laws.{flag-byte}
 use Rattle.exports.proofs.fonddrys_unit_fit.Statement.{statement}
 use Rattle.exports.proofs.fonddrys_unit_fit.Tie as tie
-
-flag-byte : (b : Bool) → boolByte b ≡ flag b
-flag-byte true = refl
-flag-byte false = refl
 
 returns : tie.Need-returns
 returns c = flag-byte (c .is-fit .result) ∙ ap flag (c .is-fit .ensures ∙ ap unitFits (c .before .unit-of .ensures))

@@ -14,18 +14,18 @@ use Rattle.integers.proofs.Machine.{reads-back}
 use Rattle.section.specs.declared.Section.{Section}
 use Rattle.section.specs.declared.Stepped.{Stepped}
 use Rattle.section.specs.Step.{stepped}
-use Rattle.lending.specs.Layout.{loneSection, loneNumbers, packed}
+use Rattle.lending.specs.Layout.{loneSection, loneNumbers, answerOf}
 use Rattle.lending.proofs.section_step.Statement.{statement}
 use Rattle.lending.proofs.section_step.Tie as tie
 use Rattle.lending.proofs.section_step.Reads as reads
 use Rattle.lending.proofs.section_step.Lts as lts
-use Rattle.lending.proofs.pack.Reads as pack-reads
+use Rattle.lending.proofs.answer_of.Reads as answer-of-reads
 use Rattle.section.proofs.step.Reads as step-reads
 
 -- ---- the lent numbers, as read
 
-module _ (c : lts.After-y2 (step-reads.Asked, step-reads.Learnt, pack-reads.Asked, pack-reads.Learnt) reads.Pre reads.Post) where
-  abbrev start : lts.Start (step-reads.Asked, step-reads.Learnt, pack-reads.Asked, pack-reads.Learnt) reads.Pre reads.Post
+module _ (c : lts.After-y2 (step-reads.Asked, step-reads.Learnt, answer-of-reads.Asked, answer-of-reads.Learnt) reads.Pre reads.Post) where
+  abbrev start : lts.Start (step-reads.Asked, step-reads.Learnt, answer-of-reads.Asked, answer-of-reads.Learnt) reads.Pre reads.Post
   start = c .before .before .before .before .before .before .before
 
   abbrev l : List ℤ
@@ -53,7 +53,7 @@ module _ (c : lts.After-y2 (step-reads.Asked, step-reads.Learnt, pack-reads.Aske
   y2-reads = reads-back w32 (getD l 6 (pos 0)) (omega arith)
 
 -- the answer is that of the section as lent
-answer-is : (c : lts.After-step (step-reads.Asked, step-reads.Learnt, pack-reads.Asked, pack-reads.Learnt) reads.Pre reads.Post) → c .step .result ≡ stepped (loneSection (l (c .before))) (start (c .before) .args .x)
+answer-is : (c : lts.After-step (step-reads.Asked, step-reads.Learnt, answer-of-reads.Asked, answer-of-reads.Learnt) reads.Pre reads.Post) → c .step .result ≡ stepped (loneSection (l (c .before))) (start (c .before) .args .x)
 answer-is c =
     c .step .ensures
     ∙ (λ i. stepped
@@ -66,12 +66,12 @@ answer-is c =
     })
     (toZ-ofZ (start s .fits .x) i))
   where
-    s : lts.After-y2 (step-reads.Asked, step-reads.Learnt, pack-reads.Asked, pack-reads.Learnt) reads.Pre reads.Post
+    s : lts.After-y2 (step-reads.Asked, step-reads.Learnt, answer-of-reads.Asked, answer-of-reads.Learnt) reads.Pre reads.Post
     s = c .before
 
 -- ---- the numbers of the section after the step, as stored
 
-module _ (c : lts.After-struct-told (step-reads.Asked, step-reads.Learnt, pack-reads.Asked, pack-reads.Learnt) reads.Pre reads.Post) where
+module _ (c : lts.After-struct-told (step-reads.Asked, step-reads.Learnt, answer-of-reads.Asked, answer-of-reads.Learnt) reads.Pre reads.Post) where
   abbrev after : Section
   after = c .before .before .step .result .section
 
@@ -91,7 +91,7 @@ module _ (c : lts.After-struct-told (step-reads.Asked, step-reads.Learnt, pack-r
 
 returns : tie.Need-returns
 returns c = (
-  toZ-ofZ (record { sfits = c .pack .ok }) ∙ c .pack .ensures ∙ ap packed answer,
+  c .answer-of .ensures ∙ ap answerOf answer,
   numbers-stored (c .before .before) ∙ ap (λ (r : Stepped). loneNumbers (r .section)) answer,
 )
   where

@@ -1,5 +1,9 @@
 -- `preview::check` meets its contract: the band's verdict first, then the room, then the words.
 use mathlib.Core.Path.{_≡_, sym, ap, _∙_}
+use mathlib.Core.Bool.{true}
+use lib.Dec.{leb}
+use lib.ListN.{length}
+use denote.Ref.{now}
 use borrow.Author.Needs.{needs}
 use borrow.Author.Tests.{not-true, not-false, le-leb, lt-leb}
 use Rattle.refusals.specs.Numbers.{isAccepted}
@@ -25,27 +29,49 @@ returns-2 : tie.Need-returns-2
 unfolding previewVerdict
 returns-2 c = sym (simp (band-test (c .before .before) ∙ not-false _ (c .before .if1 .left), lt-leb _ _ (c .if2 .taken)))
 
+-- both tests of the room
+module _ (c : lts.Else2 (check-band-reads.Asked, check-band-reads.Learnt, accepted-reads.Asked, accepted-reads.Learnt, are-words-reads.Asked, are-words-reads.Learnt) reads.Pre reads.Post) where
+  band-right : isAccepted (bandVerdict (c .before .before .before .before .args .band)) ≡ true
+  band-right = band-test (c .before .before) ∙ not-false _ (c .before .if1 .left)
+
+  results-have : leb (length (now (c .before .before .before .before .args .words))) (c .before .before .before .before .args .results) ≡ true
+  results-have = le-leb _ _ (c .if2 .left)
+
 returns-3 : tie.Need-returns-3
 unfolding previewVerdict
-returns-3 c =
-    sym
-    (simp (
-      band-test (c .before .before .before .before) ∙ not-false _ (c .before .before .before .if1 .left),
-      le-leb _ _ (c .before .before .if2 .left),
-      sym (c .before .are-words .ensures) ∙ not-true _ (c .if3 .taken),
-    ))
+returns-3 c = sym (simp (band-right (c .before), results-have (c .before), lt-leb _ _ (c .if3 .taken)))
 
 returns-4 : tie.Need-returns-4
 unfolding previewVerdict
 returns-4 c =
     sym
     (simp (
-      band-test (c .before .before .before .before) ∙ not-false _ (c .before .before .before .if1 .left),
-      le-leb _ _ (c .before .before .if2 .left),
-      sym (c .before .are-words .ensures) ∙ not-false _ (c .if3 .left),
+      band-right (c .before .before .before),
+      results-have (c .before .before .before),
+      le-leb _ _ (c .before .before .if3 .left),
+      sym (c .before .are-words .ensures) ∙ not-true _ (c .if4 .taken),
+    ))
+
+returns-5 : tie.Need-returns-5
+unfolding previewVerdict
+returns-5 c =
+    sym
+    (simp (
+      band-right (c .before .before .before),
+      results-have (c .before .before .before),
+      le-leb _ _ (c .before .before .if3 .left),
+      sym (c .before .are-words .ensures) ∙ not-false _ (c .if4 .left),
     ))
 
 pub check-spec : {M : Type 1} → statement M
 check-spec =
     tie.close
-    (tie.spec (λ c κs. search needs) (λ c κs. search needs) returns returns-2 (λ c κs. search needs) returns-3 returns-4)
+    (tie.spec
+    (λ c κs. search needs)
+    (λ c κs. search needs)
+    returns
+    returns-2
+    returns-3
+    (λ c κs. search needs)
+    returns-4
+    returns-5)

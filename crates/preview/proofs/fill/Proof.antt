@@ -1,4 +1,4 @@
--- `preview::fill` meets its contract: an accepted call is run, any other leaves the buffer.
+-- `preview::fill` meets its contract: an accepted call is run, any other leaves both buffers.
 use mathlib.Core.Path.{_≡_, sym, ap, _∙_}
 use mathlib.Core.List.{List}
 use lib.IntN.{ℤ}
@@ -7,8 +7,8 @@ use denote.Ref.{now}
 use borrow.Author.Needs.{needs}
 use Rattle.refusals.specs.Numbers.{isAccepted}
 use Rattle.refusals.specs.declared.Verdict.{Verdict}
-use Rattle.refusals.proofs.Laws.{passed, failed}
-use Rattle.preview.specs.Preview.{previewVerdict, sectionResults, previewed}
+use Rattle.preview.specs.Preview.{Buffers, buffersOf, previewVerdict}
+use Rattle.preview.proofs.Lists.{previewed-accepted, previewed-refused}
 use Rattle.preview.proofs.fill.Statement.{statement}
 use Rattle.preview.proofs.fill.Tie as tie
 use Rattle.preview.proofs.fill.Reads as reads
@@ -27,8 +27,14 @@ module _ (c : lts.After-accepted (check-reads.Asked, check-reads.Learnt, accepte
   abbrev room : List ℤ
   room = now (s .args .results)
 
+  abbrev spare : List ℤ
+  spare = now (s .args .remainders)
+
+  abbrev lent : Buffers
+  lent = buffersOf room spare
+
   abbrev verdict : Verdict
-  verdict = previewVerdict (s .args .band) words (length room)
+  verdict = previewVerdict (s .args .band) words (length room) (length spare)
 
   verdict-is : c .before .check .result ≡ verdict
   verdict-is = c .before .check .ensures
@@ -37,18 +43,16 @@ module _ (c : lts.After-accepted (check-reads.Asked, check-reads.Learnt, accepte
   accepted-is = sym (c .accepted .ensures ∙ ap isAccepted verdict-is)
 
 run-requires : tie.Need-run-requires
-run-requires c κs = accepted-is (c .before .before) ∙ c .before .if1 .taken
+run-requires c κs = accepted-is (c .before .before .before) ∙ c .before .before .if1 .taken
 
 returns : tie.Need-returns
-unfolding previewed
-returns c = (verdict-is a, c .before .run .ensures ∙ passed (isAccepted (verdict a)) (sectionResults (s a .args .band) (words a) (room a)) (room a) (accepted-is a ∙ c .before .before .before .if1 .taken))
+returns c = (verdict-is a, c .before .before .run .ensures ∙ sym (previewed-accepted (s a .args .band) (words a) (lent a) (accepted-is a ∙ c .before .before .before .before .before .if1 .taken)))
   where
     a : lts.After-accepted (check-reads.Asked, check-reads.Learnt, accepted-reads.Asked, accepted-reads.Learnt, run-reads.Asked, run-reads.Learnt) reads.Pre reads.Post
-    a = c .before .before .before .before
+    a = c .before .before .before .before .before .before
 
 returns-2 : tie.Need-returns-2
-unfolding previewed
-returns-2 c = (verdict-is a, failed (isAccepted (verdict a)) (sectionResults (s a .args .band) (words a) (room a)) (room a) (accepted-is a ∙ c .if1 .left))
+returns-2 c = (verdict-is a, sym (previewed-refused (s a .args .band) (words a) (lent a) (accepted-is a ∙ c .if1 .left)))
   where
     a : lts.After-accepted (check-reads.Asked, check-reads.Learnt, accepted-reads.Asked, accepted-reads.Learnt, run-reads.Asked, run-reads.Learnt) reads.Pre reads.Post
     a = c .before
@@ -56,4 +60,4 @@ returns-2 c = (verdict-is a, failed (isAccepted (verdict a)) (sectionResults (s 
 pub fill-spec : {M : Type 1} → statement M
 fill-spec =
     tie.close
-    (tie.spec (λ c κs. search needs) (λ c κs. search needs) run-requires (λ c. search needs) returns returns-2)
+    (tie.spec (λ c κs. search needs) (λ c κs. search needs) run-requires (λ c. search needs) (λ c. search needs) returns returns-2)

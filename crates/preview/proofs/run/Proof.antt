@@ -1,5 +1,5 @@
--- `preview::run` meets its contract. The loop's invariant: the preview carries the section after the words passed, the results stored are
--- the front of the section's, and what it gives over the words left is the rest.
+-- `preview::run` meets its contract. The loop's invariant: the preview carries the section after the words passed, what is stored are the
+-- results and the remainders of the front of the section's answers, and what it gives over the words left is the rest.
 use mathlib.Core.Path.{_≡_, refl, sym, ap, ap₂, _∙_, subst}
 use mathlib.Core.Bool.{true}
 use mathlib.Core.List.{List, [], _∷_, _++_, append-nil}
@@ -8,8 +8,8 @@ use native.Mathlib.Omega.{arith}
 use native.Mathlib.Numerals.{add-one}
 use lib.Dec.{T}
 use lib.IntN.{ℤ, pos}
-use lib.ListN.{length, drop, getD, set, length-append, length-drop, drop-of-length-le}
-use lib.Seq.{drop-cons, set-at, append-snoc}
+use lib.ListN.{length, drop, getD, set, length-append, drop-of-length-le}
+use lib.Seq.{append-snoc}
 use lib.Ieee.{binary64, toSigned, inSigned}
 use lib.Ieee.Casts.{toSigned-in}
 use denote.Ref.{now}
@@ -21,13 +21,15 @@ use Rattle.integers.proofs.Order.{both-true}
 use Rattle.integers.proofs.Machine.{reads-back}
 use Rattle.bands.specs.Words.{isWord}
 use Rattle.section.specs.declared.Section.{Section}
-use Rattle.section.specs.Step.{clearedSection, stepped, resultsOver}
+use Rattle.section.specs.declared.Stepped.{Stepped}
+use Rattle.section.specs.Step.{clearedSection, stepped, answersOver, resultOf, remainderOf}
 use Rattle.section.proofs.Ready.{HoldsWords, cleared-ready, ready-stays}
 use Rattle.preview.specs.declared.Preview.{Preview}
-use Rattle.preview.specs.Preview.{areWords}
-use Rattle.preview.specs.Carried.{float, carried, sectionIn, StepAsks}
-use Rattle.preview.proofs.Carry.{carried-back, may-step, result-back}
-use Rattle.preview.proofs.Lists.{words-from, results-from, AcceptedCall, preview-accepted}
+use Rattle.preview.specs.declared.PreviewStep.{PreviewStep}
+use Rattle.preview.specs.Preview.{areWords, buffersOf}
+use Rattle.preview.specs.Carried.{float, carried, carriedStep, sectionIn, StepAsks}
+use Rattle.preview.proofs.Carry.{carried-back, may-step, result-back, remainder-back}
+use Rattle.preview.proofs.Lists.{words-from, answers-from, holding, holding-length, holding-next, front-is, AcceptedCall, preview-accepted}
 use Rattle.preview.proofs.run.Statement.{statement}
 use Rattle.preview.proofs.run.Tie as tie
 use Rattle.preview.proofs.run.Reads as reads
@@ -35,23 +37,24 @@ use Rattle.preview.proofs.run.Lts as lts
 use Rattle.preview.proofs.cleared.Reads as cleared-reads
 use Rattle.preview.proofs.step.Reads as step-reads
 
--- after i words, begun with the preview `first`: the section that the preview carries, and the results so far
-record Inv (first : Preview) (words room results : List ℤ) (preview : Preview) (i : ℕ) : Type 0 where
+-- after the answers `done`, begun with the preview `first`: the section that the preview carries, and what is stored of the answers
+record Inv (first : Preview) (words room spare results remainders : List ℤ) (preview : Preview) (i : ℕ) : Type 0 where
   most : i ≤ length words
   section : Section
-  done : List ℤ
+  done : List Stepped
   carries : preview ≡ carried section
   ready : HoldsWords section
   left-words : areWords (drop i words) ≡ true
   done-length : length done ≡ i
-  stored : results ≡ done ++ drop i room
-  given : resultsOver (sectionIn first) words ≡ done ++ resultsOver section (drop i words)
+  results-hold : results ≡ holding resultOf done room
+  remainders-hold : remainders ≡ holding remainderOf done spare
+  given : answersOver (sectionIn first) words ≡ done ++ answersOver section (drop i words)
 
 abbrev Inv-loop : tie.InvT-loop
-Inv-loop words results₀ preview₀ i₀ results preview i = Inv preview₀ words results₀ results preview i
+Inv-loop words results₀ remainders₀ preview₀ i₀ results remainders preview i = Inv preview₀ words results₀ remainders₀ results remainders preview i
 
 abbrev μ-loop : tie.MeasureT-loop
-μ-loop words results₀ preview₀ i₀ results preview i = length words - i
+μ-loop words results₀ remainders₀ preview₀ i₀ results remainders preview i = length words - i
 
 -- ---- before the loop
 
@@ -65,11 +68,14 @@ module _ (c : lts.After-cleared (cleared-reads.Asked, cleared-reads.Learnt, step
   abbrev room : List ℤ
   room = now (start .args .results)
 
+  abbrev spare : List ℤ
+  spare = now (start .args .remainders)
+
   abbrev first : Section
   first = clearedSection (start .args .band)
 
-  accepts : AcceptedCall (start .args .band) words (length room)
-  accepts = preview-accepted (start .args .band) words (length room) (start .pre)
+  accepts : AcceptedCall (start .args .band) words (length room) (length spare)
+  accepts = preview-accepted (start .args .band) words (length room) (length spare) (start .pre)
 
   first-ready : HoldsWords first
   first-ready = cleared-ready (start .args .band) (accepts .band-accepted)
@@ -91,8 +97,9 @@ loop-holds c =
       ready = first-ready c;
       left-words = accepts c .all-words;
       done-length = refl;
-      stored = refl;
-      given = ap (λ (s : Section). resultsOver s (words c)) (first-back c);
+      results-hold = refl;
+      remainders-hold = refl;
+      given = ap (λ (s : Section). answersOver s (words c)) (first-back c);
     }
 
 -- ---- a word read
@@ -104,7 +111,7 @@ module _ (c : lts.After-step-arg (cleared-reads.Asked, cleared-reads.Learnt, ste
   abbrev i : ℕ
   i = c .before .before .loop .i
 
-  inv : Inv (begun .cleared .result) (words begun) (room begun) (c .before .before .loop .results) (c .before .before .loop .preview) i
+  inv : Inv (begun .cleared .result) (words begun) (room begun) (spare begun) (c .before .before .loop .results) (c .before .before .loop .remainders) (c .before .before .loop .preview) i
   inv = c .before .before .loop .inv
 
   below : i < length (words begun)
@@ -120,6 +127,15 @@ module _ (c : lts.After-step-arg (cleared-reads.Asked, cleared-reads.Learnt, ste
   x-word : (isWord x ≡ true) × (areWords (drop (suc i) (words begun)) ≡ true)
   x-word = both-true _ _ (sym (words-from (words begun) i below) ∙ inv .left-words)
 
+  -- both buffers have the place
+  results-room : i < length (c .before .before .loop .results)
+  results-room =
+      omega (arith, below, accepts begun .results-have, holding-length resultOf (inv .done) (room begun) _ i (inv .results-hold) (inv .done-length) (omega (arith, below, accepts begun .results-have)))
+
+  remainders-room : i < length (c .before .before .loop .remainders)
+  remainders-room =
+      omega (arith, below, accepts begun .remainders-have, holding-length remainderOf (inv .done) (spare begun) _ i (inv .remainders-hold) (inv .done-length) (omega (arith, below, accepts begun .remainders-have)))
+
   may-go : StepAsks (c .before .before .loop .preview) x
   may-go = may-step (inv .section) (inv .ready) x (x-word .0) (c .before .before .loop .preview) (inv .carries)
 
@@ -132,68 +148,72 @@ module _ (c : lts.After-step (cleared-reads.Asked, cleared-reads.Learnt, step-re
   abbrev n : lts.After-step-arg (cleared-reads.Asked, cleared-reads.Learnt, step-reads.Asked, step-reads.Learnt) reads.Pre reads.Post Inv-loop μ-loop
   n = c .before
 
-  -- the section before the step, what the step gives, and the section after it
+  -- the section before the step, and its answer
   abbrev s : Section
   s = inv n .section
 
-  abbrev next : Section
-  next = stepped s (x n) .section
+  abbrev answer : Stepped
+  answer = stepped s (x n)
 
-  abbrev y : ℤ
-  y = stepped s (x n) .y
-
-  next-is : c .step .result ≡ carried next
-  next-is =
+  answer-is : c .step .result ≡ carriedStep answer
+  answer-is =
       c .step .ensures
-      ∙ (λ k. carried (stepped ((ap sectionIn (inv n .carries) ∙ carried-back s (inv n .ready)) k) (x-reads n k) .section))
+      ∙ (λ k. carriedStep (stepped ((ap sectionIn (inv n .carries) ∙ carried-back s (inv n .ready)) k) (x-reads n k)))
 
-  back : T (inSigned binary64 31 (float (next .y1))) × (toSigned 31 (float (next .y1)) ≡ y)
-  back = result-back s (inv n .ready) (x n) (x-word n .0)
+  result-cast : T (inSigned binary64 31 (float (answer .section .y1))) × (toSigned 31 (float (answer .section .y1)) ≡ answer .y)
+  result-cast = result-back s (inv n .ready) (x n) (x-word n .0)
 
-  -- the result as it is stored
-  y-is : toZ w32 (ofZ w32 (toSigned 31 (c .step .result .y1))) ≡ y
+  remainder-cast : T (inSigned binary64 31 (float (answer .remainder))) × (toSigned 31 (float (answer .remainder)) ≡ answer .remainder)
+  remainder-cast = remainder-back s (inv n .ready) (x n) (x-word n .0)
+
+  -- the two numbers as they are stored
+  y-is : toZ w32 (ofZ w32 (toSigned 31 (c .step .result .preview .y1))) ≡ answer .y
   y-is =
-      toZ-ofZ (record { sfits = toSigned-in 31 (c .step .result .y1) })
-      ∙ ap (λ (p : Preview). toSigned 31 (p .y1)) next-is
-      ∙ back .1
+      toZ-ofZ (record { sfits = toSigned-in 31 (c .step .result .preview .y1) })
+      ∙ ap (λ (p : PreviewStep). toSigned 31 (p .preview .y1)) answer-is
+      ∙ result-cast .1
 
-  fewer : i n < length (room (begun n))
-  fewer = omega (arith, below n, accepts (begun n) .room-has)
-
-  length-now : length (n .before .before .loop .results) ≡ length (room (begun n))
-  length-now =
-      ap length (inv n .stored) ∙ length-append (inv n .done) (drop (i n) (room (begun n))) ∙ omega (arith, inv n .done-length, length-drop (i n) (room (begun n)), fewer)
+  remainder-stored : toZ w32 (ofZ w32 (toSigned 31 (c .step .result .remainder))) ≡ answer .remainder
+  remainder-stored =
+      toZ-ofZ (record { sfits = toSigned-in 31 (c .step .result .remainder) })
+      ∙ ap (λ (p : PreviewStep). toSigned 31 (p .remainder)) answer-is
+      ∙ remainder-cast .1
 
 float-to-int-results : tie.Need-float-to-int-results Inv-loop μ-loop
 float-to-int-results c =
-    subst (λ (p : Preview). T (inSigned binary64 31 (p .y1))) (sym (next-is (c .before))) (back (c .before) .0)
+    subst (λ (p : PreviewStep). T (inSigned binary64 31 (p .preview .y1))) (sym (answer-is (c .before .before))) (result-cast (c .before .before) .0)
 
-slice-set-from-results : tie.Need-slice-set-from-results Inv-loop μ-loop
-slice-set-from-results c = omega (arith, fewer (c .before), length-now (c .before))
+slice-set-from-remainders : tie.Need-slice-set-from-remainders Inv-loop μ-loop
+slice-set-from-remainders c = results-room (n (c .before .before))
+
+float-to-int-remainders : tie.Need-float-to-int-remainders Inv-loop μ-loop
+float-to-int-remainders c =
+    subst (λ (p : PreviewStep). T (inSigned binary64 31 (p .remainder))) (sym (answer-is (c .before .before .before))) (remainder-cast (c .before .before .before) .0)
+
+slice-set-from-remainders-2 : tie.Need-slice-set-from-remainders-2 Inv-loop μ-loop
+slice-set-from-remainders-2 c = remainders-room (n (c .before .before .before))
 
 loop-again : tie.Need-loop-again Inv-loop μ-loop
 loop-again c =
-    subst (λ (k : ℕ). Inv (begun m .cleared .result) (words (begun m)) (room (begun m)) (set (m .before .before .loop .results) (i m) (toZ w32 (ofZ w32 (toSigned 31 (a .step .result .y1))))) (a .step .result) k) (sym (add-one (i m)))
+    subst (λ (k : ℕ). Inv (begun m .cleared .result) (words (begun m)) (room (begun m)) (spare (begun m)) (set (m .before .before .loop .results) (i m) (toZ w32 (ofZ w32 (toSigned 31 (a .step .result .preview .y1))))) (set (m .before .before .loop .remainders) (i m) (toZ w32 (ofZ w32 (toSigned 31 (a .step .result .remainder))))) (a .step .result .preview) k) (sym (add-one (i m)))
     (record {
       most = below m;
-      section = next a;
-      done = inv m .done ++ (y a ∷ []);
-      carries = next-is a;
+      section = answer a .section;
+      done = inv m .done ++ (answer a ∷ []);
+      carries = ap (λ (p : PreviewStep). p .preview) (answer-is a);
       ready = ready-stays (s a) (x m) (inv m .ready) (x-word m .0);
       left-words = x-word m .1;
-      done-length = length-append (inv m .done) (y a ∷ []) ∙ omega (arith, inv m .done-length);
-      stored =
-          ap₂ (λ (l : List ℤ) (z : ℤ). set l (i m) z) (inv m .stored ∙ ap (λ (l : List ℤ). inv m .done ++ l) (drop-cons (room (begun m)) (i m) (pos 0) (fewer a))) (y-is a)
-          ∙ set-at (inv m .done) (getD (room (begun m)) (i m) (pos 0)) (drop (suc (i m)) (room (begun m))) (y a) (i m) (inv m .done-length)
-          ∙ sym (append-snoc (inv m .done) (y a) (drop (suc (i m)) (room (begun m))));
+      done-length = length-append (inv m .done) (answer a ∷ []) ∙ omega (arith, inv m .done-length);
+      results-hold = holding-next resultOf (inv m .done) (room (begun m)) _ (i m) (inv m .results-hold) (inv m .done-length) (answer a) _ (y-is a) (omega (arith, below m, accepts (begun m) .results-have));
+      remainders-hold = holding-next remainderOf (inv m .done) (spare (begun m)) _ (i m) (inv m .remainders-hold) (inv m .done-length) (answer a) _ (remainder-stored a) (omega (arith, below m, accepts (begun m) .remainders-have));
       given =
           inv m .given
-          ∙ ap (λ (l : List ℤ). inv m .done ++ l) (results-from (words (begun m)) (i m) (below m) (s a))
-          ∙ sym (append-snoc (inv m .done) (y a) (resultsOver (next a) (drop (suc (i m)) (words (begun m)))));
+          ∙ ap (λ (l : List Stepped). inv m .done ++ l) (answers-from (words (begun m)) (i m) (below m) (s a))
+          ∙ sym (append-snoc (inv m .done) (answer a) (answersOver (answer a .section) (drop (suc (i m)) (words (begun m)))));
     })
   where
     a : lts.After-step (cleared-reads.Asked, cleared-reads.Learnt, step-reads.Asked, step-reads.Learnt) reads.Pre reads.Post Inv-loop μ-loop
-    a = c .before
+    a = c .before .before .before
 
     m : lts.After-step-arg (cleared-reads.Asked, cleared-reads.Learnt, step-reads.Asked, step-reads.Learnt) reads.Pre reads.Post Inv-loop μ-loop
     m = n a
@@ -204,30 +224,34 @@ module _ (c : lts.After-loop (cleared-reads.Asked, cleared-reads.Learnt, step-re
   abbrev origin : lts.After-cleared (cleared-reads.Asked, cleared-reads.Learnt, step-reads.Asked, step-reads.Learnt) reads.Pre reads.Post Inv-loop μ-loop
   origin = c .before .before
 
-  last : Inv (origin .cleared .result) (words origin) (room origin) (c .before .loop .results) (c .before .loop .preview) (c .before .loop .i)
+  last : Inv (origin .cleared .result) (words origin) (room origin) (spare origin) (c .before .loop .results) (c .before .loop .remainders) (c .before .loop .preview) (c .before .loop .i)
   last = c .before .loop .inv
 
-  all : c .before .loop .i ≡ length (words origin)
-  all = omega (arith, last .most, c .loop-test .left)
-
-  -- no word is left, so the results are all stored
-  done-is : last .done ≡ resultsOver (first origin) (words origin)
-  unfolding resultsOver
+  -- no word is left, so the answers are all stored
+  done-is : last .done ≡ answersOver (first origin) (words origin)
+  unfolding answersOver
   done-is =
       sym
-      (ap (λ (f : Section). resultsOver f (words origin)) (sym (first-back origin))
+      (ap (λ (f : Section). answersOver f (words origin)) (sym (first-back origin))
       ∙ last .given
-      ∙ ap (λ (l : List ℤ). last .done ++ resultsOver (last .section) l) (drop-of-length-le (words origin) (c .loop-test .left))
+      ∙ ap (λ (l : List ℤ). last .done ++ answersOver (last .section) l) (drop-of-length-le (words origin) (c .loop-test .left))
       ∙ append-nil (last .done))
 
 same-length : tie.Need-same-length Inv-loop μ-loop
 same-length c =
-    ap length (last c .stored)
-    ∙ length-append (last c .done) (drop (c .before .loop .i) (room (origin c)))
-    ∙ omega (arith, last c .done-length, length-drop (c .before .loop .i) (room (origin c)), all c, accepts (origin c) .room-has)
+    holding-length resultOf (last c .done) (room (origin c)) _ (c .before .loop .i) (last c .results-hold) (last c .done-length)
+    (omega (arith, last c .most, accepts (origin c) .results-have))
+
+same-length-2 : tie.Need-same-length-2 Inv-loop μ-loop
+same-length-2 c =
+    holding-length remainderOf (last c .done) (spare (origin c)) _ (c .before .loop .i) (last c .remainders-hold) (last c .done-length)
+    (omega (arith, last c .most, accepts (origin c) .remainders-have))
 
 returns : tie.Need-returns Inv-loop μ-loop
-returns c = last c .stored ∙ ap₂ (λ (l : List ℤ) (k : ℕ). l ++ drop k (room (origin c))) (done-is c) (all c)
+returns c =
+    ap₂ buffersOf (last c .results-hold) (last c .remainders-hold)
+    ∙ ap (λ (l : List Stepped). buffersOf (holding resultOf l (room (origin c))) (holding remainderOf l (spare (origin c)))) (done-is c)
+    ∙ ap₂ buffersOf (front-is resultOf (answersOver (first (origin c)) (words (origin c))) (room (origin c))) (front-is remainderOf (answersOver (first (origin c)) (words (origin c))) (spare (origin c)))
 
 pub run-spec : {M : Type 1} → statement M
 run-spec =
@@ -242,9 +266,13 @@ run-spec =
     step-requires
     float-to-int-results
     (λ c. search needs)
-    slice-set-from-results
+    slice-set-from-remainders
+    float-to-int-remainders
+    (λ c. search needs)
+    slice-set-from-remainders-2
     (λ c. search needs)
     (λ c. search needs)
     loop-again
     same-length
+    same-length-2
     returns)

@@ -10,7 +10,7 @@ use std::process::ExitCode;
 use outside::checks::units::{random_fit, Sets};
 use outside::ffi::raw;
 use outside::random::Random;
-use outside::reference::{house_set, ACCEPTED};
+use outside::reference::{fast, house_set, Section, Step, ACCEPTED};
 use outside::subject::{Form, FAST, LIBRARY};
 use outside::timer::{fold, in_turns, status, timed, within};
 use outside::unit::orders::Order;
@@ -29,31 +29,31 @@ const PREVIEWS: usize = 20;
 const SHEETS: usize = 65_536;
 const MOST_SHEET: f64 = 1.50;
 
-/// Two forms by name.
-type Pair = [(&'static str, Form); 2];
-const WITH_RUST: Pair = [("library", LIBRARY), ("Rust", FAST)];
-const WITH_SECTION: Pair = [("preview", LIBRARY), ("section", Form { preview: section_steps, ..LIBRARY })];
+/// Two contenders by name.
+type Pair<F> = [(&'static str, F); 2];
+const WITH_RUST: Pair<Form> = [("library", LIBRARY), ("Rust", FAST)];
+const WITH_SECTION: Pair<Form> = [("preview", LIBRARY), ("section", Form { preview: section_steps, ..LIBRARY })];
 
-/// The library's section from a cleared start, a step a word, in place of its preview. The low half of a step's answer
-/// is y.
-fn section_steps([a, b, g]: [i32; 3], words: &[i32], results: &mut [i32]) -> u32 {
+/// The library's section from a cleared start, a step a word, in place of its preview.
+fn section_steps([a, b, g]: [i32; 3], words: &[i32], results: &mut [i32], remainders: &mut [i32]) -> u32 {
     let mut section = [a, b, g, 0, 0, 0, 0];
-    for (result, &x) in results.iter_mut().zip(words) {
+    for ((result, remainder), &x) in results.iter_mut().zip(remainders).zip(words) {
         // SAFETY: the section is seven numbers of this function's own.
-        *result = unsafe { raw::fonddrys_section_step(&mut section, x) } as i32;
+        let step = unsafe { raw::fonddrys_section_step(&mut section, x) };
+        (*result, *remainder) = (step.y, step.remainder);
     }
     ACCEPTED
 }
 
 /// Prints the best time of each for one thing of so many, in so many rounds, and gives both.
-fn race(
+fn race<F>(
     name: &str,
-    pair: &Pair,
+    pair: &Pair<F>,
     [rounds, count]: [usize; 2],
-    run: impl Fn(&Form) -> (f64, u64),
+    run: impl Fn(&F) -> (f64, u64),
 ) -> Result<[f64; 2], String> {
     let [(first, one), (second, other)] = pair;
-    let measure = |form| {
+    let measure = |form: &F| {
         let (time, checksum) = run(black_box(form));
         Ok(([time / count as f64], checksum))
     };
@@ -74,12 +74,24 @@ fn bands() -> [(&'static str, [i32; 3]); 2] {
     [("house band 1000 Hz", [house[15], house[16], house[17]]), ("extreme band", [8_388_607, 4_194_303, 8_388_606])]
 }
 
+/// A step as a C program calls it; the Rust form is called in that way too, and not worked into the loop.
+type Stepper = unsafe extern "C" fn(*mut Section, i32) -> Step;
+const STEPS: Pair<Stepper> = [("library", raw::fonddrys_section_step), ("Rust", rust_step)];
+
+unsafe extern "C" fn rust_step(section: *mut Section, x: i32) -> Step {
+    // SAFETY: the pointer is to the seven numbers of `time_steps`, which nobody else holds.
+    fast::step(unsafe { &mut *section }, x)
+}
+
 fn time_steps(random: &mut Random) -> Result<(), String> {
     let words: Vec<i32> = (0..COUNT).map(|_| random.word()).collect();
     for (name, [a, b, g]) in bands() {
-        race(&format!("step, {name}"), &WITH_RUST, [ROUNDS, COUNT], |form| {
+        race(&format!("step, {name}"), &STEPS, [ROUNDS, COUNT], |step| {
             let mut section = [a, b, g, 0, 0, 0, 0];
-            run_each(&words, |&x| (form.section_step)(&mut section, x))
+            run_each(&words, |&x| {
+                // SAFETY: the section is seven numbers that nobody else holds.
+                unsafe { step(&mut section, x) }.y.into()
+            })
         })?;
     }
     Ok(())
@@ -120,11 +132,12 @@ fn time_previews(random: &mut Random) -> Result<(), String> {
     let count = [ROUNDS, PREVIEWS * WORDS];
     for (name, band) in bands() {
         let run = |form: &Form| {
-            let mut results = vec![0; words.len()];
-            let calls = || (0..PREVIEWS).all(|_| (form.preview)(band, &words, &mut results) == ACCEPTED);
+            let [mut results, mut remainders] = [(); 2].map(|()| vec![0; words.len()]);
+            let calls =
+                || (0..PREVIEWS).all(|_| (form.preview)(band, &words, &mut results, &mut remainders) == ACCEPTED);
             let (time, accepted) = timed(calls);
             assert!(accepted);
-            (time, results.iter().fold(0, |sum, &y| fold(sum, y.into())))
+            (time, results.iter().chain(&remainders).fold(0, |sum, &number| fold(sum, number.into())))
         };
         race(&format!("preview and section, {name}"), &WITH_SECTION, count, run)?;
         race(&format!("preview, {name}"), &WITH_RUST, count, run)?;

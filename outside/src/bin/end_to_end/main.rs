@@ -4,6 +4,7 @@
 //!     end_to_end [PATH]              tests play there, ../target/bin/play else, and the two beside it
 //!     end_to_end --self-test [PATH]  tests wrong programs made of these
 //!     end_to_end --reference play    is a play of the independent implementation, with --wave for wave files
+//!     end_to_end --reference noise SET  is a noise (examples/c/noise.c) of it
 
 mod expected;
 mod folder;
@@ -43,12 +44,13 @@ fn main() -> ExitCode {
     match words[..] {
         ["--reference", PLAY] => reference::play(RAW),
         ["--reference", PLAY, "--wave"] => reference::play(WAVE),
+        ["--reference", "noise", set] => reference::noise(set),
         ["--self-test"] => told(PATH, self_test::run),
         ["--self-test", path] => told(path, self_test::run),
         [] => told(PATH, test),
         [path] if !path.starts_with("--") => told(path, test),
         _ => {
-            eprintln!("usage: end_to_end [[--self-test] [PATH] | --reference play [--wave]]");
+            eprintln!("usage: end_to_end [[--self-test] [PATH] | --reference play [--wave] | --reference noise SET]");
             ExitCode::FAILURE
         }
     }
