@@ -1,9 +1,10 @@
 -- `engine::section_turn` meets its contract: the section as read, its gain moved, its y worked, limited and stored, is the definition's.
-use mathlib.Core.Path.{_≡_, sym, ap, ap₂, _∙_, subst}
+use mathlib.Core.Path.{_≡_, ap, ap₂, _∙_}
 use mathlib.Core.Bool.{not}
 use mathlib.Core.List.{List}
 use Prim.Native.Nat.{ℕ, _≤_}
 use native.Mathlib.Omega.{arith}
+use lib.Dec.{lit≤}
 use lib.IntN.{ℤ, natAbs}
 use denote.Ref.{now}
 use mir.Syntax.{w64}
@@ -11,7 +12,6 @@ use mir.Val.{toZ, ofZ}
 use mir.Facts.{toZ-ofZ}
 use Rattle.integers.proofs.Machine.{Bounded, below-fits, product, result, result-need}
 use Rattle.rounding.specs.Rounding.{nearest, limit}
-use Rattle.rounding.specs.Asks.{RoundNearAsks}
 use Rattle.bands.specs.Words.{wordSize, wordLow, wordHigh, isWord}
 use Rattle.bands.specs.Bands.{bandOf, bandAt}
 use Rattle.bands.proofs.Laws.{band-sizes, word-size}
@@ -193,8 +193,11 @@ exact-sum-requires c κs =
 round-near-requires : tie.Need-round-near-requires
 round-near-requires c κs =
     let o = a (c .before) in
-    subst (λ (z : ℤ). RoundNearAsks z sumShift) (sym (sum-reads c))
-    (sum-roundable (bandAt (bands o) (b o)) (x o) (x2 o) (S o .y1) (S o .y2) (small o))
+    record {
+      some = lit≤ tt;
+      few = lit≤ tt;
+      small = sum-roundable (bandAt (bands o) (b o)) (x o) (x2 o) (S o .y1) (S o .y2) _ (sum-reads c) (small o);
+    }
 
 abbrev late : lts.After-struct-told3 (section-at-reads.Asked, section-at-reads.Learnt, moved-reads.Asked, moved-reads.Learnt, exact-sum-reads.Asked, exact-sum-reads.Learnt, round-near-reads.Asked, round-near-reads.Learnt, limit-word-reads.Asked, limit-word-reads.Learnt, put-section-reads.Asked, put-section-reads.Learnt) reads.Pre reads.Post → lts.After-limit-word (section-at-reads.Asked, section-at-reads.Learnt, moved-reads.Asked, moved-reads.Learnt, exact-sum-reads.Asked, exact-sum-reads.Learnt, round-near-reads.Asked, round-near-reads.Learnt, limit-word-reads.Asked, limit-word-reads.Learnt, put-section-reads.Asked, put-section-reads.Learnt) reads.Pre reads.Post
 late c = c .before .before .before .before
