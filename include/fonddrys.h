@@ -207,6 +207,9 @@ typedef struct {
     uint32_t refusal;  /* 0; else the refusal's number, and the three above are 0 */
 } fonddrys_step;
 
+/* No padding: else the answer isn't four numbers, and this array has no size. */
+typedef char fonddrys_step_is_four_numbers[sizeof(fonddrys_step) == 16 ? 1 : -1];
+
 /* Steps the section on x, a word. With S = A * (x - x2) + G * y1 - B * y2, y is S / 2^22, rounded,
  * then limited to a word. The remainder is S less 2^22 times the rounded number, before limiting;
  * the section doesn't keep it. Refusals: 8, 9, 10, then 15 where x, x1, x2, y1 or y2 is no word. */
