@@ -34,31 +34,27 @@ module _ (l : List ℤ) (i : ℕ) (h : i < length l) where
   unfolding answersOver
   answers-from s = ap (answersOver s) (drop-cons l i (pos 0) h)
 
--- a buffer that holds a number of each answer so far, f of it, and behind them what stood there
-abbrev pub holding : (Stepped → ℤ) → List Stepped → List ℤ → List ℤ
-holding f done room = map f done ++ drop (length done) room
-
-pub front-is : (f : Stepped → ℤ) (done : List Stepped) (room : List ℤ) → holding f done room ≡ filledFront (map f done) room
-front-is f done room = ap (λ (k : ℕ). map f done ++ drop k room) (sym (length-map done f))
-
--- the buffer as it is after i answers, with room for them
-module _ (f : Stepped → ℤ) (done : List Stepped) (room buffer : List ℤ) (i : ℕ) (is : buffer ≡ holding f done room) (count : length done ≡ i) where
-  pub holding-length : i ≤ length room → length buffer ≡ length room
-  holding-length h =
-      ap length is
-      ∙ length-append (map f done) (drop (length done) room)
-      ∙ omega (arith, count, length-map done f, length-drop (length done) room)
+-- a buffer whose front has a number of each of i answers, f of it
+module _ (f : Stepped → ℤ) (done : List Stepped) (room buffer : List ℤ) (i : ℕ) (is : buffer ≡ filledFront (map f done) room) (count : length done ≡ i) where
+  filled : length (map f done) ≡ i
+  filled = length-map done f ∙ count
 
   -- one more stored
-  pub holding-next : (r : Stepped) (z : ℤ) → z ≡ f r → i < length room → set buffer i z ≡ holding f (done ++ (r ∷ [])) room
-  holding-next r z e h =
-      ap₂ (λ (l : List ℤ) (y : ℤ). set l i y) (is ∙ ap (λ (k : ℕ). map f done ++ drop k room) count ∙ ap (λ (l : List ℤ). map f done ++ l) (drop-cons room i (pos 0) h)) e
-      ∙ set-at (map f done) (getD room i (pos 0)) (drop (suc i) room) (f r) i (length-map done f ∙ count)
+  pub front-next : (r : Stepped) (z : ℤ) → z ≡ f r → i < length room → set buffer i z ≡ filledFront (map f (done ++ (r ∷ []))) room
+  front-next r z e h =
+      ap₂ (λ (l : List ℤ) (y : ℤ). set l i y) (is ∙ ap (λ (k : ℕ). map f done ++ drop k room) filled ∙ ap (λ (l : List ℤ). map f done ++ l) (drop-cons room i (pos 0) h)) e
+      ∙ set-at (map f done) (getD room i (pos 0)) (drop (suc i) room) (f r) i filled
       ∙ sym (append-snoc (map f done) (f r) (drop (suc i) room))
       ∙ ap₂ (λ (l : List ℤ) (k : ℕ). l ++ drop k room) (sym (map-append f done (r ∷ []))) (sym more)
     where
-      more : length (done ++ (r ∷ [])) ≡ suc i
-      more = length-append done (r ∷ []) ∙ omega (arith, count)
+      more : length (map f (done ++ (r ∷ []))) ≡ suc i
+      more = length-map (done ++ (r ∷ [])) f ∙ length-append done (r ∷ []) ∙ omega (arith, count)
+
+  pub front-length : i ≤ length room → length buffer ≡ length room
+  front-length h =
+      ap length is
+      ∙ length-append (map f done) (drop (length (map f done)) room)
+      ∙ omega (arith, filled, length-drop (length (map f done)) room)
 
 -- what an accepted call tells
 pub record AcceptedCall (band : Band) (words : List ℤ) (results remainders : ℕ) : Type 0 where

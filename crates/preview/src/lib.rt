@@ -6,10 +6,10 @@
 ghost use mathlib.Core.Path.{_≡_};
 ghost use mathlib.Core.Bool.{true};
 ghost use lib.ListN.{length};
-ghost use Rattle.refusals.specs.Numbers.{isAccepted};
-ghost use Rattle.floats.specs.Whole.{wholeOf};
 ghost use Rattle.rounding.specs.Rounding.{limit};
+ghost use Rattle.refusals.specs.Numbers.{isAccepted};
 ghost use Rattle.bands.specs.Words.{wordLow, wordHigh};
+ghost use Rattle.floats.specs.Whole.{wholeOf};
 ghost use Rattle.section.specs.Step.{clearedSection, stepped};
 ghost use Rattle.preview.specs.Preview.{areWords, previewVerdict, previewed, buffersOf, sectionBuffers};
 ghost use Rattle.preview.specs.Carried.{float, carried, carriedStep, sectionIn, StepAsks, LimitWordAsks};

@@ -2,7 +2,7 @@
 -- results and the remainders of the front of the section's answers, and what it gives over the words left is the rest.
 use mathlib.Core.Path.{_≡_, refl, sym, ap, ap₂, _∙_, subst}
 use mathlib.Core.Bool.{true}
-use mathlib.Core.List.{List, [], _∷_, _++_, append-nil}
+use mathlib.Core.List.{List, [], _∷_, _++_, map, append-nil}
 use Prim.Native.Nat.{ℕ, suc, _≤_, _<_, _-_}
 use native.Mathlib.Omega.{arith}
 use native.Mathlib.Numerals.{add-one}
@@ -26,10 +26,10 @@ use Rattle.section.specs.Step.{clearedSection, stepped, answersOver, resultOf, 
 use Rattle.section.proofs.Ready.{HoldsWords, cleared-ready, ready-stays}
 use Rattle.preview.specs.declared.Preview.{Preview}
 use Rattle.preview.specs.declared.PreviewStep.{PreviewStep}
-use Rattle.preview.specs.Preview.{areWords, buffersOf}
+use Rattle.preview.specs.Preview.{areWords, filledFront, buffersOf}
 use Rattle.preview.specs.Carried.{float, carried, carriedStep, sectionIn, StepAsks}
 use Rattle.preview.proofs.Carry.{carried-back, may-step, result-back, remainder-back}
-use Rattle.preview.proofs.Lists.{words-from, answers-from, holding, holding-length, holding-next, front-is, AcceptedCall, preview-accepted}
+use Rattle.preview.proofs.Lists.{words-from, answers-from, front-length, front-next, AcceptedCall, preview-accepted}
 use Rattle.preview.proofs.run.Statement.{statement}
 use Rattle.preview.proofs.run.Tie as tie
 use Rattle.preview.proofs.run.Reads as reads
@@ -46,8 +46,8 @@ record Inv (first : Preview) (words room spare results remainders : List ℤ) (p
   ready : HoldsWords section
   left-words : areWords (drop i words) ≡ true
   done-length : length done ≡ i
-  results-hold : results ≡ holding resultOf done room
-  remainders-hold : remainders ≡ holding remainderOf done spare
+  results-hold : results ≡ filledFront (map resultOf done) room
+  remainders-hold : remainders ≡ filledFront (map remainderOf done) spare
   given : answersOver (sectionIn first) words ≡ done ++ answersOver section (drop i words)
 
 abbrev Inv-loop : tie.InvT-loop
@@ -130,11 +130,11 @@ module _ (c : lts.After-step-arg (cleared-reads.Asked, cleared-reads.Learnt, ste
   -- both buffers have the place
   results-room : i < length (c .before .before .loop .results)
   results-room =
-      omega (arith, below, accepts begun .results-have, holding-length resultOf (inv .done) (room begun) _ i (inv .results-hold) (inv .done-length) (omega (arith, below, accepts begun .results-have)))
+      omega (arith, below, accepts begun .results-have, front-length resultOf (inv .done) (room begun) _ i (inv .results-hold) (inv .done-length) (omega (arith, below, accepts begun .results-have)))
 
   remainders-room : i < length (c .before .before .loop .remainders)
   remainders-room =
-      omega (arith, below, accepts begun .remainders-have, holding-length remainderOf (inv .done) (spare begun) _ i (inv .remainders-hold) (inv .done-length) (omega (arith, below, accepts begun .remainders-have)))
+      omega (arith, below, accepts begun .remainders-have, front-length remainderOf (inv .done) (spare begun) _ i (inv .remainders-hold) (inv .done-length) (omega (arith, below, accepts begun .remainders-have)))
 
   may-go : StepAsks (c .before .before .loop .preview) x
   may-go = may-step (inv .section) (inv .ready) x (x-word .0) (c .before .before .loop .preview) (inv .carries)
@@ -204,8 +204,8 @@ loop-again c =
       ready = ready-stays (s a) (x m) (inv m .ready) (x-word m .0);
       left-words = x-word m .1;
       done-length = length-append (inv m .done) (answer a ∷ []) ∙ omega (arith, inv m .done-length);
-      results-hold = holding-next resultOf (inv m .done) (room (begun m)) _ (i m) (inv m .results-hold) (inv m .done-length) (answer a) _ (y-is a) (omega (arith, below m, accepts (begun m) .results-have));
-      remainders-hold = holding-next remainderOf (inv m .done) (spare (begun m)) _ (i m) (inv m .remainders-hold) (inv m .done-length) (answer a) _ (remainder-stored a) (omega (arith, below m, accepts (begun m) .remainders-have));
+      results-hold = front-next resultOf (inv m .done) (room (begun m)) _ (i m) (inv m .results-hold) (inv m .done-length) (answer a) _ (y-is a) (omega (arith, below m, accepts (begun m) .results-have));
+      remainders-hold = front-next remainderOf (inv m .done) (spare (begun m)) _ (i m) (inv m .remainders-hold) (inv m .done-length) (answer a) _ (remainder-stored a) (omega (arith, below m, accepts (begun m) .remainders-have));
       given =
           inv m .given
           ∙ ap (λ (l : List Stepped). inv m .done ++ l) (answers-from (words (begun m)) (i m) (below m) (s a))
@@ -239,19 +239,18 @@ module _ (c : lts.After-loop (cleared-reads.Asked, cleared-reads.Learnt, step-re
 
 same-length : tie.Need-same-length Inv-loop μ-loop
 same-length c =
-    holding-length resultOf (last c .done) (room (origin c)) _ (c .before .loop .i) (last c .results-hold) (last c .done-length)
+    front-length resultOf (last c .done) (room (origin c)) _ (c .before .loop .i) (last c .results-hold) (last c .done-length)
     (omega (arith, last c .most, accepts (origin c) .results-have))
 
 same-length-2 : tie.Need-same-length-2 Inv-loop μ-loop
 same-length-2 c =
-    holding-length remainderOf (last c .done) (spare (origin c)) _ (c .before .loop .i) (last c .remainders-hold) (last c .done-length)
+    front-length remainderOf (last c .done) (spare (origin c)) _ (c .before .loop .i) (last c .remainders-hold) (last c .done-length)
     (omega (arith, last c .most, accepts (origin c) .remainders-have))
 
 returns : tie.Need-returns Inv-loop μ-loop
 returns c =
     ap₂ buffersOf (last c .results-hold) (last c .remainders-hold)
-    ∙ ap (λ (l : List Stepped). buffersOf (holding resultOf l (room (origin c))) (holding remainderOf l (spare (origin c)))) (done-is c)
-    ∙ ap₂ buffersOf (front-is resultOf (answersOver (first (origin c)) (words (origin c))) (room (origin c))) (front-is remainderOf (answersOver (first (origin c)) (words (origin c))) (spare (origin c)))
+    ∙ ap (λ (l : List Stepped). buffersOf (filledFront (map resultOf l) (room (origin c))) (filledFront (map remainderOf l) (spare (origin c)))) (done-is c)
 
 pub run-spec : {M : Type 1} → statement M
 run-spec =
