@@ -16,6 +16,7 @@ use Rattle.floats.specs.Whole.{NearestWholeAsks, wholeOf}
 use Rattle.floats.proofs.WholeNumbers.{Whole, of-whole, sub-whole, mul-whole, lt-whole}
 use Rattle.floats.proofs.Quotient.{quotient-roundable, quotient-whole}
 use Rattle.section.specs.Equation.{sumShift}
+use Rattle.section.specs.Asks.{sumSize}
 use Rattle.preview.specs.Carried.{float}
 
 -- 2^22, S over it, and S less 2^22 times a number, as the code works them
@@ -33,7 +34,7 @@ abbrev pub leftOver : Float → Float → Float
 leftOver sum rounded = sub binary64 sum (mul binary64 scale rounded)
 
 -- an S of at most 2^48 in size
-module _ (S : ℤ) (small : natAbs S ≤ 2 ^ 48) where
+module _ (S : ℤ) (small : natAbs S ≤ sumSize) where
   sum-below : natAbs S < 2 ^ prec binary64
   sum-below = lt-of-le-of-lt small (lit< tt)
 

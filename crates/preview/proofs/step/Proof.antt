@@ -15,7 +15,7 @@ use Rattle.floats.specs.Whole.{NearestWholeAsks, wholeOf}
 use Rattle.floats.proofs.Quotient.{whole-back}
 use Rattle.section.specs.declared.Section.{Section}
 use Rattle.section.specs.Equation.{exactSum, sumShift, worked}
-use Rattle.section.specs.Asks.{ExactSumAsks}
+use Rattle.section.specs.Asks.{ExactSumAsks, sumSize}
 use Rattle.section.specs.Step.{acceptedStep}
 use Rattle.section.proofs.Laws.{accepted-small, sum-size}
 use Rattle.section.proofs.Ready.{accepted-advances}
@@ -47,7 +47,7 @@ module _ (s : lts.Start (nearest-whole-reads.Asked, nearest-whole-reads.Learnt, 
   small : ExactSumAsks (section .band) x (section .x2) (section .y1) (section .y2)
   small = accepted-small section x (s .pre .accepted)
 
-  S-size : natAbs S ≤ 2 ^ 48
+  S-size : natAbs S ≤ sumSize
   S-size = sum-size (section .band) x (section .x2) (section .y1) (section .y2) small
 
   -- the input as a float

@@ -9,6 +9,7 @@ use Rattle.integers.proofs.Machine.{Bounded, num, literal, below-fits, differen
 use Rattle.rounding.specs.Rounding.{taken}
 use Rattle.rounding.proofs.Nearest.{nearest-size}
 use Rattle.section.specs.Equation.{sumShift, worked}
+use Rattle.section.specs.Asks.{sumSize}
 use Rattle.section.proofs.Laws.{remainder-size}
 use Rattle.section.proofs.remainder_of.Statement.{statement}
 use Rattle.section.proofs.remainder_of.Tie as tie
@@ -23,7 +24,7 @@ module _ (s : lts.Start reads.Pre reads.Post) where
   rounded-size = subst (λ (z : ℤ). natAbs z ≤ 2 ^ 26) (sym (s .pre .rounded-is)) (nearest-size S sumShift (2 ^ 26) (s .pre .small))
 
   abbrev Sum : Bounded w64
-  Sum = record { held = num S (below-fits (s .pre .small) tt); bound = 2 ^ 48; within = s .pre .small }
+  Sum = record { held = num S (below-fits (s .pre .small) tt); bound = sumSize; within = s .pre .small }
 
   abbrev Rounded : Bounded w64
   Rounded = record { held = num (s .args .rounded) (below-fits rounded-size tt); bound = 2 ^ 26; within = rounded-size }
