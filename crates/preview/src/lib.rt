@@ -112,7 +112,7 @@ fn cleared(band: Band) -> Preview
 }
 
 // 2^22: S has 22 bits below the unit of a word.
-const SUM_SCALE: f64 = 4194304.0;
+const SUM_SCALE: f64 = section::SUM_SCALE as f64;
 
 // One step on the input x. The leading zero leaves no minus zero in S. G × y1 comes last, since y1 comes last from the step before. S / 2^22 and
 // the remainder are exact.
