@@ -14,8 +14,13 @@
  * - What is lent in one call doesn't overlap: a block can't be played in place.
  * - Nothing is allocated, nothing lent is kept after the call, and nothing is global. Threads may
  *   call at once, each on a unit and buffers of its own.
- * - fonddrys_order_factor and fonddrys_preview work in floating point, and want it as a C program
- *   finds it at its start: rounding to nearest, subnormal numbers kept. */
+ * - Blocks, previews and orders by factor are worked in double precision. They need what a C
+ *   program finds at its start, rounding to nearest and no traps; what is rounded raises the
+ *   inexact flag. Flush-to-zero and denormals-are-zero may be set, and every result is the same,
+ *   but that with the second the volume takes a subnormal factor below zero for zero, which is
+ *   refused without it. A host that changes the rounding mode gets samples, results, remainders and
+ *   targets other than those promised, and nothing worse: answers are the same, units stay fit, and
+ *   nothing else is written. */
 #ifndef FONDDRYS_H
 #define FONDDRYS_H
 

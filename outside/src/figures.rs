@@ -31,10 +31,13 @@ pub const STEPS_AT_THE_ENDS: [(Section, i32, bool, i32, i32); 10] = [
     ([4_194_304, 0, 5, 0, 1, -1, 0], -8_388_608, true, -8_388_608, -5),
 ];
 
+/// Numbers of a list of four words.
+type Four = [i32; 4];
+
 /// The ends of a word in previews, and "The limited y is the one remembered." A band, a list, its results and its
 /// remainders. With A = 2^22 and B = G = 0 the rounded number is x - x2; with G = 2^21 too it is that and half of y1;
 /// with B = 2^21 too, that less half of y2.
-pub const PREVIEWS_AT_THE_ENDS: [([i32; 3], [i32; 4], [i32; 4], [i32; 4]); 7] = [
+pub const PREVIEWS_AT_THE_ENDS: [([i32; 3], Four, Four, Four); 7] = [
     ([4_194_304, 0, 0], [0, 0, 8_388_607, 0], [0, 0, 8_388_607, 0], [0; 4]),
     ([4_194_304, 0, 0], [0, 0, -8_388_608, 0], [0, 0, -8_388_608, 0], [0; 4]),
     ([4_194_304, 0, 0], [-1, 0, 8_388_607, 0], [-1, 0, 8_388_607, 0], [0; 4]),

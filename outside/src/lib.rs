@@ -7,6 +7,7 @@ pub mod exact_sound;
 pub mod faults;
 pub mod ffi;
 pub mod figures;
+pub mod flushed;
 pub mod lent;
 pub mod noise;
 pub mod preview;

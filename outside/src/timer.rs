@@ -38,6 +38,31 @@ pub fn in_turns<const N: usize>(
     Ok(best)
 }
 
+/// What is aimed at, and fails nothing: the ratio of two times, and the first of them in nanoseconds.
+#[derive(Clone, Copy)]
+pub struct Goal {
+    pub ratio: f64,
+    pub time: f64,
+}
+
+/// Nothing is aimed at.
+pub const NO_GOAL: Goal = Goal { ratio: f64::INFINITY, time: f64::INFINITY };
+
+impl Goal {
+    /// The goal in words, and whether these times come to it.
+    pub fn told(self, [one, other]: [f64; 2]) -> String {
+        let time = self.time.is_finite().then(|| format!("{} ns", self.time));
+        let ratio = self.ratio.is_finite().then(|| format!("ratio {:.2}", self.ratio));
+        let goals: Vec<String> = time.into_iter().chain(ratio).collect();
+        let reached = if one <= self.time && one / other <= self.ratio { "reached" } else { "missed" };
+        if goals.is_empty() {
+            String::new()
+        } else {
+            format!("; goal {}: {reached}", goals.join(", "))
+        }
+    }
+}
+
 /// True where one of the measured pairs of times has at most this ratio.
 pub fn within(name: &str, most: f64, mut times: impl FnMut() -> Result<[f64; 2], String>) -> Result<bool, String> {
     kept(&format!("{name}, ratio over {most:.2}"), || times().map(|[one, other]| one / other <= most))

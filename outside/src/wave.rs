@@ -86,7 +86,7 @@ pub fn heading(size: u32) -> [u8; HEADING] {
 /// Writes heading and frames to the front of the buffer. A refusal writes nothing, and bytes behind the file stay.
 pub fn write(frames: &[u8], buffer: &mut [u8]) -> u32 {
     let end = HEADING + frames.len();
-    if frames.len() % 4 != 0 || frames.len() > MOST {
+    if !frames.len().is_multiple_of(4) || frames.len() > MOST {
         return PART_OF_A_FRAME;
     }
     if buffer.len() < end {

@@ -3,7 +3,7 @@ use mathlib.Core.Path.{_≡_, refl, sym, ap, ap₂, _∙_}
 use mathlib.Core.Bool.{Bool, true, false, cond}
 use mathlib.Core.List.{List, _∷_, _++_, append-assoc, append-nil}
 use Prim.Native.Nat.{ℕ, zero, suc, _+_, _*_, _/_, _%_, _≤_, _<_}
-use native.Mathlib.Nat.{div-add-mod', mod-lt}
+use native.Mathlib.Nat.{div-add-mod', mod-lt, mul-le-mul-left}
 use native.Mathlib.Omega.{arith}
 use lib.Dec.{lit≤}
 use lib.IntN.{ℤ, pos, _*ℤ_}
@@ -11,12 +11,11 @@ use lib.ListN.{length, drop, length-append, List·getD-append}
 use lib.Seq.{getD-append-add, drop-append-add, drop-length}
 use Rattle.refusals.specs.Numbers.{isAccepted}
 use Rattle.unit.specs.declared.Unit.{Unit}
-use Rattle.unit.specs.Frame.{unitFrame, heard}
 use Rattle.unit.specs.Fit.{Fit}
 use Rattle.unit.specs.Shaped.{Shaped}
-use Rattle.frames.specs.Bytes.{sampleAt, wordsAt, frameSize, frameCount, bytesOf}
-use Rattle.frames.specs.Played.{played, sound}
-use Rattle.frames.proofs.Many.{played-fit, played-shaped}
+use Rattle.frames.specs.Bytes.{sampleAt, wordsAt, frameSize, frameCount}
+use Rattle.frames.specs.Played.{playedOn, soundOn, blockWords, played, sound}
+use Rattle.frames.proofs.Many.{played-same, sound-same, played-behind, sound-behind, played-fit, played-shaped}
 use Rattle.blocks.specs.Block.{blockVerdict, blockPlayed, blockOutput}
 use Rattle.blocks.proofs.Block.{BlockAccepts, accepts-block, four-a-frame}
 
@@ -51,53 +50,35 @@ module _ (a b : List ℕ) where
 -- ---- a has m frames
 
 module _ (channels : ℕ) (u : Unit) (a b : List ℕ) where
-  -- as long as a lasts, b makes no difference
-  played-front : (n : ℕ) → frameSize channels * n ≤ length a → played channels u (a ++ b) n ≡ played channels u a n
-  unfolding played
-  played-front zero h = refl
-  played-front (suc n) h =
-      ap₂ unitFrame (words-front a b channels (frameSize channels * n) (omega arith)) (played-front n (omega arith))
-
-  sound-front : (n : ℕ) → frameSize channels * n ≤ length a → sound channels u (a ++ b) n ≡ sound channels u a n
-  unfolding sound
-  sound-front zero h = refl
-  sound-front (suc n) h =
-      ap₂ _++_ (sound-front n (omega arith)) (ap (λ (v : Unit). bytesOf (heard v)) (played-front (suc n) h))
-
   module _ (m : ℕ) (h : length a ≡ frameSize channels * m) where
     -- the unit after a
     abbrev between : Unit
     between = played channels u a m
 
-    pub played-append : (n : ℕ) → played channels u (a ++ b) (n + m) ≡ played channels between b n
-    unfolding played
-    played-append zero = ap (played channels u (a ++ b)) zero-and ∙ played-front m (omega (arith, h))
-      where
-        zero-and : 0 + m ≡ m
-        zero-and = omega arith
-    played-append (suc n) =
-        ap (played channels u (a ++ b)) one-more
-        ∙ ap₂ unitFrame (ap (wordsAt channels (a ++ b)) place ∙ words-behind a b channels (frameSize channels * n)) (played-append n)
-      where
-        one-more : suc n + m ≡ suc (n + m)
-        one-more = omega arith
+    -- the words of a, and those behind them
+    first-words : (k : ℕ) → k < m → blockWords channels (a ++ b) k ≡ blockWords channels a k
+    first-words k l = words-front a b channels (frameSize channels * k) (omega (arith, h, mul-le-mul-left (frameSize channels) l))
 
-        place : frameSize channels * (n + m) ≡ length a + frameSize channels * n
+    later-words : (k : ℕ) → blockWords channels (a ++ b) (k + m) ≡ blockWords channels b k
+    later-words k = ap (wordsAt channels (a ++ b)) place ∙ words-behind a b channels (frameSize channels * k)
+      where
+        place : frameSize channels * (k + m) ≡ length a + frameSize channels * k
         place = omega (arith, h)
 
+    between-is : played channels u (a ++ b) m ≡ between
+    between-is = played-same (blockWords channels (a ++ b)) (blockWords channels a) u m first-words
+
+    pub played-append : (n : ℕ) → played channels u (a ++ b) (n + m) ≡ played channels between b n
+    played-append n =
+        played-behind (blockWords channels (a ++ b)) u m n
+        ∙ (λ i. playedOn (λ (k : ℕ). later-words k i) (between-is i) n)
+
     pub sound-append : (n : ℕ) → sound channels u (a ++ b) (n + m) ≡ sound channels u a m ++ sound channels between b n
-    unfolding sound
-    sound-append zero = ap (sound channels u (a ++ b)) zero-and ∙ sound-front m (omega (arith, h)) ∙ sym (append-nil (sound channels u a m))
-      where
-        zero-and : 0 + m ≡ m
-        zero-and = omega arith
-    sound-append (suc n) =
-        ap (sound channels u (a ++ b)) one-more
-        ∙ ap₂ _++_ (sound-append n) (ap (λ (v : Unit). bytesOf (heard v)) (ap (played channels u (a ++ b)) (sym one-more) ∙ played-append (suc n)))
-        ∙ append-assoc (sound channels u a m) (sound channels between b n) (bytesOf (heard (played channels between b (suc n))))
-      where
-        one-more : suc n + m ≡ suc (n + m)
-        one-more = omega arith
+    sound-append n =
+        sound-behind (blockWords channels (a ++ b)) u m n
+        ∙ ap₂ _++_
+        (sound-same (blockWords channels (a ++ b)) (blockWords channels a) u m first-words)
+        (λ i. soundOn (λ (k : ℕ). later-words k i) (between-is i) n)
 
 -- ---- the blocks themselves
 

@@ -15,7 +15,7 @@ use Rattle.unit.specs.declared.Unit.{Unit}
 use Rattle.unit.specs.Fit.{Fit, unitFits}
 use Rattle.unit.proofs.Fitness.{fit-of-test, test-of-fit}
 use Rattle.frames.specs.Bytes.{frameSize}
-use Rattle.blocks.specs.Block.{blockVerdict, blockPlayed, blockOutput}
+use Rattle.blocks.specs.Block.{blockArguments, blockVerdict, blockPlayed, blockOutput}
 
 -- ---- what is refused, and what a refusal leaves
 
@@ -23,6 +23,11 @@ use Rattle.blocks.specs.Block.{blockVerdict, blockPlayed, blockOutput}
 pub unfit-first : (channels : ℕ) (u : Unit) (given room : ℕ) → unitFits u ≡ false → blockVerdict channels u given room ≡ Unfit
 unfolding blockVerdict
 unfit-first channels u given room e = simp e
+
+-- and a fit one leaves what its arguments ask
+pub fit-first : (channels : ℕ) (u : Unit) (given room : ℕ) → unitFits u ≡ true → blockVerdict channels u given room ≡ blockArguments channels given room
+unfolding blockVerdict
+fit-first channels u given room e = simp e
 
 -- "unit and output unchanged"
 module _ (channels : ℕ) (u : Unit) (input : List ℕ) where

@@ -13,46 +13,23 @@ use borrow.Author.Tests.{eqb-true, eqb-false, ltb-true, ltb-false}
 use Rattle.integers.proofs.Parts.{linear, var, _⊕_, _⊖_}
 use Rattle.integers.proofs.Abs.{abs-nonneg}
 use Rattle.rounding.proofs.Limit.{limit-low, limit-high}
-use Rattle.bands.specs.declared.Band.{Band}
 use Rattle.unit.specs.declared.Channel.{Channel}
 use Rattle.unit.specs.declared.Unit.{Unit}
 use Rattle.unit.specs.Lists.{Each}
-use Rattle.unit.specs.Frame.{channelFrame, channelsFrame, unitFrame, mix, sampleLow, sampleHigh, output, heard}
-use Rattle.frames.specs.Bytes.{sampleOf, sampleAt, wordAt, wordsAt, frameSize, frameCount, bitsOf, lowByte, highByte, bytesOf}
-use Rattle.frames.specs.Played.{played, sound}
-use Rattle.frames.proofs.Many.{words-length, played-channels, sound-length}
+use Rattle.unit.specs.Frame.{channelFrame, unitFrame, mix, sampleLow, sampleHigh, output, heard}
+use Rattle.frames.specs.Bytes.{sampleOf, sampleAt, frameSize, frameCount, bitsOf, lowByte, highByte, bytesOf}
+use Rattle.frames.specs.Played.{playedOn, soundOn, blockWords}
+use Rattle.frames.proofs.Many.{Feeds, block-feeds, fed-channels, fed-length}
+use Rattle.frames.proofs.Channel.{channel-at}
 use Rattle.blocks.specs.Block.{blockOutput}
 use Rattle.blocks.proofs.Block.{BlockAccepts}
 use Rattle.blocks.proofs.Append.{sample-front, sample-behind, accepted-output}
 
--- ---- what a channel takes in
-
--- word c of a frame
-word-of : (channels : ℕ) (input : List ℕ) (at c : ℕ) → c < channels → getD (wordsAt channels input at) c (pos 0) ≡ wordAt input (at + 2 * c)
-word-of zero input at c h = absurd (omega arith)
-word-of (suc channels) input at zero h = ap (wordAt input) (omega arith)
-word-of (suc channels) input at (suc c) h = word-of channels input (at + 2) c (omega arith) ∙ ap (wordAt input) place
-  where
-    place : at + 2 + 2 * c ≡ at + 2 * suc c
-    place = omega arith
-
--- channel c after a frame
-channel-at : (bands : List Band) (xs : List ℤ) (cs : List Channel) (c : ℕ) (d : Channel) → c < length xs → c < length cs → getD (channelsFrame bands xs cs) c d ≡ channelFrame bands (getD xs c (pos 0)) (getD cs c d)
-channel-at bands [] cs c d h k = absurd (omega arith)
-channel-at bands (x ∷ xs) [] c d h k = absurd (omega arith)
-channel-at bands (x ∷ xs) (a ∷ cs) zero d h k = refl
-channel-at bands (x ∷ xs) (a ∷ cs) (suc c) d h k = channel-at bands xs cs c d (omega arith) (omega arith)
-
-module _ (channels : ℕ) (u : Unit) (input : List ℕ) (width : length (u .channels) ≡ channels) (c : ℕ) (d : Channel) (h : c < channels) where
-  -- one frame more
-  pub played-channel : (k : ℕ) → getD (played channels u input (suc k) .channels) c d ≡ channelFrame (played channels u input k .bands) (wordAt input (frameSize channels * k + 2 * c)) (getD (played channels u input k .channels) c d)
-  unfolding played unitFrame
-  played-channel k =
-      channel-at (played channels u input k .bands) (wordsAt channels input (frameSize channels * k)) (played channels u input k .channels) c d
-      (omega (arith, words-length channels input (frameSize channels * k)))
-      (omega (arith, played-channels channels u input k width))
-      ∙ ap (λ (x : ℤ). channelFrame (played channels u input k .bands) x (getD (played channels u input k .channels) c d))
-      (word-of channels input (frameSize channels * k) c h)
+-- channel c, one frame more
+pub fed-channel : {channels : ℕ} (words : ℕ → List ℤ) → Feeds channels words → (u : Unit) → length (u .channels) ≡ channels → (c : ℕ) (d : Channel) → c < channels → (k : ℕ) → getD (playedOn words u (suc k) .channels) c d ≡ channelFrame (playedOn words u k .bands) (getD (words k) c (pos 0)) (getD (playedOn words u k .channels) c d)
+unfolding playedOn unitFrame
+fed-channel words feeds u width c d h k =
+    channel-at (playedOn words u k .bands) (words k) (playedOn words u k .channels) c d (omega (arith, feeds .as-many k)) (omega (arith, fed-channels words feeds u k width))
 
 -- ---- a sample that was stored is read back
 
@@ -114,54 +91,55 @@ heard-range : (v : ℤ) (cs : List Channel) → Each SampleRange (map (λ (c : C
 heard-range v [] = tt
 heard-range v (c ∷ cs) = (output-range v (mix c), heard-range v cs)
 
-module _ (channels : ℕ) (u : Unit) (input : List ℕ) (width : length (u .channels) ≡ channels) (c : ℕ) (d : Channel) (h : c < channels) where
-  -- what is heard of channel c after k frames
-  abbrev sampleAfter : ℕ → ℤ
-  sampleAfter k = output (played channels u input k .volume .present) (mix (getD (played channels u input k .channels) c d))
+-- what is heard of channel c after k frames
+abbrev pub sampleAfter : (ℕ → List ℤ) → Unit → ℕ → Channel → ℕ → ℤ
+sampleAfter words u c d k = output (playedOn words u k .volume .present) (mix (getD (playedOn words u k .channels) c d))
 
-  heard-sample : (k : ℕ) → sampleAt (bytesOf (heard (played channels u input k))) (2 * c) ≡ sampleAfter k
+module _ {channels : ℕ} (words : ℕ → List ℤ) (feeds : Feeds channels words) (u : Unit) (width : length (u .channels) ≡ channels) (c : ℕ) (d : Channel) (h : c < channels) where
+  heard-sample : (k : ℕ) → sampleAt (bytesOf (heard (playedOn words u k))) (2 * c) ≡ sampleAfter words u c d k
   heard-sample k =
-      read-of (heard v) c (sound-of d) (heard-range (v .volume .present) (v .channels)) (omega (arith, length-map (v .channels) sound-of, played-channels channels u input k width))
+      read-of (heard v) c (sound-of d) (heard-range (v .volume .present) (v .channels)) (omega (arith, length-map (v .channels) sound-of, fed-channels words feeds u k width))
       ∙ List·getD-map sound-of (v .channels) c d
     where
       v : Unit
-      v = played channels u input k
+      v = playedOn words u k
 
       sound-of : Channel → ℤ
       sound-of a = output (v .volume .present) (mix a)
 
   -- the channel's sample of frame k, k from 0, in the bytes of n frames
-  pub sound-sample : (n k : ℕ) → k < n → sampleAt (sound channels u input n) (frameSize channels * k + 2 * c) ≡ sampleAfter (suc k)
-  unfolding sound
+  pub sound-sample : (n k : ℕ) → k < n → sampleAt (soundOn words u n) (frameSize channels * k + 2 * c) ≡ sampleAfter words u c d (suc k)
+  unfolding soundOn
   sound-sample zero k l = absurd (omega arith)
   sound-sample (suc n) k l = go (eqb k n) refl (λ m. sound-sample n k m)
     where
       last : List ℕ
-      last = bytesOf (heard (played channels u input (suc n)))
+      last = bytesOf (heard (playedOn words u (suc n)))
 
-      go : (t : Bool) → eqb k n ≡ t → (k < n → sampleAt (sound channels u input n) (frameSize channels * k + 2 * c) ≡ sampleAfter (suc k)) → sampleAt (sound channels u input n ++ last) (frameSize channels * k + 2 * c) ≡ sampleAfter (suc k)
+      go : (t : Bool) → eqb k n ≡ t → (k < n → sampleAt (soundOn words u n) (frameSize channels * k + 2 * c) ≡ sampleAfter words u c d (suc k)) → sampleAt (soundOn words u n ++ last) (frameSize channels * k + 2 * c) ≡ sampleAfter words u c d (suc k)
       go true e earlier =
-          ap (λ (m : ℕ). sampleAt (sound channels u input n ++ last) (m + 2 * c)) (ap (λ (m : ℕ). frameSize channels * m) (eqb-true k n e) ∙ sym (sound-length channels u input n width))
-          ∙ sample-behind (sound channels u input n) last (2 * c)
+          ap (λ (m : ℕ). sampleAt (soundOn words u n ++ last) (m + 2 * c)) (ap (λ (m : ℕ). frameSize channels * m) (eqb-true k n e) ∙ sym (fed-length words feeds u n width))
+          ∙ sample-behind (soundOn words u n) last (2 * c)
           ∙ heard-sample (suc n)
-          ∙ ap (λ (m : ℕ). sampleAfter (suc m)) (sym (eqb-true k n e))
-      go false e earlier = sample-front (sound channels u input n) last (frameSize channels * k + 2 * c) room ∙ earlier before
+          ∙ ap (λ (m : ℕ). sampleAfter words u c d (suc m)) (sym (eqb-true k n e))
+      go false e earlier = sample-front (soundOn words u n) last (frameSize channels * k + 2 * c) room ∙ earlier before
         where
           before : k < n
           before = omega (arith, eqb-false k n e)
 
-          room : frameSize channels * k + 2 * c + 1 < length (sound channels u input n)
-          room = omega (arith, sound-length channels u input n width, mul-le-mul-left (frameSize channels) before)
+          room : frameSize channels * k + 2 * c + 1 < length (soundOn words u n)
+          room = omega (arith, fed-length words feeds u n width, mul-le-mul-left (frameSize channels) before)
 
-  -- and in the output of an accepted block
-  pub output-sample : (room : List ℕ) → BlockAccepts channels u (length input) (length room) → (k : ℕ) → k < frameCount channels input → sampleAt (blockOutput channels u input room) (frameSize channels * k + 2 * c) ≡ sampleAfter (suc k)
+  -- and ahead of other bytes
+  pub front-sample : (rest : List ℕ) (n k : ℕ) → k < n → sampleAt (soundOn words u n ++ rest) (frameSize channels * k + 2 * c) ≡ sampleAfter words u c d (suc k)
+  front-sample rest n k l = sample-front (soundOn words u n) rest (frameSize channels * k + 2 * c) inside ∙ sound-sample n k l
+    where
+      inside : frameSize channels * k + 2 * c + 1 < length (soundOn words u n)
+      inside = omega (arith, fed-length words feeds u n width, mul-le-mul-left (frameSize channels) l)
+
+-- in the output of an accepted block
+module _ (channels : ℕ) (u : Unit) (input : List ℕ) (width : length (u .channels) ≡ channels) (c : ℕ) (d : Channel) (h : c < channels) where
+  pub output-sample : (room : List ℕ) → BlockAccepts channels u (length input) (length room) → (k : ℕ) → k < frameCount channels input → sampleAt (blockOutput channels u input room) (frameSize channels * k + 2 * c) ≡ sampleAfter (blockWords channels input) u c d (suc k)
   output-sample room a k l =
       ap (λ (bytes : List ℕ). sampleAt bytes (frameSize channels * k + 2 * c)) (accepted-output channels u input room a)
-      ∙ sample-front (sound channels u input n) (drop (length input) room) (frameSize channels * k + 2 * c) inside
-      ∙ sound-sample n k l
-    where
-      n : ℕ
-      n = frameCount channels input
-
-      inside : frameSize channels * k + 2 * c + 1 < length (sound channels u input n)
-      inside = omega (arith, sound-length channels u input n width, mul-le-mul-left (frameSize channels) l)
+      ∙ front-sample (blockWords channels input) (block-feeds channels input) u width c d h (drop (length input) room) (frameCount channels input) k l

@@ -1,17 +1,20 @@
 // Playing a block of frames through the unit. A frame is four bytes: left then right, low byte first.
-// Where a sample goes: from `play` to `run`, which holds the unit as flat numbers, and to `frames::frames`.
+// Where a sample goes: from `play` to `run`, which holds the unit as floats, and to `frames::frames`.
 ghost use mathlib.Core.Path.{_≡_};
 ghost use mathlib.Core.Bool.{true};
 ghost use lib.ListN.{length};
 ghost use Rattle.refusals.specs.Numbers.{isAccepted};
 ghost use Rattle.unit.specs.Sizes.{channelCount};
-ghost use Rattle.blocks.specs.Block.{blockVerdict, blockPlayed, blockOutput};
+ghost use Rattle.blocks.specs.Block.{blockArguments, blockVerdict, blockPlayed, blockOutput};
 ghost use Rattle.blocks.specs.Run.{unitOfParts, RunGives};
 use bands::Band;
 use levels::Level;
 use refusals::Verdict;
 use unit::Channel;
 use unit::Unit;
+
+// Left and right are one pair.
+pub const PAIR_COUNT: usize = unit::CHANNEL_COUNT / engine::SIDE_COUNT;
 
 // What a block answers, and the unit after it.
 pub struct Played {
@@ -38,13 +41,20 @@ pub fn play(unit: Unit, input: &[u8], output: &mut [u8]) -> Played
     Played { verdict, unit }
 }
 
-// Accepted, or the first refusal that applies: an unfit unit, input bytes that are no multiple of four, an output shorter than the input.
+// Accepted, or the first refusal that applies: an unfit unit, then those of the lengths.
 fn check_block(unit: Unit, given: usize, room: usize) -> Verdict
     ensures { λ r. ⌜ r ≡ blockVerdict channelCount unit given room ⌝ }
 {
     if !fitness::is_fit(unit) {
         return Verdict::Unfit;
     }
+    check_lengths(given, room)
+}
+
+// Accepted, or the first refusal that applies: input bytes that are no multiple of four, an output shorter than the input.
+pub fn check_lengths(given: usize, room: usize) -> Verdict
+    ensures { λ r. ⌜ r ≡ blockArguments channelCount given room ⌝ }
+{
     if given % frames::FRAME_SIZE != 0 {
         return Verdict::InputLength;
     }
@@ -54,7 +64,7 @@ fn check_block(unit: Unit, given: usize, room: usize) -> Verdict
     Verdict::Accepted
 }
 
-// An accepted block: the unit's bands and channels are held as flat numbers for its length.
+// An accepted block: the unit's bands, channels and volume are held as floats for its length.
 fn run(
     volume: Level,
     bands: [Band; bands::BAND_COUNT],
@@ -66,25 +76,25 @@ fn run(
     ensures { λ r. ⌜ RunGives (unitOfParts volume bands channels) (now (input .entry)) (now (output .entry)) r (now (output .exit)) ⌝ }
 {
     let count = input.len() / frames::FRAME_SIZE;
-    let numbers = packing::band_numbers(bands);
+    let floats = packing::band_floats(bands);
     let first = channels[0];
     let second = channels[1];
-    let mut left = packing::channel_numbers(first);
-    let mut right = packing::channel_numbers(second);
+    let mut pair = packing::pair_floats(first, second);
     let level = frames::frames(
-        &numbers,
-        &mut left,
-        &mut right,
-        volume,
+        &floats,
+        &mut pair,
+        PAIR_COUNT,
+        packing::level_floats(volume),
         count,
         input,
         output,
     );
-    let left_after = packing::channel_of(&left);
-    let right_after = packing::channel_of(&right);
+    let volume_after = packing::level_of(level);
+    let first_after = packing::channel_of(&pair, 0);
+    let second_after = packing::channel_of(&pair, 1);
     Unit {
-        volume: level,
+        volume: volume_after,
         bands,
-        channels: [left_after, right_after],
+        channels: [first_after, second_after],
     }
 }

@@ -21,7 +21,7 @@ use Rattle.loading.specs.Loading.{setVerdict}
 use Rattle.settings.specs.Settings.{isPlace, names, bandPosition, volumePosition, targetOf, levelVerdict}
 use Rattle.orders.specs.Orders.{orderVerdict, aimedUnit, ordered}
 use Rattle.frames.specs.Bytes.{sampleOf, sampleAt, bitsOf}
-use Rattle.frames.specs.Played.{played, sound}
+use Rattle.frames.specs.Played.{playedOn, soundOn}
 use Rattle.blocks.specs.Block.{blockVerdict, blockPlayed, blockOutput}
 use Rattle.closeness.specs.Claim.{exactFrame, exactMixed, exactOutput, exactPlayed, bound, Close, allSamples, allLimits}
 use Rattle.closeness.specs.Example.{exampleCalls, leftSamples, leftLimits, second, secondOutput, secondBound, loudSet, loudCalls}
@@ -29,7 +29,7 @@ use Rattle.closeness.proofs.Holds.{demand3}
 
 -- the definitions give the figures: what the unit hands back
 pub heard-hold : (allSamples 2 0 houseSet exampleCalls ≡ leftSamples) × (allLimits 2 0 houseSet exampleCalls ≡ leftLimits) × (allLimits 2 0 (loudSet bandCount) loudCalls ≡ true ∷ [])
-unfolding houseSet ordered orderVerdict aimedUnit targetOf levelVerdict isPlace names bandPosition volumePosition factorTarget inUnits inRange unitFits isVolume isInput isFlag bandVerdict alphaAccepted betaAccepted gammaAccepted blockPlayed blockOutput blockVerdict played sound sampleAt sampleOf bitsOf unitFrame channelFrame sectionFrame exactMix mix output exactSum worked nearest taken goesUp odd rest floor limit within ramp
+unfolding houseSet ordered orderVerdict aimedUnit targetOf levelVerdict isPlace names bandPosition volumePosition factorTarget inUnits inRange unitFits isVolume isInput isFlag bandVerdict alphaAccepted betaAccepted gammaAccepted blockPlayed blockOutput blockVerdict playedOn soundOn sampleAt sampleOf bitsOf unitFrame channelFrame sectionFrame exactMix mix output exactSum worked nearest taken goesUp odd rest floor limit within ramp
 heard-hold = (refl, refl, refl)
 
 -- and the exact reckoning

@@ -15,11 +15,12 @@ use Rattle.unit.specs.Cleared.{clearedLevel, clearedBandSection, clearedChannel
 use Rattle.loading.specs.Loading.{setVerdict}
 use Rattle.loading.specs.declared.Loaded.{Loaded}
 use Rattle.loading.proofs.Laws.{loaded-accepted}
-use Rattle.closeness.specs.Claim.{Call, silentResults, silent, startingUnit, allSamples, allLimits, allExacts, ended, Agreeing, Demand3}
+use Rattle.calls.specs.Calls.{Call, startingUnit}
+use Rattle.calls.proofs.Kept.{Kept, begun-kept, list-kept}
+use Rattle.closeness.specs.Claim.{silentResults, silent, allSamples, allLimits, allExacts, ended, Agreeing, Demand3}
 use Rattle.closeness.proofs.Band.{near-start}
 use Rattle.closeness.proofs.Channel.{NearAll, Tied}
 use Rattle.closeness.proofs.Follows.{FrameFollows, Follows, follows-at, follows-length}
-use Rattle.closeness.proofs.Kept.{Kept, begun-kept, list-kept}
 use Rattle.closeness.proofs.Run.{TiedUnit, list-follows, list-flag}
 
 -- ---- where a list begins

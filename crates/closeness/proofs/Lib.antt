@@ -4,7 +4,6 @@ pub mod Band
 pub mod Output
 pub mod Channel
 pub mod Follows
-pub mod Kept
 pub mod Run
 pub mod Holds
 pub mod Append

@@ -6,7 +6,7 @@ use Prim.Native.Nat.{ℕ, zero, suc, _+_, _≤_, _<_}
 use native.Mathlib.Omega.{arith}
 use lib.Dec.{eqb}
 use lib.IntN.{ℤ, pos}
-use lib.ListN.{length}
+use lib.ListN.{length, getD}
 use Rattle.refusals.specs.Numbers.{isAccepted}
 use Rattle.bands.specs.declared.Band.{Band}
 use Rattle.section.specs.Equation.{flag}
@@ -26,23 +26,25 @@ use Rattle.settings.specs.declared.Setting.{Setting}
 use Rattle.settings.specs.Settings.{volumeBand, names, targetOf, orderArguments}
 use Rattle.orders.specs.Orders.{aimedSection, aimedChannel, aimedVolume, aimedBand, aimedUnit, ordered}
 use Rattle.orders.proofs.Laws.{order-accepts}
-use Rattle.frames.specs.Bytes.{sampleAt, wordAt, frameCount}
-use Rattle.frames.specs.Played.{played}
-use Rattle.frames.proofs.Many.{played-shaped}
+use Rattle.frames.specs.Bytes.{sampleAt, frameCount}
+use Rattle.frames.specs.Played.{playedOn, blockWords}
+use Rattle.frames.proofs.Many.{Feeds, block-feeds, fed-shaped}
 use Rattle.blocks.specs.Block.{blockArguments, blockVerdict, blockPlayed, blockOutput}
-use Rattle.blocks.proofs.Block.{BlockAccepts, block-accepted}
-use Rattle.blocks.proofs.Read.{played-channel, output-sample}
-use Rattle.closeness.specs.Claim.{Call, order, block, placeOf, unitAfter, samplesOf, samples, channelIn, limitsOn, limitsOf, limits, handedBack, Results, Exact, exactFrame, exactAimed, exactPlayed, exactAfter, exactsOf, exacts, Close}
+use Rattle.blocks.proofs.Block.{block-accepted}
+use Rattle.frames.proofs.Channel.{block-word}
+use Rattle.blocks.proofs.Read.{fed-channel, sampleAfter, output-sample}
+use Rattle.calls.specs.Calls.{Call, order, block, channelIn, unitAfter, handedBack, placeOf, samplesOf, samples}
+use Rattle.calls.proofs.Kept.{Kept, call-kept}
+use Rattle.closeness.specs.Claim.{limitsIn, limitsOf, limits, Results, Exact, exactFrame, exactAimed, exactPlayed, exactWord, exactAfter, exactsOf, exacts, Close}
 use Rattle.closeness.proofs.Band.{NearResults}
 use Rattle.closeness.proofs.Channel.{gainOf, NearAll, Tied, frame-tied, tied-close}
 use Rattle.closeness.proofs.Follows.{FrameFollows, Follows, follows-append}
-use Rattle.closeness.proofs.Kept.{Kept, call-kept}
 
 module _ (channels channel : ℕ) (inside : channel < channels) (bands : List Band) where
   -- the unit after n frames, and the exact reckoning of its channel
   pub record TiedUnit (n : ℕ) (limited : Bool) (u : Unit) (e : Exact) : Type 0 where
     pub bands-are : u .bands ≡ bands
-    pub tied : Tied bands n limited (u .volume) (channelIn channels channel u) e
+    pub tied : Tied bands n limited (u .volume) (channelIn channel u) e
 
   -- counted in another way
   tied-from : {n m : ℕ} {a b : Bool} (u : Unit) (e : Exact) → n ≡ m → a ≡ b → TiedUnit n a u e → TiedUnit m b u e
@@ -76,7 +78,7 @@ module _ (channels channel : ℕ) (inside : channel < channels) (bands : List Ba
 
     module _ (n : ℕ) (limited : Bool) (u : Unit) (e : Exact) (kept : Kept channels u) (t : TiedUnit n limited u e) where
       abbrev c : Channel
-      c = channelIn channels channel u
+      c = channelIn channel u
 
       -- the channel of a band's order, where the side names it and where not
       abbrev gainsThen : Bool → List Level
@@ -122,44 +124,45 @@ module _ (channels channel : ℕ) (inside : channel < channels) (bands : List Ba
                     (named-tied (names side channel));
               }
 
-  -- ---- the frames of a block
+  -- ---- frames on any words: the exact reckoning is fed those of the channel
 
-  module _ (n : ℕ) (limited : Bool) (u : Unit) (e : Exact) (kept : Kept channels u) (t : TiedUnit n limited u e) (input : List ℕ) where
+  module _ (n : ℕ) (limited : Bool) (u : Unit) (e : Exact) (kept : Kept channels u) (t : TiedUnit n limited u e) (words : ℕ → List ℤ) (feeds : Feeds channels words) (word : ℕ → ℤ) (fed : (k : ℕ) → getD (words k) channel (pos 0) ≡ word k) where
     -- whether a section limits in frame k, k from 0
-    abbrev limitsIn : ℕ → Bool
-    limitsIn k = limitsOn channels channel (wordAt input (placeOf channels channel k)) (played channels u input k)
+    abbrev limitsAt : ℕ → Bool
+    limitsAt = limitsIn channel u words
 
     -- whether one has limited, after k of them
     abbrev limitedBy : ℕ → Bool
-    limitedBy k = limited || anyOf (tabulate k limitsIn)
+    limitedBy k = limited || anyOf (tabulate k limitsAt)
 
     abbrev exactBy : ℕ → Exact
-    exactBy k = exactPlayed channels channel bands input e k
+    exactBy k = exactPlayed bands word e k
 
     -- one frame more
-    played-next : (k : ℕ) → TiedUnit (n + k) (limitedBy k) (played channels u input k) (exactBy k) → TiedUnit (suc (n + k)) (limitedBy k || limitsIn k) (played channels u input (suc k)) (exactBy (suc k))
-    unfolding played exactPlayed unitFrame
+    played-next : (k : ℕ) → TiedUnit (n + k) (limitedBy k) (playedOn words u k) (exactBy k) → TiedUnit (suc (n + k)) (limitedBy k || limitsAt k) (playedOn words u (suc k)) (exactBy (suc k))
+    unfolding playedOn exactPlayed unitFrame
     played-next k p =
         record {
           bands-are = p .bands-are;
           tied =
-              subst (λ (b : Channel). Tied bands (suc (n + k)) (limitedBy k || limitsIn k) (moved volumeSlope (v .volume)) b (exactFrame bands x (exactBy k)))
-              (sym (played-channel channels u input (kept .shape .channels) channel clearedChannel inside k))
+              subst (λ (b : Channel). Tied bands (suc (n + k)) (limitedBy k || limitsAt k) (moved volumeSlope (v .volume)) b (exactFrame bands (word k) (exactBy k)))
+              (sym (fed-channel words feeds u (kept .shape .channels) channel clearedChannel inside k))
+              (subst (λ (y : ℤ). Tied bands (suc (n + k)) (limitedBy k || limitsAt k) (moved volumeSlope (v .volume)) (channelFrame (v .bands) x a) (exactFrame bands y (exactBy k))) (fed k)
               (subst (λ (bs : List Band). Tied bands (suc (n + k)) (limitedBy k || anyLimits bs x (a .x2) (a .sections)) (moved volumeSlope (v .volume)) (channelFrame bs x a) (exactFrame bands x (exactBy k))) (sym (p .bands-are))
-              (frame-tied bands (n + k) (limitedBy k) (v .volume) a (exactBy k) (p .tied) as-many x));
+              (frame-tied bands (n + k) (limitedBy k) (v .volume) a (exactBy k) (p .tied) as-many x)));
         }
       where
         v : Unit
-        v = played channels u input k
+        v = playedOn words u k
 
         a : Channel
-        a = channelIn channels channel v
+        a = channelIn channel v
 
         x : ℤ
-        x = wordAt input (placeOf channels channel k)
+        x = getD (words k) channel (pos 0)
 
         shape : Shaped channels v
-        shape = played-shaped channels u input k (kept .shape)
+        shape = fed-shaped words feeds u k (kept .shape)
 
         as-many : length (a .sections) ≡ length bands
         as-many =
@@ -167,53 +170,50 @@ module _ (channels channel : ℕ) (inside : channel < channels) (bands : List Ba
             ∙ sym (shape .bands)
             ∙ ap length (p .bands-are)
 
-    limited-more : (k : ℕ) → limitedBy k || limitsIn k ≡ limitedBy (suc k)
+    limited-more : (k : ℕ) → limitedBy k || limitsAt k ≡ limitedBy (suc k)
     limited-more k =
-        or-assoc limited (anyOf (tabulate k limitsIn)) (limitsIn k)
-        ∙ ap (λ (b : Bool). limited || b) (sym (any-snoc (tabulate k limitsIn) (limitsIn k)))
+        or-assoc limited (anyOf (tabulate k limitsAt)) (limitsAt k)
+        ∙ ap (λ (b : Bool). limited || b) (sym (any-snoc (tabulate k limitsAt) (limitsAt k)))
 
-    -- the unit after k frames of the block
-    played-tied : (k : ℕ) → TiedUnit (n + k) (limitedBy k) (played channels u input k) (exactBy k)
-    unfolding played exactPlayed
+    -- the unit after k of them
+    played-tied : (k : ℕ) → TiedUnit (n + k) (limitedBy k) (playedOn words u k) (exactBy k)
+    unfolding playedOn exactPlayed
     played-tied zero = tied-from u e (omega arith) (sym (or-false limited)) t
     played-tied (suc k) =
-        tied-from (played channels u input (suc k)) (exactBy (suc k)) (omega arith) (limited-more k) (played-next k (played-tied k))
+        tied-from (playedOn words u (suc k)) (exactBy (suc k)) (omega arith) (limited-more k) (played-next k (played-tied k))
 
-    -- the claim holds of them
-    module _ (room : List ℕ) (accepts : BlockAccepts channels u (length input) (length room)) where
-      abbrev sampleIn : ℕ → ℤ
-      sampleIn k = sampleAt (blockOutput channels u input room) (placeOf channels channel k)
-
-      frames-follow : (k : ℕ) → k ≤ frameCount channels input → Follows bands n limited (tabulate k sampleIn) (tabulate k limitsIn) (tabulate k (λ (j : ℕ). exactBy (suc j)))
+    -- the claim holds of them, wherever the samples are read
+    module _ (frames : ℕ) (sampleIn : ℕ → ℤ) (heard : (k : ℕ) → k < frames → sampleIn k ≡ sampleAfter words u channel clearedChannel (suc k)) where
+      frames-follow : (k : ℕ) → k ≤ frames → Follows bands n limited (tabulate k sampleIn) (tabulate k limitsAt) (tabulate k (λ (j : ℕ). exactBy (suc j)))
       frames-follow zero h = tt
       frames-follow (suc k) h =
-          follows-append bands n limited (tabulate k sampleIn) (tabulate k limitsIn) (tabulate k (λ (j : ℕ). exactBy (suc j))) (sampleIn k ∷ []) (limitsIn k ∷ []) (exactBy (suc k) ∷ [])
+          follows-append bands n limited (tabulate k sampleIn) (tabulate k limitsAt) (tabulate k (λ (j : ℕ). exactBy (suc j))) (sampleIn k ∷ []) (limitsAt k ∷ []) (exactBy (suc k) ∷ [])
           (frames-follow k (omega arith))
-          (subst (λ (m : ℕ). FrameFollows bands m (limitedBy k || limitsIn k) (sampleIn k) (exactBy (suc k))) (ap (λ (m : ℕ). n + m) (sym (tabulate-length k limitsIn))) last, tt)
+          (subst (λ (m : ℕ). FrameFollows bands m (limitedBy k || limitsAt k) (sampleIn k) (exactBy (suc k))) (ap (λ (m : ℕ). n + m) (sym (tabulate-length k limitsAt))) last, tt)
         where
-          after : TiedUnit (suc (n + k)) (limitedBy k || limitsIn k) (played channels u input (suc k)) (exactBy (suc k))
+          after : TiedUnit (suc (n + k)) (limitedBy k || limitsAt k) (playedOn words u (suc k)) (exactBy (suc k))
           after = played-next k (played-tied k)
 
-          last : FrameFollows bands (n + k) (limitedBy k || limitsIn k) (sampleIn k) (exactBy (suc k))
+          last : FrameFollows bands (n + k) (limitedBy k || limitsAt k) (sampleIn k) (exactBy (suc k))
           last =
               record {
                 scale = after .tied .scale;
                 close =
                     λ q.
-                    subst (λ (s : ℤ). Close bands (suc (n + k)) s (exactBy (suc k))) (sym (output-sample channels u input (kept .shape .channels) channel clearedChannel inside room accepts k (omega arith)))
-                    (tied-close bands (suc (n + k)) (limitedBy k || limitsIn k) (played channels u input (suc k) .volume) (channelIn channels channel (played channels u input (suc k))) (exactBy (suc k)) (after .tied) q);
+                    subst (λ (s : ℤ). Close bands (suc (n + k)) s (exactBy (suc k))) (sym (heard k (omega arith)))
+                    (tied-close bands (suc (n + k)) (limitedBy k || limitsAt k) (playedOn words u (suc k) .volume) (channelIn channel (playedOn words u (suc k))) (exactBy (suc k)) (after .tied) q);
               }
 
   -- ---- a call
 
   module _ (n : ℕ) (limited : Bool) (u : Unit) (e : Exact) (kept : Kept channels u) (t : TiedUnit n limited u e) where
     -- an order, accepted or refused
-    order-tied : (side band : ℕ) (level : Setting) → TiedUnit n limited (ordered u side band level .unit) (exactAfter channels channel bands e (order side band level))
+    order-tied : (side band : ℕ) (level : Setting) → TiedUnit n limited (ordered channels u side band level .unit) (exactAfter channels channel bands e (order side band level))
     unfolding ordered
     order-tied side band level =
         subst (λ (a : Bool). TiedUnit n limited (cond a (aimedUnit side band (targetOf band level) u) u) (exactAfter channels channel bands e (order side band level)))
-        (ap isAccepted (sym (order-accepts u side band level (kept .fit))))
-        (go (isAccepted (orderArguments side band level)))
+        (ap isAccepted (sym (order-accepts channels u side band level (kept .fit))))
+        (go (isAccepted (orderArguments channels side band level)))
       where
         go : (a : Bool) → TiedUnit n limited (cond a (aimedUnit side band (targetOf band level) u) u) (cond a (exactAimed channels channel bands side band (targetOf band level) e) e)
         go true = aimed-tied side band (targetOf band level) n limited u e kept t
@@ -231,39 +231,50 @@ module _ (channels channel : ℕ) (inside : channel < channels) (bands : List Ba
       abbrev frames : ℕ
       frames = frameCount channels input
 
+      abbrev words : ℕ → List ℤ
+      words = blockWords channels input
+
+      abbrev word : ℕ → ℤ
+      word = exactWord channels channel input
+
+      fed : (k : ℕ) → getD (words k) channel (pos 0) ≡ word k
+      fed k = block-word channels input k channel inside
+
       -- a block's frames, accepted or refused
       abbrev limitsThen : Bool → List Bool
-      limitsThen a = cond a (tabulate frames (limitsIn n limited u e kept t input)) []
+      limitsThen a = cond a (tabulate frames (limitsIn channel u words)) []
 
       block-tied : TiedUnit (n + length (limitsOf channels channel u (block input room))) (limited || anyOf (limitsOf channels channel u (block input room))) (blockPlayed channels u input (length room) .unit) (exactAfter channels channel bands e (block input room))
       unfolding blockPlayed
       block-tied =
-          subst (λ (a : Bool). TiedUnit (n + length (limitsThen a)) (limited || anyOf (limitsThen a)) (cond a (played channels u input frames) u) (exactAfter channels channel bands e (block input room))) arguments-decide
+          subst (λ (a : Bool). TiedUnit (n + length (limitsThen a)) (limited || anyOf (limitsThen a)) (cond a (playedOn words u frames) u) (exactAfter channels channel bands e (block input room))) arguments-decide
           (go accepted)
         where
-          go : (a : Bool) → TiedUnit (n + length (limitsThen a)) (limited || anyOf (limitsThen a)) (cond a (played channels u input frames) u) (cond a (exactPlayed channels channel bands input e frames) e)
+          go : (a : Bool) → TiedUnit (n + length (limitsThen a)) (limited || anyOf (limitsThen a)) (cond a (playedOn words u frames) u) (cond a (exactPlayed bands word e frames) e)
           go true =
-              tied-from (played channels u input frames) (exactPlayed channels channel bands input e frames) (ap (λ (m : ℕ). n + m) (sym (tabulate-length frames (limitsIn n limited u e kept t input)))) refl
-              (played-tied n limited u e kept t input frames)
+              tied-from (playedOn words u frames) (exactPlayed bands word e frames) (ap (λ (m : ℕ). n + m) (sym (tabulate-length frames (limitsIn channel u words)))) refl
+              (played-tied n limited u e kept t words (block-feeds channels input) word fed frames)
           go false = tied-from u e (omega arith) (sym (or-false limited)) t
 
       block-follows : Follows bands n limited (samplesOf channels channel u (block input room)) (limitsOf channels channel u (block input room)) (exactsOf channels channel bands e (block input room))
       unfolding blockPlayed
       block-follows =
-          subst (λ (a : Bool). Follows bands n limited (cond a (tabulate frames (sampleOf)) []) (limitsThen a) (exactsOf channels channel bands e (block input room))) arguments-decide
+          subst (λ (a : Bool). Follows bands n limited (cond a (tabulate frames sampleOf) []) (limitsThen a) (exactsOf channels channel bands e (block input room))) arguments-decide
           (go accepted refl)
         where
           sampleOf : ℕ → ℤ
           sampleOf k = sampleAt (blockOutput channels u input room) (placeOf channels channel k)
 
-          go : (a : Bool) → accepted ≡ a → Follows bands n limited (cond a (tabulate frames sampleOf) []) (limitsThen a) (cond a (tabulate frames (λ (j : ℕ). exactPlayed channels channel bands input e (suc j))) [])
+          go : (a : Bool) → accepted ≡ a → Follows bands n limited (cond a (tabulate frames sampleOf) []) (limitsThen a) (cond a (tabulate frames (λ (j : ℕ). exactPlayed bands word e (suc j))) [])
           go true p =
-              frames-follow n limited u e kept t input room (block-accepted channels u (length input) (length room) (sym arguments-decide ∙ p)) frames (omega arith)
+              frames-follow n limited u e kept t words (block-feeds channels input) word fed frames sampleOf
+              (output-sample channels u input (kept .shape .channels) channel clearedChannel inside room (block-accepted channels u (length input) (length room) (sym arguments-decide ∙ p)))
+              frames (omega arith)
           go false p = tt
 
     call-tied : (call : Call) → TiedUnit (n + length (limitsOf channels channel u call)) (limited || anyOf (limitsOf channels channel u call)) (unitAfter channels u call) (exactAfter channels channel bands e call)
     call-tied (order side band level) =
-        tied-from (ordered u side band level .unit) (exactAfter channels channel bands e (order side band level)) (omega arith) (sym (or-false limited)) (order-tied side band level)
+        tied-from (ordered channels u side band level .unit) (exactAfter channels channel bands e (order side band level)) (omega arith) (sym (or-false limited)) (order-tied side band level)
     call-tied (block input room) = block-tied input room
 
     call-follows : (call : Call) → Follows bands n limited (samplesOf channels channel u call) (limitsOf channels channel u call) (exactsOf channels channel bands e call)
@@ -281,7 +292,7 @@ module _ (channels channel : ℕ) (inside : channel < channels) (bands : List Ba
       (list-follows calls (n + length (limitsOf channels channel u call)) (limited || anyOf (limitsOf channels channel u call)) (unitAfter channels u call) (exactAfter channels channel bands e call) (call-kept channels u call kept) (call-tied n limited u e kept t call))
 
   -- the flag after it says whether a section has limited
-  pub list-flag : (calls : List Call) (n : ℕ) (limited : Bool) (u : Unit) (e : Exact) → Kept channels u → TiedUnit n limited u e → channelIn channels channel (handedBack channels u calls) .flag ≡ pos (flag (limited || anyOf (limits channels channel u calls)))
+  pub list-flag : (calls : List Call) (n : ℕ) (limited : Bool) (u : Unit) (e : Exact) → Kept channels u → TiedUnit n limited u e → channelIn channel (handedBack channels u calls) .flag ≡ pos (flag (limited || anyOf (limits channels channel u calls)))
   list-flag [] n limited u e kept t = t .tied .flags ∙ ap (λ (b : Bool). pos (flag b)) (sym (or-false limited))
   list-flag (call ∷ calls) n limited u e kept t =
       list-flag calls (n + length (limitsOf channels channel u call)) (limited || anyOf (limitsOf channels channel u call)) (unitAfter channels u call) (exactAfter channels channel bands e call) (call-kept channels u call kept) (call-tied n limited u e kept t call)

@@ -8,7 +8,8 @@
 -- without rounding and limited only at the end, by at most 1/2 + V/2^32 + V × (sum over the bands of |g| × H)/2^55 sample steps. V and g
 -- are the volume and that side's gains used in frame n, and H is the sum of the first n absolute values of that band's impulse response."
 --
--- A side is a channel here, and the number of channels is a parameter: the product has two. Lists of frames begin with frame 1.
+-- The list of calls, with the unit that it hands back and its samples, is that of calls/specs/Calls.antt. A side is a channel here, and the
+-- number of channels is a parameter: the product has two. Lists of frames begin with frame 1.
 use mathlib.Core.Path.{_≡_}
 use mathlib.Core.Bool.{Bool, true, false, cond}
 use mathlib.Core.List.{List, [], _∷_, _++_, map}
@@ -24,73 +25,35 @@ use Rattle.section.specs.Equation.{exactSum, sumShift, flag}
 use Rattle.levels.specs.declared.Level.{Level}
 use Rattle.levels.specs.Levels.{gainSlope, volumeSlope, moved, aimed}
 use Rattle.unit.specs.Sizes.{channelCount}
-use Rattle.unit.specs.declared.Channel.{Channel}
 use Rattle.unit.specs.declared.Unit.{Unit}
 use Rattle.unit.specs.Lists.{tabulate, changed, anyOf}
-use Rattle.unit.specs.Cleared.{clearedLevel, clearedChannel, clearedUnit, bandsOf}
+use Rattle.unit.specs.Cleared.{clearedLevel, bandsOf}
 use Rattle.unit.specs.Frame.{anyLimits, sampleLow, sampleHigh}
 use Rattle.unit.specs.Fit.{Fit}
 use Rattle.unit.specs.Shaped.{Shaped}
 use Rattle.loading.specs.Loading.{setVerdict, loaded}
-use Rattle.settings.specs.declared.Setting.{Setting}
 use Rattle.settings.specs.Settings.{volumeBand, names, targetOf, orderArguments}
-use Rattle.orders.specs.Orders.{ordered}
-use Rattle.frames.specs.Bytes.{sampleAt, wordAt, frameSize, frameCount}
-use Rattle.frames.specs.Played.{played}
-use Rattle.blocks.specs.Block.{blockArguments, blockPlayed, blockOutput}
+use Rattle.frames.specs.Bytes.{wordAt, frameCount}
+use Rattle.frames.specs.Played.{playedOn}
+use Rattle.blocks.specs.Block.{blockArguments}
+use Rattle.calls.specs.Calls.{Call, order, block, startingUnit, channelIn, unitAfter, handedBack, framesOf, placeOf, samples}
 
--- ---- "a list of calls, each a level order or a block of frames, refused ones included"
+-- ---- "if no section of that side has limited"
 
--- any side, band and level; any bytes, and any buffer for the output
-pub data Call : Type 0 where
-  order : (side band : ℕ) (level : Setting) → Call
-  block : (input room : List ℕ) → Call
-
--- ---- the unit: what the contracts of `orders::order` and `blocks::play` promise
-
-module _ (channels : ℕ) where
-  -- "Each call gets the unit that the last one handed back": the unit that this call hands back
-  abbrev pub unitAfter : Unit → Call → Unit
-  unitAfter u (order side band level) = ordered u side band level .unit
-  unitAfter u (block input room) = blockPlayed channels u input (length room) .unit
-
-  -- the unit that the whole list hands back
-  abbrev pub handedBack : Unit → List Call → Unit
-  handedBack u [] = u
-  handedBack u (call ∷ calls) = handedBack (unitAfter u call) calls
-
-  -- "Frames are numbered from 1 over the accepted blocks": what `read` gives for each frame of an accepted block; orders and refused
-  -- blocks have no frames
-  abbrev pub framesOf : {A : Type 0} → Unit → Call → (List ℕ → List ℕ → ℕ → A) → List A
-  framesOf u (order side band level) read = []
-  framesOf u (block input room) read =
-      cond (isAccepted (blockPlayed channels u input (length room) .verdict)) (tabulate (frameCount channels input) (read input room)) []
-
-module _ (channels channel : ℕ) where
-  -- where the channel's sample stands in frame k of a block; here k counts from 0
-  abbrev pub placeOf : ℕ → ℕ
-  placeOf k = frameSize channels * k + 2 * channel
-
-  -- "A side's sample is its signed 16-bit number for that frame in the output as the block handed it back"
-  abbrev pub samplesOf : Unit → Call → List ℤ
-  samplesOf u call =
-      framesOf channels u call (λ (input room : List ℕ) (k : ℕ). sampleAt (blockOutput channels u input room) (placeOf k))
-
-  abbrev pub samples : Unit → List Call → List ℤ
-  samples u [] = []
-  samples u (call ∷ calls) = samplesOf u call ++ samples (unitAfter channels u call) calls
-
+module _ (channel : ℕ) where
   -- "Whether a section has limited is worked from the list by the rounding and limiting under Words and the section, and not read from
   -- the flag": one of the channel's sections limits in the frame that this unit plays on x
-  abbrev pub channelIn : Unit → Channel
-  channelIn u = getD (u .channels) channel clearedChannel
-
   abbrev pub limitsOn : ℤ → Unit → Bool
-  limitsOn x u = anyLimits (u .bands) x (channelIn u .x2) (channelIn u .sections)
+  limitsOn x u = anyLimits (u .bands) x (channelIn channel u .x2) (channelIn channel u .sections)
 
+  -- in frame k of these words, k from 0
+  abbrev pub limitsIn : Unit → (ℕ → List ℤ) → ℕ → Bool
+  limitsIn u words k = limitsOn (getD (words k) channel (pos 0)) (playedOn words u k)
+
+module _ (channels channel : ℕ) where
+  -- in the frames of a call, and of the list
   abbrev pub limitsOf : Unit → Call → List Bool
-  limitsOf u call =
-      framesOf channels u call (λ (input room : List ℕ) (k : ℕ). limitsOn (wordAt input (placeOf k)) (played channels u input k))
+  limitsOf u call = framesOf channels u call (λ (words : ℕ → List ℤ) (output : List ℕ). limitsIn channel u words)
 
   abbrev pub limits : Unit → List Call → List Bool
   limits u [] = []
@@ -177,6 +140,15 @@ unfoldable pub exactOutput : Exact → ℤ
 exactOutput e =
     limit (pos (outputScale e) *ℤ sampleLow) (pos (outputScale e) *ℤ sampleHigh) (e .volume .present *ℤ exactMixed e)
 
+-- "An accepted block gives its frames in turn": after the first k of them. Frame k, k from 0, is on word k of the channel
+unfoldable pub exactPlayed : List Band → (ℕ → ℤ) → Exact → ℕ → Exact
+exactPlayed bands word e zero = e
+exactPlayed bands word e (suc k) = exactFrame bands (word k) (exactPlayed bands word e k)
+
+-- the channel's words of a block
+abbrev pub exactWord : ℕ → ℕ → List ℕ → ℕ → ℤ
+exactWord channels channel input k = wordAt input (placeOf channels channel k)
+
 module _ (channels channel : ℕ) (bands : List Band) where
   -- "An accepted order sets targets by the rules under Levels"
   abbrev pub exactAimed : ℕ → ℕ → ℤ → Exact → Exact
@@ -192,24 +164,19 @@ module _ (channels channel : ℕ) (bands : List Band) where
         results = e .results;
       }
 
-  -- "An accepted block gives its frames in turn": after the first k of them
-  unfoldable pub exactPlayed : List ℕ → Exact → ℕ → Exact
-  exactPlayed input e zero = e
-  exactPlayed input e (suc k) = exactFrame bands (wordAt input (placeOf channels channel k)) (exactPlayed input e k)
-
   -- "A call refused for its arguments changes nothing"
   abbrev pub exactAfter : Exact → Call → Exact
   exactAfter e (order side band level) =
-      cond (isAccepted (orderArguments side band level)) (exactAimed side band (targetOf band level) e) e
+      cond (isAccepted (orderArguments channels side band level)) (exactAimed side band (targetOf band level) e) e
   exactAfter e (block input room) =
-      cond (isAccepted (blockArguments channels (length input) (length room))) (exactPlayed input e (frameCount channels input)) e
+      cond (isAccepted (blockArguments channels (length input) (length room))) (exactPlayed bands (exactWord channels channel input) e (frameCount channels input)) e
 
   -- the reckoning as it stands after each frame
   abbrev pub exactsOf : Exact → Call → List Exact
   exactsOf e (order side band level) = []
   exactsOf e (block input room) =
       cond (isAccepted (blockArguments channels (length input) (length room)))
-      (tabulate (frameCount channels input) (λ (k : ℕ). exactPlayed input e (suc k))) []
+      (tabulate (frameCount channels input) (λ (k : ℕ). exactPlayed bands (exactWord channels channel input) e (suc k))) []
 
   abbrev pub exacts : Exact → List Call → List Exact
   exacts e [] = []
@@ -245,11 +212,7 @@ bound bands n e =
 pub record Close (bands : List Band) (n : ℕ) (s : ℤ) (e : Exact) : Type 0 where
   pub distance : 2 * natAbs (pos (outputScale e) *ℤ s -ℤ exactOutput e) ≤ bound bands n e
 
--- "It begins with a cleared unit with an accepted band set": what `loading::load` hands back, by `Demand3 .begins`
-abbrev pub startingUnit : ℕ → List ℤ → Unit
-startingUnit channels set = clearedUnit channels (bandsOf set)
-
--- a list begun so, and one of its channels
+-- a list that begins with a cleared unit with this band set, and one of its channels
 module _ (channels channel : ℕ) (set : List ℤ) (calls : List Call) where
   -- all frames of the list: the samples, whether a section limits, and the exact reckoning
   abbrev pub allSamples : List ℤ
@@ -277,7 +240,7 @@ module _ (channels channel : ℕ) (set : List ℤ) (calls : List Call) where
     pub exact-frames : length allExacts ≡ length allSamples
     pub limits-frames : length allLimits ≡ length allSamples
     pub scales : (i : ℕ) → i < length allExacts → getD allExacts i silent .scale ≡ divisor ^ suc i
-    pub flag-agrees : channelIn channels channel ended .flag ≡ pos (flag (anyOf allLimits))
+    pub flag-agrees : channelIn channel ended .flag ≡ pos (flag (anyOf allLimits))
     pub stays-fit : Fit ended
     pub stays-shaped : Shaped channels ended
 

@@ -8,7 +8,8 @@ use lib.Ieee.{fin}
 use lib.ListN.{getD, replicate}
 use Rattle.bands.specs.House.{houseSet}
 use Rattle.settings.specs.declared.Setting.the-variants.{Position, Factor, Mute}
-use Rattle.closeness.specs.Claim.{Call, order, block, Exact, silent, allExacts}
+use Rattle.calls.specs.Calls.{Call, order, block}
+use Rattle.closeness.specs.Claim.{Exact, silent, allExacts}
 
 -- with the house set: the volume to position 31; the left 16 kHz band to the factor 1/2; the left 62 Hz band muted; an order for a side
 -- that is not there; a block of three bytes; and the frames (32767, -32768) and (-32768, 32767)

@@ -15,9 +15,11 @@ use Rattle.unit.proofs.Fitness.{test-of-fit}
 use Rattle.loading.specs.Loading.{setVerdict}
 use Rattle.reading.specs.declared.SheetRead.{SheetRead}
 use Rattle.roundtrip.proofs.Holds.{round-trip}
-use Rattle.closeness.specs.Claim.{handedBack, samples, limits, silent, Close, startingUnit, allSamples, allExacts}
-use Rattle.closeness.proofs.Kept.{Kept, begun-kept, list-kept}
-use Rattle.closeness.proofs.Append.{unit-append, samples-append, limits-append}
+use Rattle.calls.specs.Calls.{startingUnit, handedBack, samples}
+use Rattle.calls.proofs.Kept.{Kept, begun-kept, list-kept}
+use Rattle.calls.proofs.Append.{unit-append, samples-append}
+use Rattle.closeness.specs.Claim.{limits, silent, Close, allSamples, allExacts}
+use Rattle.closeness.proofs.Append.{limits-append}
 use Rattle.closeness.proofs.Holds.{demand3}
 use Rattle.continuation.specs.Claim.{Stretch, HasRoom, uncut, unitAtCut, answerAtCut, SheetAccepted, answers, unitAcross, samplesAcross, limitsAcross, cutSamples, CloseAcross, Continued, Continuing}
 

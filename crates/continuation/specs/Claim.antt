@@ -7,8 +7,8 @@
 -- go on with the unit that was read. Unit, samples and limiting are then those of the list that was not cut, and so demand 3 speaks of
 -- every frame.
 --
--- What it rests on. The calls, the unit that they hand back, the samples, the limiting, the exact reckoning and `Close` are those of demand 3
--- (closeness/specs/Claim.antt). `filledPart` (writing/specs/Written.antt) and `sheetRead` (reading/specs/Reading.antt) are what the contracts of
+-- What it rests on. The calls, the unit that they hand back and the samples are those of calls/specs/Calls.antt; the limiting, the exact
+-- reckoning and `Close` are those of demand 3 (closeness/specs/Claim.antt). `filledPart` (writing/specs/Written.antt) and `sheetRead` (reading/specs/Reading.antt) are what the contracts of
 -- `writing::write` and `reading::read` promise, for all inputs. The number of channels is the product's, since a sheet has two.
 use mathlib.Core.Path.{_≡_}
 use mathlib.Core.Bool.{Bool, true, false}
@@ -27,7 +27,8 @@ use Rattle.sheet.specs.Lines.{sheetSize}
 use Rattle.writing.specs.Written.{filledPart}
 use Rattle.reading.specs.declared.SheetRead.{SheetRead}
 use Rattle.reading.specs.Reading.{sheetRead}
-use Rattle.closeness.specs.Claim.{Call, handedBack, samples, limits, silent, Close, startingUnit, allSamples, allLimits, allExacts}
+use Rattle.calls.specs.Calls.{Call, startingUnit, handedBack, samples}
+use Rattle.closeness.specs.Claim.{limits, silent, Close, allSamples, allLimits, allExacts}
 
 -- ---- a list that is cut
 

@@ -101,8 +101,7 @@ pub extern "C" fn fonddrys_level_moved(present: i32, target: i32, slope: u32) ->
 pub extern "C" fn fonddrys_unit_fit(numbers: &[i32; numbers::UNIT_SIZE]) -> u32
     ensures { λ r. ⌜ r ≡ flag (unitFits (unitOf (now (numbers .entry)))) ⌝ }
 {
-    let unit = numbers::unit_of(numbers);
-    fitness::is_fit(unit) as u32
+    lent_fitness::is_fit(numbers) as u32
 }
 
 // Loads a band set: the lent numbers are then those of the loaded unit. 0 for an accepted set, else the number of its refusal.

@@ -1,126 +1,132 @@
--- So many frames: they keep a unit fit, and one frame more is one step of the definitions.
-use mathlib.Core.Path.{_≡_, refl, sym, ap, _∙_}
-use mathlib.Core.List.{List, [], _∷_, _++_, append-assoc}
-use Prim.Native.Nat.{ℕ, zero, suc, _+_, _*_, _≤_}
+-- So many frames, on any words: they keep a unit fit, and one frame more is one step of the definitions.
+use mathlib.Core.Path.{_≡_, refl, sym, ap, ap₂, _∙_}
+use mathlib.Core.List.{List, [], _∷_, _++_, append-assoc, append-nil}
+use Prim.Native.Nat.{ℕ, zero, suc, _+_, _*_, _<_}
 use native.Mathlib.Omega.{arith}
 use lib.IntN.{ℤ}
-use lib.ListN.{length, set, drop, length-append, length-drop, length-map}
-use lib.Seq.{set-at, drop-drop}
-use Rattle.levels.specs.declared.Level.{Level}
-use Rattle.levels.specs.Levels.{volumeSlope, moved}
+use lib.ListN.{length, length-append, length-map}
 use Rattle.unit.specs.declared.Channel.{Channel}
 use Rattle.unit.specs.declared.Unit.{Unit}
-use Rattle.unit.specs.Cleared.{bandsOf}
-use Rattle.unit.specs.Frame.{channelFrame, unitFrame, mix, output, heard}
+use Rattle.unit.specs.Lists.{Each}
+use Rattle.unit.specs.Frame.{unitFrame, mix, output, heard}
 use Rattle.unit.specs.Fit.{Fit}
 use Rattle.unit.specs.Shaped.{Shaped}
-use Rattle.unit.proofs.Stays.{unit-stays}
+use Rattle.unit.proofs.Stays.{IsInput, unit-stays}
 use Rattle.unit.proofs.Shaped.{frame-channels, frame-shaped}
-use Rattle.engine.specs.Numbers.{channelOf}
-use Rattle.frames.specs.Bytes.{wordAt, wordsAt, frameSize, lowByte, highByte, bytesOf}
-use Rattle.frames.specs.Played.{played, sound}
-use Rattle.frames.specs.Run.{putSample, unitWith}
+use Rattle.frames.specs.Bytes.{wordsAt, frameSize, bytesOf}
+use Rattle.frames.specs.Played.{playedOn, soundOn, blockWords, played, sound}
 use Rattle.frames.proofs.Bytes.{words-input}
 
--- a fit unit stays fit
-pub played-fit : (channels : ℕ) (u : Unit) (input : List ℕ) (n : ℕ) → Fit u → Fit (played channels u input n)
-unfolding played
-played-fit channels u input zero f = f
-played-fit channels u input (suc n) f =
-    unit-stays (wordsAt channels input (frameSize channels * n)) (played channels u input n) (words-input channels input (frameSize channels * n)) (played-fit channels u input n f)
+-- words for so many channels
+pub record Feeds (channels : ℕ) (words : ℕ → List ℤ) : Type 0 where
+  pub as-many : (k : ℕ) → length (words k) ≡ channels
+  pub inputs : (k : ℕ) → Each IsInput (words k)
 
--- ---- lengths
-
+-- the words of a block are such words
 pub words-length : (channels : ℕ) (input : List ℕ) (at : ℕ) → length (wordsAt channels input at) ≡ channels
 words-length zero input at = refl
 words-length (suc channels) input at = ap suc (words-length channels input (at + 2))
 
-pub played-channels : (channels : ℕ) (u : Unit) (input : List ℕ) (n : ℕ) → length (u .channels) ≡ channels → length (played channels u input n .channels) ≡ channels
-unfolding played unitFrame
-played-channels channels u input zero h = h
-played-channels channels u input (suc n) h =
-    frame-channels (played channels u input n .bands) (wordsAt channels input (frameSize channels * n)) (played channels u input n .channels)
-    (words-length channels input (frameSize channels * n) ∙ sym (played-channels channels u input n h))
-    ∙ played-channels channels u input n h
-
--- the unit keeps its shape
-pub played-shaped : (channels : ℕ) (u : Unit) (input : List ℕ) (n : ℕ) → Shaped channels u → Shaped channels (played channels u input n)
-unfolding played
-played-shaped channels u input zero s = s
-played-shaped channels u input (suc n) s =
-    frame-shaped channels (wordsAt channels input (frameSize channels * n)) (played channels u input n) (words-length channels input (frameSize channels * n)) (played-shaped channels u input n s)
+pub block-feeds : (channels : ℕ) (input : List ℕ) → Feeds channels (blockWords channels input)
+block-feeds channels input =
+    record {
+      as-many = λ k. words-length channels input (frameSize channels * k);
+      inputs = λ k. words-input channels input (frameSize channels * k);
+    }
 
 pub bytes-length : (ss : List ℤ) → length (bytesOf ss) ≡ 2 * length ss
 bytes-length [] = refl
 bytes-length (s ∷ ss) = omega (arith, bytes-length ss)
 
-pub sound-length : (channels : ℕ) (u : Unit) (input : List ℕ) (n : ℕ) → length (u .channels) ≡ channels → length (sound channels u input n) ≡ frameSize channels * n
-unfolding sound
-sound-length channels u input zero h = omega arith
-sound-length channels u input (suc n) h =
-    length-append (sound channels u input n) (bytesOf (heard (played channels u input (suc n))))
-    ∙ omega (
-      arith,
-      sound-length channels u input n h,
-      bytes-length (heard (played channels u input (suc n))),
-      length-map (played channels u input (suc n) .channels) (λ (c : Channel). output (played channels u input (suc n) .volume .present) (mix c)),
-      played-channels channels u input (suc n) h,
-    )
+module _ {channels : ℕ} (words : ℕ → List ℤ) (feeds : Feeds channels words) (u : Unit) where
+  -- a fit unit stays fit
+  pub fed-fit : (n : ℕ) → Fit u → Fit (playedOn words u n)
+  unfolding playedOn
+  fed-fit zero f = f
+  fed-fit (suc n) f = unit-stays (words n) (playedOn words u n) (feeds .inputs n) (fed-fit n f)
 
--- ---- one frame more, of flat numbers
+  pub fed-channels : (n : ℕ) → length (u .channels) ≡ channels → length (playedOn words u n .channels) ≡ channels
+  unfolding playedOn unitFrame
+  fed-channels zero h = h
+  fed-channels (suc n) h =
+      frame-channels (playedOn words u n .bands) (words n) (playedOn words u n .channels) (feeds .as-many n ∙ sym (fed-channels n h))
+      ∙ fed-channels n h
 
-module _ (u : Unit) (input : List ℕ) (n : ℕ) (bands : List ℤ) where
-  pub unit-more : (level : Level) (l r l' r' : List ℤ) → unitWith level bands l r ≡ played 2 u input n → channelOf l' ≡ channelFrame (bandsOf bands) (wordAt input (4 * n)) (channelOf l) → channelOf r' ≡ channelFrame (bandsOf bands) (wordAt input (4 * n + 2)) (channelOf r) → unitWith (moved volumeSlope level) bands l' r' ≡ played 2 u input (suc n)
-  unfolding played unitFrame
-  unit-more level l r l' r' e p q =
-      (λ i. record { volume = moved volumeSlope level; bands = bandsOf bands; channels = p i ∷ q i ∷ [] })
-      ∙ ap (unitFrame (wordsAt 2 input (4 * n))) e
+  -- the unit keeps its shape
+  pub fed-shaped : (n : ℕ) → Shaped channels u → Shaped channels (playedOn words u n)
+  unfolding playedOn
+  fed-shaped zero s = s
+  fed-shaped (suc n) s = frame-shaped channels (words n) (playedOn words u n) (feeds .as-many n) (fed-shaped n s)
 
--- four bytes stored behind a front
-pub put-four : (front rest : List ℕ) (n a b c d : ℕ) → length front ≡ n → 4 ≤ length rest → set (set (set (set (front ++ rest) n a) (n + 1) b) (n + 2) c) (n + 2 + 1) d ≡ (front ++ (a ∷ b ∷ c ∷ d ∷ [])) ++ drop 4 rest
-put-four front [] n a b c d h k = absurd (omega arith)
-put-four front (w ∷ []) n a b c d h k = absurd (omega arith)
-put-four front (w ∷ x ∷ []) n a b c d h k = absurd (omega arith)
-put-four front (w ∷ x ∷ y ∷ []) n a b c d h k = absurd (omega arith)
-put-four front (w ∷ x ∷ y ∷ z ∷ rest) n a b c d h k =
-    ap (λ (m : List ℕ). set (set (set m (n + 1) b) (n + 2) c) (n + 2 + 1) d) (behind front w (x ∷ y ∷ z ∷ rest) n a h)
-    ∙ ap (λ (m : List ℕ). set (set m (n + 2) c) (n + 2 + 1) d) (behind one x (y ∷ z ∷ rest) (n + 1) b (longer front a ∙ omega (arith, h)))
-    ∙ ap (λ (m : List ℕ). set m (n + 2 + 1) d) (behind two y (z ∷ rest) (n + 2) c (longer one b ∙ omega (arith, longer front a, h)))
-    ∙ behind three z rest (n + 2 + 1) d (longer two c ∙ omega (arith, longer one b, longer front a, h))
-    ∙ simp append-assoc
-  where
-    -- one byte
-    behind : (p : List ℕ) (y : ℕ) (ys : List ℕ) (m v : ℕ) → length p ≡ m → set (p ++ y ∷ ys) m v ≡ (p ++ (v ∷ [])) ++ ys
-    behind p y ys m v e = set-at p y ys v m e ∙ simp append-assoc
+  pub fed-length : (n : ℕ) → length (u .channels) ≡ channels → length (soundOn words u n) ≡ frameSize channels * n
+  unfolding soundOn
+  fed-length zero h = omega arith
+  fed-length (suc n) h =
+      length-append (soundOn words u n) (bytesOf (heard (playedOn words u (suc n))))
+      ∙ omega (
+        arith,
+        fed-length n h,
+        bytes-length (heard (playedOn words u (suc n))),
+        length-map (playedOn words u (suc n) .channels) (λ (c : Channel). output (playedOn words u (suc n) .volume .present) (mix c)),
+        fed-channels (suc n) h,
+      )
 
-    longer : (p : List ℕ) (v : ℕ) → length (p ++ (v ∷ [])) ≡ length p + 1
-    longer p v = length-append p (v ∷ [])
+-- ---- the same words, and words one behind the other
 
-    one : List ℕ
-    one = front ++ (a ∷ [])
+module _ (words others : ℕ → List ℤ) (u : Unit) where
+  -- only the words of the first n frames count
+  pub played-same : (n : ℕ) → ((k : ℕ) → k < n → words k ≡ others k) → playedOn words u n ≡ playedOn others u n
+  unfolding playedOn
+  played-same zero e = refl
+  played-same (suc n) e = ap₂ unitFrame (e n (omega arith)) (played-same n (λ k h. e k (omega (arith, h))))
 
-    two : List ℕ
-    two = one ++ (b ∷ [])
+  pub sound-same : (n : ℕ) → ((k : ℕ) → k < n → words k ≡ others k) → soundOn words u n ≡ soundOn others u n
+  unfolding soundOn
+  sound-same zero e = refl
+  sound-same (suc n) e =
+      ap₂ _++_ (sound-same n (λ k h. e k (omega (arith, h)))) (ap (λ (v : Unit). bytesOf (heard v)) (played-same (suc n) e))
 
-    three : List ℕ
-    three = two ++ (c ∷ [])
+-- n frames behind the first m
+module _ (words : ℕ → List ℤ) (u : Unit) (m : ℕ) where
+  abbrev behind : ℕ → List ℤ
+  behind k = words (k + m)
 
-module _ (u : Unit) (input room : List ℕ) (n : ℕ) where
-  pub bytes-more : (out : List ℕ) (level : Level) (bands l r : List ℤ) → length (u .channels) ≡ 2 → 4 * suc n ≤ length room → out ≡ sound 2 u input n ++ drop (4 * n) room → unitWith level bands l r ≡ played 2 u input (suc n) → putSample (putSample out (4 * n) (output (level .present) (mix (channelOf l)))) (4 * n + 2) (output (level .present) (mix (channelOf r))) ≡ sound 2 u input (suc n) ++ drop (4 * suc n) room
-  unfolding sound
-  bytes-more out level bands l r h k e p =
-      ap (λ (m : List ℕ). putSample (putSample m (4 * n) (output (level .present) (mix (channelOf l)))) (4 * n + 2) (output (level .present) (mix (channelOf r)))) e
-      ∙ put-four (sound 2 u input n) (drop (4 * n) room) (4 * n) (lowByte L) (highByte L) (lowByte R) (highByte R) (sound-length 2 u input n h) (omega (arith, length-drop (4 * n) room))
-      ∙ ap (λ (m : List ℕ). (sound 2 u input n ++ bytesOf (heard (unitWith level bands l r))) ++ m) (drop-drop 4 (4 * n) room ∙ ap (λ (m : ℕ). drop m room) next)
-      ∙ ap (λ (v : Unit). (sound 2 u input n ++ bytesOf (heard v)) ++ drop (4 * suc n) room) p
+  pub played-behind : (n : ℕ) → playedOn words u (n + m) ≡ playedOn behind (playedOn words u m) n
+  unfolding playedOn
+  played-behind zero = ap (playedOn words u) none-and
     where
-      L : ℤ
-      L = output (level .present) (mix (channelOf l))
+      none-and : 0 + m ≡ m
+      none-and = omega arith
+  played-behind (suc n) = ap (playedOn words u) one-more ∙ ap (unitFrame (words (n + m))) (played-behind n)
+    where
+      one-more : suc n + m ≡ suc (n + m)
+      one-more = omega arith
 
-      R : ℤ
-      R = output (level .present) (mix (channelOf r))
+  pub sound-behind : (n : ℕ) → soundOn words u (n + m) ≡ soundOn words u m ++ soundOn behind (playedOn words u m) n
+  unfolding soundOn
+  sound-behind zero = ap (soundOn words u) none-and ∙ sym (append-nil (soundOn words u m))
+    where
+      none-and : 0 + m ≡ m
+      none-and = omega arith
+  sound-behind (suc n) =
+      ap (soundOn words u) one-more
+      ∙ ap₂ _++_ (sound-behind n) (ap (λ (v : Unit). bytesOf (heard v)) (ap (playedOn words u) (sym one-more) ∙ played-behind (suc n)))
+      ∙ append-assoc (soundOn words u m) (soundOn behind (playedOn words u m) n) (bytesOf (heard (playedOn behind (playedOn words u m) (suc n))))
+    where
+      one-more : suc n + m ≡ suc (n + m)
+      one-more = omega arith
 
-      next : 4 * n + 4 ≡ 4 * suc n
-      next = omega arith
+-- ---- the frames of a block
 
--- ---- what an accepted block tells
+module _ (channels : ℕ) (u : Unit) (input : List ℕ) where
+  pub played-fit : (n : ℕ) → Fit u → Fit (played channels u input n)
+  played-fit n f = fed-fit (blockWords channels input) (block-feeds channels input) u n f
+
+  pub played-channels : (n : ℕ) → length (u .channels) ≡ channels → length (played channels u input n .channels) ≡ channels
+  played-channels n h = fed-channels (blockWords channels input) (block-feeds channels input) u n h
+
+  pub played-shaped : (n : ℕ) → Shaped channels u → Shaped channels (played channels u input n)
+  played-shaped n s = fed-shaped (blockWords channels input) (block-feeds channels input) u n s
+
+  pub sound-length : (n : ℕ) → length (u .channels) ≡ channels → length (sound channels u input n) ≡ frameSize channels * n
+  sound-length n h = fed-length (blockWords channels input) (block-feeds channels input) u n h

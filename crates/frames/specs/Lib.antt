@@ -1,4 +1,5 @@
 -- Frames of sound.
 pub mod Bytes
 pub mod Played
+pub mod Column
 pub mod Run

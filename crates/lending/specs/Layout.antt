@@ -1,23 +1,21 @@
 -- Sections and answers as numbers, as the static library passes them. Definitions only.
 use mathlib.Core.Path.{_≡_}
-use mathlib.Core.Bool.{cond}
 use mathlib.Core.List.{List, [], _∷_}
 use Prim.Native.Nat.{ℕ}
 use lib.IntN.{ℤ, pos}
 use lib.ListN.{length, getD}
-use Rattle.refusals.specs.Numbers.{numberOf, isAccepted}
-use Rattle.refusals.specs.declared.Verdict.{Verdict}
+use Rattle.refusals.specs.Numbers.{numberOf}
 use Rattle.bands.specs.Bands.{bandOf}
 use Rattle.bands.specs.declared.Band.{Band}
 use Rattle.section.specs.Equation.{flag}
 use Rattle.section.specs.declared.Section.{Section}
 use Rattle.section.specs.declared.Stepped.{Stepped}
 use Rattle.preview.specs.Preview.{Buffers, previewVerdict, previewed}
-use Rattle.unit.specs.declared.Unit.{Unit}
+use Rattle.unit.specs.Sizes.{channelCount}
 use Rattle.settings.specs.declared.Setting.{Setting}
 use Rattle.orders.specs.Orders.{ordered}
 use Rattle.blocks.specs.Block.{blockPlayed, blockOutput}
-use Rattle.numbers.specs.Layout.{unitOf, numbersOf}
+use Rattle.numbers.specs.Layout.{unitOf, numbersAfter}
 use Rattle.writing.specs.Written.{filledCount, filled}
 use Rattle.reading.specs.Reading.{sheetRead}
 use Rattle.lending.specs.declared.StepAnswer.{StepAnswer}
@@ -48,20 +46,16 @@ pub record PreviewGives (band : Band) (words : List ℤ) (lent : Buffers) (numbe
 
 -- ---- calls on a unit's numbers
 
--- the numbers after a call: refused, those lent
-abbrev pub numbersAfter : List ℤ → Verdict → Unit → List ℤ
-numbersAfter l verdict u = cond (isAccepted verdict) (numbersOf u) l
-
 -- a block: the refusal's number, the numbers after it, and the output
 pub record BlockGives (l : List ℤ) (input room : List ℕ) (number : ℕ) (after : List ℤ) (filled : List ℕ) : Type 0 where
-  pub number-is : number ≡ numberOf (blockPlayed 2 (unitOf l) input (length room) .verdict)
-  pub numbers-are : after ≡ numbersAfter l (blockPlayed 2 (unitOf l) input (length room) .verdict) (blockPlayed 2 (unitOf l) input (length room) .unit)
-  pub output-is : filled ≡ blockOutput 2 (unitOf l) input room
+  pub number-is : number ≡ numberOf (blockPlayed channelCount (unitOf l) input (length room) .verdict)
+  pub numbers-are : after ≡ numbersAfter l (blockPlayed channelCount (unitOf l) input (length room) .verdict) (blockPlayed channelCount (unitOf l) input (length room) .unit)
+  pub output-is : filled ≡ blockOutput channelCount (unitOf l) input room
 
 -- a level order: the refusal's number, and the numbers after it
 pub record OrderGives (l : List ℤ) (side band : ℕ) (setting : Setting) (number : ℕ) (after : List ℤ) : Type 0 where
-  pub number-is : number ≡ numberOf (ordered (unitOf l) side band setting .verdict)
-  pub numbers-are : after ≡ numbersAfter l (ordered (unitOf l) side band setting .verdict) (ordered (unitOf l) side band setting .unit)
+  pub number-is : number ≡ numberOf (ordered channelCount (unitOf l) side band setting .verdict)
+  pub numbers-are : after ≡ numbersAfter l (ordered channelCount (unitOf l) side band setting .verdict) (ordered channelCount (unitOf l) side band setting .unit)
 
 -- a sheet that is written: the count of its bytes, and the buffer
 pub record SheetWriteGives (l : List ℤ) (room : List ℕ) (count : ℕ) (after : List ℕ) : Type 0 where

@@ -1,18 +1,14 @@
 // What the functions of the static library share: calls on a unit, or on a section, whose numbers are lent.
 ghost use mathlib.Core.Path.{_≡_};
-ghost use mathlib.Core.Bool.{true};
-ghost use Rattle.refusals.specs.Numbers.{numberOf, isAccepted};
+ghost use Rattle.refusals.specs.Numbers.{numberOf};
 ghost use Rattle.section.specs.Step.{stepped};
-ghost use Rattle.unit.specs.Fit.{Fit};
 ghost use Rattle.loading.specs.Loading.{loaded};
 ghost use Rattle.numbers.specs.Layout.{numbersOf};
-ghost use Rattle.lending.specs.Layout.{loneSection, loneNumbers, answerOf, numbersAfter, BlockGives, OrderGives, SheetReadGives};
+ghost use Rattle.lending.specs.Layout.{loneSection, loneNumbers, answerOf, BlockGives, OrderGives, SheetReadGives};
 use bands::Band;
-use refusals::Verdict;
 use section::Section;
 use section::Stepped;
 use settings::Setting;
-use unit::Unit;
 
 // A section as numbers: A, B, G, x1, x2, y1, y2.
 pub const SECTION_NUMBERS: usize = 7;
@@ -77,11 +73,8 @@ pub fn load(numbers: &mut [i32; numbers::UNIT_SIZE], set: &[i32]) -> u32
 pub fn block(numbers: &mut [i32; numbers::UNIT_SIZE], input: &[u8], output: &mut [u8]) -> u32
     ensures { λ r. ⌜ BlockGives (now (numbers .entry)) (now (input .entry)) (now (output .entry)) r (now (numbers .exit)) (now (output .exit)) ⌝ }
 {
-    let unit = numbers::unit_of(numbers);
-    let answer = blocks::play(unit, input, output);
-    let verdict = answer.verdict;
-    let after = answer.unit;
-    store(numbers, verdict, after)
+    let verdict = lent_blocks::play(numbers, input, output);
+    refusals::number(verdict)
 }
 
 // Gives a level order to the unit whose numbers are lent: they are then those of the unit after the order. 0 for an accepted order, else the
@@ -89,11 +82,8 @@ pub fn block(numbers: &mut [i32; numbers::UNIT_SIZE], input: &[u8], output: &mut
 pub fn order(numbers: &mut [i32; numbers::UNIT_SIZE], side: u32, band: u32, setting: Setting) -> u32
     ensures { λ r. ⌜ OrderGives (now (numbers .entry)) side band setting r (now (numbers .exit)) ⌝ }
 {
-    let unit = numbers::unit_of(numbers);
-    let answer = orders::order(unit, side, band, setting);
-    let verdict = answer.verdict;
-    let after = answer.unit;
-    store(numbers, verdict, after)
+    let verdict = lent_orders::order(numbers, side, band, setting);
+    refusals::number(verdict)
 }
 
 // Reads a strip sheet: the lent numbers are then those of the unit that it carries. 0 for an accepted sheet, else the number of its
@@ -103,18 +93,6 @@ pub fn sheet_read(numbers: &mut [i32; numbers::UNIT_SIZE], bytes: &[u8]) -> u32
 {
     let found = reading::read_numbers(bytes, numbers);
     refusals::number(found)
-}
-
-// Replaces the lent numbers by those of the unit after an accepted call, and answers the verdict's number.
-fn store(numbers: &mut [i32; numbers::UNIT_SIZE], verdict: Verdict, after: Unit) -> u32
-    requires { ⌜ (isAccepted verdict ≡ true → Fit after) ⌝ }
-    ensures { λ r. ⌜ (r ≡ numberOf verdict) × (now (numbers .exit) ≡ numbersAfter (now (numbers .entry)) verdict after) ⌝ }
-{
-    if !refusals::accepted(verdict) {
-        return refusals::number(verdict);
-    }
-    *numbers = numbers::numbers_of(after);
-    refusals::number(verdict)
 }
 
 // An answer as numbers.

@@ -19,7 +19,7 @@ const LEAST: i32 = -999_999_999;
 const MOST: i32 = 999_999_999;
 
 // Where the flag of an L or an R line stands behind its first field.
-const FLAG_AT: usize = fields::FIELD_SIZE * unit::FLAG;
+const FLAG_AT: usize = fields::FIELD_SIZE * numbers::FLAG;
 
 // Reads a line from place at on: a letter, so many fields of one range, a line feed.
 pub fn read_line(
@@ -119,7 +119,7 @@ fn read_state(
     if !refusals::accepted(second) {
         return second;
     }
-    read_fields(bytes, at + FLAG_AT, 1, 0, 1, numbers, place + unit::FLAG)
+    read_fields(bytes, at + FLAG_AT, 1, 0, 1, numbers, place + numbers::FLAG)
 }
 
 // Reads the field of an input from place at on.

@@ -8,10 +8,8 @@ use lib.IntN.{ℤ, pos}
 use lib.ListN.{length, getD, take, drop, take-append-drop, length-drop}
 use lib.Seq.{take-add, drop-cons, take-all, drop-drop}
 use Rattle.bands.specs.Bands.{bandCount, bandAt, setSize}
-use Rattle.unit.specs.Sizes.{channelSize}
 use Rattle.unit.specs.Lists.{tabulate}
-use Rattle.engine.specs.Numbers.{place, sectionAt, channelOf}
-use Rattle.numbers.specs.Layout.{unitSize, bandsPlace, leftPlace, rightPlace, joined, bandNumbers, sectionNumbers, channelNumbers, numbersOf, unitOf}
+use Rattle.numbers.specs.Layout.{channelSize, unitSize, bandsPlace, leftPlace, rightPlace, joined, bandNumbers, sectionNumbers, channelNumbers, numbersOf, place, sectionAt, channelOf, unitOf}
 use Rattle.numbers.proofs.Put.{joined-snoc}
 
 -- ---- some numbers from a place on
@@ -65,7 +63,7 @@ module _ (l : List ℤ) where
       more : 3 * n + 3 ≡ 3 * suc n
       more = omega arith
 
-  sections-numbers : (n : ℕ) → place n ≤ length l → joined sectionNumbers (tabulate n (sectionAt l)) ≡ take (4 * n) (drop 3 l)
+  pub sections-numbers : (n : ℕ) → place n ≤ length l → joined sectionNumbers (tabulate n (sectionAt l)) ≡ take (4 * n) (drop 3 l)
   sections-numbers zero h = refl
   sections-numbers (suc n) h =
       joined-snoc sectionNumbers (tabulate n (sectionAt l)) (sectionAt l n)

@@ -8,7 +8,7 @@ use lib.ListN.{length, getD, drop, length-append}
 use lib.Seq.{drop-at, drop-drop}
 use Rattle.bands.specs.Bands.{bandCount, bandAt, setSize}
 use Rattle.bands.specs.declared.Band.{Band}
-use Rattle.unit.specs.Sizes.{channelCount, channelSize}
+use Rattle.unit.specs.Sizes.{channelCount}
 use Rattle.unit.specs.declared.BandSection.{BandSection}
 use Rattle.unit.specs.declared.Channel.{Channel}
 use Rattle.unit.specs.declared.Unit.{Unit}
@@ -17,8 +17,7 @@ use Rattle.unit.specs.Cleared.{bandsOf, clearedBandSection}
 use Rattle.unit.specs.Shaped.{TenSections, Shaped}
 use Rattle.unit.proofs.Tabulate.{tabulate-cong, tabulate-all}
 use Rattle.unit.proofs.PastEnd.{zeroBand}
-use Rattle.engine.specs.Numbers.{place, sectionAt, channelOf}
-use Rattle.numbers.specs.Layout.{unitSize, joined, bandNumbers, sectionNumbers, channelNumbers, numbersOf, unitOf}
+use Rattle.numbers.specs.Layout.{channelSize, unitSize, joined, bandNumbers, sectionNumbers, channelNumbers, numbersOf, place, sectionAt, channelOf, unitOf}
 
 -- ---- how many numbers
 

@@ -1,19 +1,33 @@
 -- The unit as flat numbers, in the order of docs/SPECIFICATION.md, The strip sheet. Definitions only.
 -- "In order: V (volume, target); ten C (A, B, G); L (x1, x2, flag); ten S (y1, y2, gain, target); R as L; ten S."
 use mathlib.Core.Path.{_≡_}
+use mathlib.Core.Bool.{cond}
 use mathlib.Core.List.{List, [], _∷_, _++_}
-use Prim.Native.Nat.{ℕ, _+_, _≤_}
+use Prim.Native.Nat.{ℕ, _+_, _*_, _≤_}
 use lib.IntN.{ℤ, pos}
 use lib.ListN.{length, getD, take, drop}
-use Rattle.bands.specs.Bands.{setSize}
+use Rattle.refusals.specs.Numbers.{isAccepted}
+use Rattle.refusals.specs.declared.Verdict.{Verdict}
+use Rattle.bands.specs.Bands.{bandCount, setSize}
 use Rattle.bands.specs.declared.Band.{Band}
 use Rattle.levels.specs.declared.Level.{Level}
 use Rattle.unit.specs.declared.BandSection.{BandSection}
 use Rattle.unit.specs.declared.Channel.{Channel}
 use Rattle.unit.specs.declared.Unit.{Unit}
-use Rattle.unit.specs.Sizes.{channelSize}
+use Rattle.unit.specs.Lists.{tabulate}
 use Rattle.unit.specs.Cleared.{bandsOf}
-use Rattle.engine.specs.Numbers.{channelOf}
+
+-- "(x1, x2, flag)"
+abbrev pub headSize : ℕ
+headSize = 3
+
+-- "(y1, y2, gain, target)"
+abbrev pub sectionSize : ℕ
+sectionSize = 4
+
+-- how many numbers a channel has
+abbrev pub channelSize : ℕ
+channelSize = headSize + sectionSize * bandCount
 
 -- where the numbers of the bands, of the left channel and of the right channel begin, behind the volume and its target
 abbrev pub bandsPlace : ℕ
@@ -25,7 +39,7 @@ leftPlace = bandsPlace + setSize
 abbrev pub rightPlace : ℕ
 rightPlace = leftPlace + channelSize
 
--- how many they are
+-- how many numbers a unit has
 abbrev pub unitSize : ℕ
 unitSize = rightPlace + channelSize
 
@@ -55,8 +69,32 @@ channelNumbers c = c .x1 ∷ c .x2 ∷ c .flag ∷ joined sectionNumbers (c .sec
 unfoldable pub numbersOf : Unit → List ℤ
 numbersOf u = volumeNumbers (u .volume) ++ (joined bandNumbers (u .bands) ++ joined channelNumbers (u .channels))
 
--- ---- the unit that the numbers stand for
+-- ---- what the numbers stand for
 
+-- the place of section b's y1 among a channel's numbers; y2, gain and target follow
+abbrev pub place : ℕ → ℕ
+place b = sectionSize * b + headSize
+
+-- section b of a channel's numbers
+abbrev pub sectionAt : List ℤ → ℕ → BandSection
+sectionAt l b =
+    record {
+      y1 = getD l (place b) (pos 0);
+      y2 = getD l (place b + 1) (pos 0);
+      gain = record { present = getD l (place b + 2) (pos 0); target = getD l (place b + 3) (pos 0) };
+    }
+
+-- the channel that they stand for
+abbrev pub channelOf : List ℤ → Channel
+channelOf l =
+    record {
+      x1 = getD l 0 (pos 0);
+      x2 = getD l 1 (pos 0);
+      flag = getD l 2 (pos 0);
+      sections = tabulate bandCount (sectionAt l);
+    }
+
+-- the unit that 118 numbers stand for
 unfoldable pub unitOf : List ℤ → Unit
 unitOf l =
     record {
@@ -64,6 +102,12 @@ unitOf l =
       bands = bandsOf (drop bandsPlace l);
       channels = channelOf (drop leftPlace l) ∷ channelOf (drop rightPlace l) ∷ [];
     }
+
+-- ---- a call on lent numbers
+
+-- the numbers after it: refused, those lent
+abbrev pub numbersAfter : List ℤ → Verdict → Unit → List ℤ
+numbersAfter l verdict u = cond (isAccepted verdict) (numbersOf u) l
 
 -- ---- storing a unit's numbers from the front
 

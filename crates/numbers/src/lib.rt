@@ -5,16 +5,23 @@ ghost use Prim.Native.Nat.{_*_, _+_, _<_, _≤_};
 ghost use lib.IntN.{pos};
 ghost use lib.ListN.{length, getD, drop};
 ghost use Rattle.bands.specs.Bands.{bandSize, bandCount};
-ghost use Rattle.unit.specs.Sizes.{sectionSize, channelSize};
 ghost use Rattle.unit.specs.Lists.{Each};
 ghost use Rattle.unit.specs.Fit.{VolumeFit, SectionFit, ChannelFit, Fit};
-ghost use Rattle.engine.specs.Numbers.{sectionAt, channelOf};
-ghost use Rattle.numbers.specs.Layout.{unitSize, bandsPlace, leftPlace, rightPlace, joined, volumeNumbers, bandNumbers, sectionNumbers, channelNumbers, numbersOf, unitOf, PutGives};
+ghost use Rattle.numbers.specs.Layout.{sectionSize, channelSize, unitSize, bandsPlace, leftPlace, rightPlace, joined, volumeNumbers, bandNumbers, sectionNumbers, channelNumbers, numbersOf, sectionAt, channelOf, unitOf, PutGives};
 use bands::Band;
 use levels::Level;
 use unit::BandSection;
 use unit::Channel;
 use unit::Unit;
+
+// A channel as numbers: x1, x2 and the flag, then four of each section.
+pub const FLAG: usize = 2;
+
+pub const HEAD_SIZE: usize = FLAG + 1;
+
+pub const SECTION_SIZE: usize = 4;
+
+pub const CHANNEL_SIZE: usize = HEAD_SIZE + SECTION_SIZE * bands::BAND_COUNT;
 
 // Where the numbers of the bands, of the left channel and of the right channel begin: behind the volume and its target, and one after the
 // other.
@@ -22,10 +29,10 @@ pub const BANDS: usize = 2;
 
 pub const LEFT: usize = BANDS + bands::SET_SIZE;
 
-pub const RIGHT: usize = LEFT + unit::CHANNEL_SIZE;
+pub const RIGHT: usize = LEFT + CHANNEL_SIZE;
 
 // How many numbers a unit has.
-pub const UNIT_SIZE: usize = RIGHT + unit::CHANNEL_SIZE;
+pub const UNIT_SIZE: usize = RIGHT + CHANNEL_SIZE;
 
 // The unit that the numbers stand for.
 pub fn unit_of(numbers: &[i32; UNIT_SIZE]) -> Unit
@@ -52,7 +59,7 @@ fn channel_of(numbers: &[i32; UNIT_SIZE], start: usize) -> Channel
 {
     let x1 = number_at(numbers, start);
     let x2 = number_at(numbers, start + 1);
-    let flag = number_at(numbers, start + unit::FLAG);
+    let flag = number_at(numbers, start + FLAG);
     let sections = sections_of(numbers, start);
     Channel {
         x1,
@@ -91,7 +98,7 @@ fn section_at(numbers: &[i32; UNIT_SIZE], start: usize, b: usize) -> BandSection
     requires { ⌜ (start ≤ rightPlace) × (b < bandCount) ⌝ }
     ensures { λ r. ⌜ r ≡ sectionAt (drop start (now (numbers .entry))) b ⌝ }
 {
-    let at = start + unit::SECTION_SIZE * b + unit::HEAD_SIZE;
+    let at = start + SECTION_SIZE * b + HEAD_SIZE;
     let y1 = number_at(numbers, at);
     let y2 = number_at(numbers, at + 1);
     let present = number_at(numbers, at + 2);
@@ -182,8 +189,8 @@ fn put_channel(out: &mut [i32; UNIT_SIZE], start: usize, channel: Channel)
     let sections = channel.sections;
     out[start] = x1;
     out[start + 1] = x2;
-    out[start + unit::FLAG] = flag;
-    put_sections(out, start + unit::HEAD_SIZE, sections);
+    out[start + FLAG] = flag;
+    put_sections(out, start + HEAD_SIZE, sections);
 }
 
 // Stores ten sections from place start on.
@@ -198,7 +205,7 @@ fn put_sections(
     let mut b = 0;
     while b < bands::BAND_COUNT {
         let section = sections[b];
-        put_section(out, start + unit::SECTION_SIZE * b, section);
+        put_section(out, start + SECTION_SIZE * b, section);
         b += 1;
     }
 }

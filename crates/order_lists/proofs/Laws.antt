@@ -9,6 +9,7 @@ use lib.Seq.{drop-cons}
 use Rattle.refusals.specs.Numbers.{isAccepted}
 use Rattle.unit.specs.declared.Unit.{Unit}
 use Rattle.unit.specs.Fit.{Fit}
+use Rattle.unit.specs.Sizes.{channelCount}
 use Rattle.orders.proofs.Laws.{order-fit}
 use Rattle.order_lists.specs.declared.DeskOrder.{DeskOrder}
 use Rattle.order_lists.specs.Lists.{orderSize, areOrders, ordersIn, orderedOne, orderedAll}
@@ -58,7 +59,7 @@ all-fit u [] f = f
 all-fit u (order ∷ rest) f = go (isAccepted (orderedOne u order .verdict)) (all-fit (orderedOne u order .unit) rest one)
   where
     one : Fit (orderedOne u order .unit)
-    one = order-fit u (order .side) (order .band) (order .setting) f
+    one = order-fit channelCount u (order .side) (order .band) (order .setting) f
 
     go : (t : Bool) → Fit (orderedAll (orderedOne u order .unit) rest .unit) → Fit (cond t (orderedAll (orderedOne u order .unit) rest) (orderedOne u order) .unit)
     go true all = all

@@ -6,6 +6,7 @@ use lib.Dec.{eqb, leb, ltb}
 use Rattle.refusals.specs.Numbers.{isAccepted}
 use Rattle.refusals.specs.declared.Verdict.the-variants.{Accepted}
 use Rattle.unit.specs.declared.Unit.{Unit}
+use Rattle.unit.specs.Sizes.{channelCount}
 use Rattle.settings.specs.declared.Setting.{Setting}
 use Rattle.settings.specs.declared.Setting.the-variants.{Position, Mute}
 use Rattle.orders.specs.declared.Ordered.{Ordered}
@@ -51,7 +52,7 @@ ordersIn (side ∷ band ∷ level ∷ rest) = orderIn side band level ∷ orders
 
 -- one order to a unit
 abbrev pub orderedOne : Unit → DeskOrder → Ordered
-orderedOne u order = ordered u (order .side) (order .band) (order .setting)
+orderedOne u order = ordered channelCount u (order .side) (order .band) (order .setting)
 
 -- the orders in turn, up to the first that is refused
 abbrev pub orderedAll : Unit → List DeskOrder → Ordered

@@ -2,6 +2,7 @@
 ghost use mathlib.Core.Path.{_≡_};
 ghost use Prim.Native.Nat.{_+_, _≤_};
 ghost use lib.ListN.{length, getD};
+ghost use Rattle.unit.specs.Sizes.{channelCount};
 ghost use Rattle.orders.specs.Orders.{ordered};
 ghost use Rattle.order_lists.specs.Lists.{orderSize, isOrder, areOrders, byteOf, settingOf, ordersIn, orderedAll};
 use orders::Ordered;
@@ -75,7 +76,7 @@ pub fn order_all(unit: Unit, numbers: &[u32]) -> Ordered
 // Gives the order at this place of the list to the unit.
 fn order_at(unit: Unit, numbers: &[u32], at: usize) -> Ordered
     requires { ⌜ at + orderSize ≤ length (now numbers) ⌝ }
-    ensures { λ r. ⌜ r ≡ ordered unit (getD (now (numbers .entry)) at 0) (getD (now (numbers .entry)) (at + 1) 0) (settingOf (getD (now (numbers .entry)) (at + 2) 0)) ⌝ }
+    ensures { λ r. ⌜ r ≡ ordered channelCount unit (getD (now (numbers .entry)) at 0) (getD (now (numbers .entry)) (at + 1) 0) (settingOf (getD (now (numbers .entry)) (at + 2) 0)) ⌝ }
 {
     let setting = setting_of(numbers[at + 2]);
     orders::order(unit, numbers[at], numbers[at + 1], setting)

@@ -51,49 +51,49 @@ aimed-volume-fit target e u f =
     record { volume = record { present = f .volume .present; target = e }; bands = f .bands; channels = f .channels }
 
 -- an accepted order's targets are in their ranges
-aimed-fit : (u : Unit) (side band : ℕ) (setting : Setting) → isAccepted (orderArguments side band setting) ≡ true → Fit u → Fit (aimedUnit side band (targetOf band setting) u)
+aimed-fit : (channels : ℕ) (u : Unit) (side band : ℕ) (setting : Setting) → isAccepted (orderArguments channels side band setting) ≡ true → Fit u → Fit (aimedUnit side band (targetOf band setting) u)
 unfolding aimedUnit
-aimed-fit u side band setting e f = go (eqb band volumeBand) refl
+aimed-fit channels u side band setting e f = go (eqb band volumeBand) refl
   where
     go : (t : Bool) → eqb band volumeBand ≡ t → Fit (cond t (aimedVolume (targetOf band setting) u) (aimedBand side band (targetOf band setting) u))
-    go true b = aimed-volume-fit (targetOf band setting) (target-volume side band setting e (eqb-true band volumeBand b)) u f
-    go false b = aimed-band-fit band (targetOf band setting) (target-word side band setting e) side u f
+    go true b = aimed-volume-fit (targetOf band setting) (target-volume channels side band setting e (eqb-true band volumeBand b)) u f
+    go false b = aimed-band-fit band (targetOf band setting) (target-word channels side band setting e) side u f
 
 -- ---- the answer
 
-module _ (u : Unit) (side band : ℕ) (setting : Setting) where
+module _ (channels : ℕ) (u : Unit) (side band : ℕ) (setting : Setting) where
   -- an unfit unit
-  pub ordered-unfit : unitFits u ≡ false → ordered u side band setting ≡ record { verdict = Unfit; unit = u }
+  pub ordered-unfit : unitFits u ≡ false → ordered channels u side band setting ≡ record { verdict = Unfit; unit = u }
   unfolding ordered orderVerdict
   ordered-unfit e = simp e
 
   -- refused arguments
-  pub ordered-refused : unitFits u ≡ true → isAccepted (orderArguments side band setting) ≡ false → ordered u side band setting ≡ record { verdict = orderArguments side band setting; unit = u }
+  pub ordered-refused : unitFits u ≡ true → isAccepted (orderArguments channels side band setting) ≡ false → ordered channels u side band setting ≡ record { verdict = orderArguments channels side band setting; unit = u }
   unfolding ordered orderVerdict
   ordered-refused f e = simp (f, e)
 
   -- an accepted order
-  pub ordered-accepted : unitFits u ≡ true → isAccepted (orderArguments side band setting) ≡ true → ordered u side band setting ≡ record { verdict = orderArguments side band setting; unit = aimedUnit side band (targetOf band setting) u }
+  pub ordered-accepted : unitFits u ≡ true → isAccepted (orderArguments channels side band setting) ≡ true → ordered channels u side band setting ≡ record { verdict = orderArguments channels side band setting; unit = aimedUnit side band (targetOf band setting) u }
   unfolding ordered orderVerdict
   ordered-accepted f e = simp (f, e)
 
 -- in a fit unit only the arguments decide
-pub order-accepts : (u : Unit) (side band : ℕ) (setting : Setting) → Fit u → ordered u side band setting .verdict ≡ orderArguments side band setting
+pub order-accepts : (channels : ℕ) (u : Unit) (side band : ℕ) (setting : Setting) → Fit u → ordered channels u side band setting .verdict ≡ orderArguments channels side band setting
 unfolding ordered orderVerdict
-order-accepts u side band setting f = simp (test-of-fit u f)
+order-accepts channels u side band setting f = simp (test-of-fit u f)
 
 -- an accepted order is one on a fit unit
-pub accepted-fit : (u : Unit) (side band : ℕ) (setting : Setting) → isAccepted (ordered u side band setting .verdict) ≡ true → Fit u
+pub accepted-fit : (channels : ℕ) (u : Unit) (side band : ℕ) (setting : Setting) → isAccepted (ordered channels u side band setting .verdict) ≡ true → Fit u
 unfolding ordered orderVerdict
-accepted-fit u side band setting e = fit-of-test u (unless-accepted (unitFits u) Unfit (orderArguments side band setting) (λ t. refl) e .0)
+accepted-fit channels u side band setting e = fit-of-test u (unless-accepted (unitFits u) Unfit (orderArguments channels side band setting) (λ t. refl) e .0)
 
 -- an order keeps a fit unit fit
-pub order-fit : (u : Unit) (side band : ℕ) (setting : Setting) → Fit u → Fit (ordered u side band setting .unit)
+pub order-fit : (channels : ℕ) (u : Unit) (side band : ℕ) (setting : Setting) → Fit u → Fit (ordered channels u side band setting .unit)
 unfolding ordered orderVerdict
-order-fit u side band setting f = go (isAccepted (orderVerdict u side band setting)) refl
+order-fit channels u side band setting f = go (isAccepted (orderVerdict channels u side band setting)) refl
   where
-    go : (t : Bool) → isAccepted (orderVerdict u side band setting) ≡ t → Fit (cond t (aimedUnit side band (targetOf band setting) u) u)
-    go true e = aimed-fit u side band setting (unless-accepted (unitFits u) Unfit (orderArguments side band setting) (λ t. refl) e .1) f
+    go : (t : Bool) → isAccepted (orderVerdict channels u side band setting) ≡ t → Fit (cond t (aimedUnit side band (targetOf band setting) u) u)
+    go true e = aimed-fit channels u side band setting (unless-accepted (unitFits u) Unfit (orderArguments channels side band setting) (λ t. refl) e .1) f
     go false e = f
 
 -- ---- the shape
@@ -115,9 +115,9 @@ aimed-shaped channels side band target u s = go (eqb band volumeBand)
         }
 
 -- an order keeps the unit's shape
-pub order-shaped : (channels : ℕ) (u : Unit) (side band : ℕ) (setting : Setting) → Shaped channels u → Shaped channels (ordered u side band setting .unit)
+pub order-shaped : (channels : ℕ) (u : Unit) (side band : ℕ) (setting : Setting) → Shaped channels u → Shaped channels (ordered channels u side band setting .unit)
 unfolding ordered
-order-shaped channels u side band setting s = go (isAccepted (orderVerdict u side band setting))
+order-shaped channels u side band setting s = go (isAccepted (orderVerdict channels u side band setting))
   where
     go : (t : Bool) → Shaped channels (cond t (aimedUnit side band (targetOf band setting) u) u)
     go true = aimed-shaped channels side band (targetOf band setting) u s

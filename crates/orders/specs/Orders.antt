@@ -1,4 +1,4 @@
--- What a level order sets, and its answer. Definitions only, by docs/SPECIFICATION.md, Levels.
+-- What a level order sets, and its answer, for any number of channels. Definitions only, by docs/SPECIFICATION.md, Levels.
 use mathlib.Core.Bool.{cond}
 use Prim.Native.Nat.{ℕ}
 use lib.Dec.{eqb}
@@ -17,8 +17,8 @@ use Rattle.settings.specs.Settings.{volumeBand, names, targetOf, orderArguments
 use Rattle.orders.specs.declared.Ordered.{Ordered}
 
 -- "Orders and blocks test the unit ahead of all else: an unfit one is 14"
-unfoldable pub orderVerdict : Unit → ℕ → ℕ → Setting → Verdict
-orderVerdict u side band setting = unless (unitFits u) Unfit (orderArguments side band setting)
+unfoldable pub orderVerdict : ℕ → Unit → ℕ → ℕ → Setting → Verdict
+orderVerdict channels u side band setting = unless (unitFits u) Unfit (orderArguments channels side band setting)
 
 -- ---- what an order sets: nothing but the target of each level that it names
 
@@ -42,9 +42,9 @@ unfoldable pub aimedUnit : ℕ → ℕ → ℤ → Unit → Unit
 aimedUnit side band target u = cond (eqb band volumeBand) (aimedVolume target u) (aimedBand side band target u)
 
 -- the answer: accepted, the unit with the named targets set; refused, "the unit comes back unchanged"
-unfoldable pub ordered : Unit → ℕ → ℕ → Setting → Ordered
-ordered u side band setting =
+unfoldable pub ordered : ℕ → Unit → ℕ → ℕ → Setting → Ordered
+ordered channels u side band setting =
     record {
-      verdict = orderVerdict u side band setting;
-      unit = cond (isAccepted (orderVerdict u side band setting)) (aimedUnit side band (targetOf band setting) u) u;
+      verdict = orderVerdict channels u side band setting;
+      unit = cond (isAccepted (orderVerdict channels u side band setting)) (aimedUnit side band (targetOf band setting) u) u;
     }

@@ -1,12 +1,13 @@
 // Level orders: the desk sets the targets of gains and of the volume.
 ghost use mathlib.Core.Path.{_≡_};
-ghost use mathlib.Core.Bool.{true, cond};
+ghost use mathlib.Core.Bool.{true, cond, _||_};
 ghost use Prim.Native.Nat.{_<_};
 ghost use lib.Dec.{eqb};
 ghost use Rattle.bands.specs.Bands.{bandCount};
 ghost use Rattle.levels.specs.Levels.{aimed};
 ghost use Rattle.unit.specs.Lists.{changed};
-ghost use Rattle.settings.specs.Settings.{isPlace, names};
+ghost use Rattle.unit.specs.Sizes.{channelCount};
+ghost use Rattle.settings.specs.Settings.{bothSides, isPlace, names};
 ghost use Rattle.orders.specs.Orders.{aimedSection, aimedChannel, aimedUnit, ordered};
 use levels::Level;
 use refusals::Verdict;
@@ -23,7 +24,7 @@ pub struct Ordered {
 
 // Sets the targets that an order names, and nothing else: 14 for an unfit unit ahead of all, then 1 to 4. Refused, the unit is unchanged.
 pub fn order(unit: Unit, side: u32, band: u32, setting: Setting) -> Ordered
-    ensures { λ r. ⌜ r ≡ ordered unit side band setting ⌝ }
+    ensures { λ r. ⌜ r ≡ ordered channelCount unit side band setting ⌝ }
 {
     if !fitness::is_fit(unit) {
         return Ordered {
@@ -45,7 +46,7 @@ pub fn order(unit: Unit, side: u32, band: u32, setting: Setting) -> Ordered
 
 // The unit with the named targets set, and nothing else changed.
 fn aim_unit(unit: Unit, side: u32, band: u32, target: i64) -> Unit
-    requires { ⌜ isPlace side band ≡ true ⌝ }
+    requires { ⌜ isPlace channelCount side band ≡ true ⌝ }
     ensures { λ r. ⌜ r ≡ aimedUnit side band target unit ⌝ }
 {
     let volume = unit.volume;
@@ -84,15 +85,15 @@ fn aim_channels(
     [left, right]
 }
 
-// The channel at this place: the band's target set where the side names it, else as it is.
-fn aim_named(channel: Channel, place: u32, side: u32, band: usize, target: i64) -> Channel
+// The channel of this side: the band's target set where the order's side names it, else as it is.
+fn aim_named(channel: Channel, own: u32, side: u32, band: usize, target: i64) -> Channel
     requires { ⌜ band < bandCount ⌝ }
-    ensures { λ r. ⌜ r ≡ cond (names side place) (aimedChannel band target channel) channel ⌝ }
+    ensures { λ r. ⌜ r ≡ cond (eqb side bothSides || eqb side own) (aimedChannel band target channel) channel ⌝ }
 {
     if side == settings::BOTH_SIDES {
         return aim_channel(channel, band, target);
     }
-    if side == place {
+    if side == own {
         return aim_channel(channel, band, target);
     }
     channel

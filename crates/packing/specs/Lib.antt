@@ -1,2 +1,2 @@
--- What packing promises.
-pub mod Shape
+-- What packing asks and promises.
+pub mod Packing

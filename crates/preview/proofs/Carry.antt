@@ -11,7 +11,7 @@ use Rattle.refusals.specs.Numbers.{isAccepted}
 use Rattle.bands.specs.Bands.{bandOf}
 use Rattle.bands.specs.Words.{wordSize, isWord}
 use Rattle.bands.proofs.Laws.{Accepts, band-sizes, word-size}
-use Rattle.floats.specs.Whole.{isMinusZero}
+use Rattle.floats.specs.Whole.{float, isMinusZero}
 use Rattle.floats.proofs.Casts.{int-back}
 use Rattle.floats.proofs.Quotient.{whole-back}
 use Rattle.floats.proofs.WholeNumbers.{of-plus-zero}
@@ -22,7 +22,7 @@ use Rattle.section.specs.Step.{stepVerdict, acceptedStep, stepped}
 use Rattle.section.proofs.Laws.{remainder-size}
 use Rattle.section.proofs.Ready.{HoldsWords, accepted-advances, ready-accepts, ready-stays}
 use Rattle.preview.specs.declared.Preview.{Preview}
-use Rattle.preview.specs.Carried.{float, carried, carriedStep, sectionIn, PlusZero, StepAsks}
+use Rattle.preview.specs.Carried.{carried, carriedStep, sectionIn, PlusZero, StepAsks}
 use Rattle.preview.proofs.Sum.{below}
 
 -- each number of the section is at most 2^53 in size

@@ -12,12 +12,11 @@ use Rattle.integers.proofs.Machine.{product-sized}
 use Rattle.rounding.specs.Rounding.{nearest, taken, limit}
 use Rattle.rounding.proofs.Nearest.{nearest-size}
 use Rattle.bands.specs.Words.{wordLow, wordHigh}
-use Rattle.floats.specs.Whole.{NearestWholeAsks, wholeOf}
+use Rattle.floats.specs.Whole.{float, NearestWholeAsks, wholeOf}
 use Rattle.floats.proofs.WholeNumbers.{Whole, of-whole, sub-whole, mul-whole, lt-whole}
 use Rattle.floats.proofs.Quotient.{quotient-roundable, quotient-whole}
 use Rattle.section.specs.Equation.{sumShift}
 use Rattle.section.specs.Asks.{sumSize}
-use Rattle.preview.specs.Carried.{float}
 
 -- 2^22, S over it, and S less 2^22 times a number, as the code works them
 abbrev pub scale : Float

@@ -3,19 +3,15 @@ use mathlib.Core.Path.{_≡_}
 use mathlib.Core.Bool.{true, false}
 use Prim.Native.Nat.{_^_, _≤_}
 use lib.IntN.{ℤ, natAbs}
-use lib.Ieee.{Float, binary64, prec, ofInt}
+use lib.Ieee.{Float, binary64, prec}
 use Rattle.refusals.specs.Numbers.{isAccepted}
 use Rattle.bands.specs.Bands.{bandOf}
-use Rattle.floats.specs.Whole.{wholeOf, isMinusZero}
+use Rattle.floats.specs.Whole.{float, wholeOf, isMinusZero}
 use Rattle.section.specs.declared.Section.{Section}
 use Rattle.section.specs.declared.Stepped.{Stepped}
 use Rattle.section.specs.Step.{stepVerdict}
 use Rattle.preview.specs.declared.Preview.{Preview}
 use Rattle.preview.specs.declared.PreviewStep.{PreviewStep}
-
--- a whole number as an f64
-abbrev pub float : ℤ → Float
-float z = ofInt binary64 z
 
 -- the preview that carries a section: each of its numbers as an f64
 abbrev pub carried : Section → Preview

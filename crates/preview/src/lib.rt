@@ -9,10 +9,10 @@ ghost use lib.ListN.{length};
 ghost use Rattle.rounding.specs.Rounding.{limit};
 ghost use Rattle.refusals.specs.Numbers.{isAccepted};
 ghost use Rattle.bands.specs.Words.{wordLow, wordHigh};
-ghost use Rattle.floats.specs.Whole.{wholeOf};
+ghost use Rattle.floats.specs.Whole.{float, wholeOf};
 ghost use Rattle.section.specs.Step.{clearedSection, stepped};
 ghost use Rattle.preview.specs.Preview.{areWords, previewVerdict, previewed, buffersOf, sectionBuffers};
-ghost use Rattle.preview.specs.Carried.{float, carried, carriedStep, sectionIn, StepAsks, LimitWordAsks};
+ghost use Rattle.preview.specs.Carried.{carried, carriedStep, sectionIn, StepAsks, LimitWordAsks};
 use bands::Band;
 use refusals::Verdict;
 

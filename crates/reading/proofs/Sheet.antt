@@ -7,7 +7,7 @@ use lib.ListN.{length, drop, replicate, length-append}
 use lib.Seq.{drop-drop}
 use Rattle.refusals.specs.Numbers.{isAccepted}
 use Rattle.bands.specs.Bands.{bandCount, setSize}
-use Rattle.unit.specs.Sizes.{headSize, channelSize}
+use Rattle.numbers.specs.Layout.{headSize, channelSize}
 use Rattle.sheet.specs.declared.Line.{Line}
 use Rattle.sheet.specs.declared.Line.the-variants.{Volume, Band, Left, Section, Right}
 use Rattle.sheet.specs.Lines.{lines, channelRanges, letterOf, lineSize, sizeOf, channelBytes, bandsAt, leftAt, rightAt}

@@ -22,9 +22,13 @@ use Rattle.floats.specs.Value.{isFinite, inRange, isFactor, bandLowest, volumeL
 use Rattle.unit.specs.Fit.{isVolume}
 use Rattle.settings.specs.declared.Setting.{Setting}
 use Rattle.settings.specs.declared.Setting.the-variants.{Position, Factor, Mute}
-use Rattle.settings.specs.Settings.{bothSides, volumeBand, isPlace, bandPosition, volumePosition, targetOf, lowest, levelVerdict, orderArguments}
+use Rattle.settings.specs.Settings.{bothSides, volumeBand, isPlace, sideOf, bandPosition, volumePosition, targetOf, lowest, levelVerdict, orderArguments}
 
 -- ---- the place
+
+-- the first two channels are sides of their own number
+pub own-side : (channel : ℕ) → channel < bothSides → sideOf channel ≡ channel
+own-side channel h = simp (lt-ltb channel bothSides h)
 
 -- where the test of the bands alone is left, that of the volume alone, and none
 first-alone : (a b : Bool) → (a && true) || (b && false) ≡ a
@@ -44,24 +48,24 @@ none-alone true false = refl
 none-alone false true = refl
 none-alone false false = refl
 
-module _ (side band : ℕ) where
+module _ (channels side band : ℕ) where
   -- "a side (0 left, 1 right, 2 both), a band (0 to 9"
-  pub band-place : band < bandCount → isPlace side band ≡ leb side bothSides
+  pub band-place : band < bandCount → isPlace channels side band ≡ leb side channels
   unfolding isPlace
-  band-place h = simp (lt-ltb band bandCount h, ne-eqb band volumeBand (λ e. omega arith)) (first-alone (leb side bothSides) (eqb side bothSides))
+  band-place h = simp (lt-ltb band bandCount h, ne-eqb band volumeBand (λ e. omega arith)) (first-alone (leb side channels) (eqb side bothSides))
 
   -- "or 10 for the volume, with side 2 only)"
-  pub volume-place : band ≡ volumeBand → isPlace side band ≡ eqb side bothSides
+  pub volume-place : band ≡ volumeBand → isPlace channels side band ≡ eqb side bothSides
   unfolding isPlace
-  volume-place e = simp (le-ltb band bandCount (omega arith), eq-eqb band volumeBand e) (second-alone (leb side bothSides) (eqb side bothSides))
+  volume-place e = simp (le-ltb band bandCount (omega arith), eq-eqb band volumeBand e) (second-alone (leb side channels) (eqb side bothSides))
 
   -- there is nothing past the volume
-  pub no-place : volumeBand < band → isPlace side band ≡ false
+  pub no-place : volumeBand < band → isPlace channels side band ≡ false
   unfolding isPlace
-  no-place h = simp (le-ltb band bandCount (omega arith), ne-eqb band volumeBand (λ e. omega arith)) (none-alone (leb side bothSides) (eqb side bothSides))
+  no-place h = simp (le-ltb band bandCount (omega arith), ne-eqb band volumeBand (λ e. omega arith)) (none-alone (leb side channels) (eqb side bothSides))
 
   -- so a place that isn't the volume's is one of the ten bands
-  pub place-below : isPlace side band ≡ true → (band ≡ volumeBand → ⊥) → band < bandCount
+  pub place-below : isPlace channels side band ≡ true → (band ≡ volumeBand → ⊥) → band < bandCount
   place-below e n = go (ltb volumeBand band) refl
     where
       go : (t : Bool) → ltb volumeBand band ≡ t → band < bandCount
@@ -99,12 +103,12 @@ unfolding isVolume
 volume-word v e = bounds-within wordLow wordHigh v (omega (linear, within-bounds (pos 0) wordHigh v e .0)) (within-bounds (pos 0) wordHigh v e .1)
 
 -- what an accepted order has shown: its place, and its level
-pub place-accepted : (side band : ℕ) (setting : Setting) → isAccepted (orderArguments side band setting) ≡ true → isPlace side band ≡ true
-place-accepted side band setting e = unless-accepted (isPlace side band) NoPlace (levelVerdict band setting) (λ t. refl) e .0
+pub place-accepted : (channels side band : ℕ) (setting : Setting) → isAccepted (orderArguments channels side band setting) ≡ true → isPlace channels side band ≡ true
+place-accepted channels side band setting e = unless-accepted (isPlace channels side band) NoPlace (levelVerdict band setting) (λ t. refl) e .0
 
 -- and of the level
-pub level-accepted : (side band : ℕ) (setting : Setting) → isAccepted (orderArguments side band setting) ≡ true → isAccepted (levelVerdict band setting) ≡ true
-level-accepted side band setting e = unless-accepted (isPlace side band) NoPlace (levelVerdict band setting) (λ t. refl) e .1
+pub level-accepted : (channels side band : ℕ) (setting : Setting) → isAccepted (orderArguments channels side band setting) ≡ true → isAccepted (levelVerdict band setting) ≡ true
+level-accepted channels side band setting e = unless-accepted (isPlace channels side band) NoPlace (levelVerdict band setting) (λ t. refl) e .1
 
 -- what an accepted position and an accepted factor have shown
 position-accepted : (band p : ℕ) → isAccepted (levelVerdict band (Position p)) ≡ true → p ≤ 31
@@ -128,9 +132,9 @@ factor-fits band f e = go (eqb band volumeBand) (factor-accepted band f e)
     go false h = h
 
 -- "the volume V is 0 to 8,388,607": so is its target
-pub target-volume : (side band : ℕ) (setting : Setting) → isAccepted (orderArguments side band setting) ≡ true → band ≡ volumeBand → isVolume (targetOf band setting) ≡ true
+pub target-volume : (channels side band : ℕ) (setting : Setting) → isAccepted (orderArguments channels side band setting) ≡ true → band ≡ volumeBand → isVolume (targetOf band setting) ≡ true
 unfolding targetOf isVolume within
-target-volume side band setting e b = go setting (level-accepted side band setting e)
+target-volume channels side band setting e b = go setting (level-accepted channels side band setting e)
   where
     is-volume : eqb band volumeBand ≡ true
     is-volume = eq-eqb band volumeBand b
@@ -141,9 +145,9 @@ target-volume side band setting e b = go setting (level-accepted side band setti
     go Mute a = simp is-volume refl
 
 -- "Gains g are words": so are their targets
-pub target-word : (side band : ℕ) (setting : Setting) → isAccepted (orderArguments side band setting) ≡ true → isWord (targetOf band setting) ≡ true
+pub target-word : (channels side band : ℕ) (setting : Setting) → isAccepted (orderArguments channels side band setting) ≡ true → isWord (targetOf band setting) ≡ true
 unfolding targetOf within
-target-word side band setting e = go setting (level-accepted side band setting e)
+target-word channels side band setting e = go setting (level-accepted channels side band setting e)
   where
     either : (t : Bool) (v g : ℤ) → isWord v ≡ true → isWord g ≡ true → isWord (cond t v g) ≡ true
     either true v g hv hg = hv

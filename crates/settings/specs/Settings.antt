@@ -1,7 +1,7 @@
 -- "A level order names a side (0 left, 1 right, 2 both), a band (0 to 9, or 10 for the volume, with side 2 only) and a level." Which are refused,
 -- and the target that a level stands for. Definitions only, by docs/SPECIFICATION.md, Levels.
 use mathlib.Core.Bool.{Bool, cond, _&&_, _||_}
-use Prim.Native.Nat.{ℕ}
+use Prim.Native.Nat.{ℕ, suc}
 use lib.Dec.{eqb, leb, ltb}
 use lib.IntN.{ℤ, pos, _-ℤ_, _*ℤ_}
 use Rattle.refusals.specs.Numbers.{unless}
@@ -23,13 +23,17 @@ bothSides = 2
 abbrev pub volumeBand : ℕ
 volumeBand = bandCount
 
--- "a side (0 left, 1 right, 2 both), a band (0 to 9, or 10 for the volume, with side 2 only)"
-unfoldable pub isPlace : ℕ → ℕ → Bool
-isPlace side band = (leb side bothSides && ltb band bandCount) || (eqb side bothSides && eqb band volumeBand)
+-- "a side (0 left, 1 right, 2 both), a band (0 to 9, or 10 for the volume, with side 2 only)": a side for each channel, and 2 for all
+unfoldable pub isPlace : ℕ → ℕ → ℕ → Bool
+isPlace channels side band = (leb side channels && ltb band bandCount) || (eqb side bothSides && eqb band volumeBand)
+
+-- the side of one channel: "0 left, 1 right", and of any further channel the number behind its own, since 2 stands for all
+abbrev pub sideOf : ℕ → ℕ
+sideOf channel = cond (ltb channel bothSides) channel (suc channel)
 
 -- the side names this channel
 unfoldable pub names : ℕ → ℕ → Bool
-names side channel = eqb side bothSides || eqb side channel
+names side channel = eqb side bothSides || eqb side (sideOf channel)
 
 -- ---- the level that an order asks for
 
@@ -71,5 +75,5 @@ levelVerdict band (Factor f) = unless (isFinite f) NotFinite (unless (inRange (l
 levelVerdict band Mute = Accepted
 
 -- "1 no such side and band", then its level: what an order is refused for, whatever the unit
-abbrev pub orderArguments : ℕ → ℕ → Setting → Verdict
-orderArguments side band setting = unless (isPlace side band) NoPlace (levelVerdict band setting)
+abbrev pub orderArguments : ℕ → ℕ → ℕ → Setting → Verdict
+orderArguments channels side band setting = unless (isPlace channels side band) NoPlace (levelVerdict band setting)

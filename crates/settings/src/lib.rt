@@ -4,6 +4,7 @@ ghost use mathlib.Core.Bool.{true};
 ghost use lib.Dec.{leb};
 ghost use Rattle.refusals.specs.Numbers.{isAccepted, unless};
 ghost use Rattle.floats.specs.Value.{isFactor};
+ghost use Rattle.unit.specs.Sizes.{channelCount};
 ghost use Rattle.settings.specs.Settings.{isPlace, lastPosition, bandStep, targetOf, lowest, levelVerdict, orderArguments};
 use refusals::Verdict;
 
@@ -38,7 +39,7 @@ pub enum Setting {
 
 // Accepted, or the first refusal of the arguments: the place, then the level.
 pub fn check_order(side: u32, band: u32, setting: Setting) -> Verdict
-    ensures { λ r. ⌜ r ≡ orderArguments side band setting ⌝ }
+    ensures { λ r. ⌜ r ≡ orderArguments channelCount side band setting ⌝ }
 {
     if !is_place(side, band) {
         return Verdict::NoPlace;
@@ -48,7 +49,7 @@ pub fn check_order(side: u32, band: u32, setting: Setting) -> Verdict
 
 // Whether there is such a side and band: one of ten bands on side 0, 1 or 2, or the volume on side 2.
 fn is_place(side: u32, band: u32) -> bool
-    ensures { λ r. ⌜ r ≡ isPlace side band ⌝ }
+    ensures { λ r. ⌜ r ≡ isPlace channelCount side band ⌝ }
 {
     if band < VOLUME_BAND {
         return side <= BOTH_SIDES;

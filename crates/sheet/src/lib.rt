@@ -5,9 +5,9 @@ pub const VOLUME_FIELDS: usize = 2;
 
 pub const BAND_FIELDS: usize = bands::BAND_SIZE;
 
-pub const CHANNEL_FIELDS: usize = unit::HEAD_SIZE;
+pub const CHANNEL_FIELDS: usize = numbers::HEAD_SIZE;
 
-pub const SECTION_FIELDS: usize = unit::SECTION_SIZE;
+pub const SECTION_FIELDS: usize = numbers::SECTION_SIZE;
 
 // The bytes of these lines: a letter, fields, a line feed.
 pub const VOLUME_LINE: usize = fields::FIELD_SIZE * VOLUME_FIELDS + 2;

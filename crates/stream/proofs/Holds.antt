@@ -12,7 +12,7 @@ use Rattle.refusals.specs.Numbers.{isAccepted}
 use Rattle.unit.specs.declared.Unit.{Unit}
 use Rattle.unit.specs.Fit.{Fit}
 use Rattle.frames.specs.Bytes.{frameCount}
-use Rattle.frames.specs.Played.{played, sound}
+use Rattle.frames.specs.Played.{playedOn, soundOn, sound}
 use Rattle.frames.proofs.Many.{sound-length, played-channels}
 use Rattle.blocks.specs.Block.{blockPlayed, blockOutput}
 use Rattle.blocks.proofs.Block.{BlockAccepts, accepts-block, four-a-frame}
@@ -54,7 +54,7 @@ from-block u a (b ∷ reads) fit =
 
 -- nothing read is an empty block
 pub begun-empty : (u : Unit) → Fit u → begun u ≡ oneBlock u []
-unfolding oneBlock played sound
+unfolding oneBlock playedOn soundOn
 begun-empty u fit =
     λ i. record { unit = sym (accepted-unit 2 u [] 0 empty) i; held = []; sound = sym (accepted-output 2 u [] [] empty) i }
   where

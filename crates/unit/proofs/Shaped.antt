@@ -22,7 +22,7 @@ cleared-shaped channels bands h =
     record { bands = h; channels = length-replicate channels clearedChannel; sections = each-replicate TenSections channels clearedChannel refl }
 
 -- a frame leaves a section for each band
-frame-sections : (bands : List Band) (x x2 : ℤ) (ss : List BandSection) → length ss ≡ length bands → length (sectionsFrame bands x x2 ss) ≡ length bands
+pub frame-sections : (bands : List Band) (x x2 : ℤ) (ss : List BandSection) → length ss ≡ length bands → length (sectionsFrame bands x x2 ss) ≡ length bands
 frame-sections [] x x2 ss h = refl
 frame-sections (band ∷ bands) x x2 [] h = absurd (omega arith)
 frame-sections (band ∷ bands) x x2 (s ∷ ss) h = ap suc (frame-sections bands x x2 ss (omega arith))

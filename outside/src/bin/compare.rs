@@ -8,6 +8,7 @@ use outside::checks::report::report;
 use outside::checks::{Difference, Tally};
 use outside::exact_sound::judge::Distances;
 use outside::faults::{Wrong, RIGHT, WRONG};
+use outside::flushed::{self, CARRIED, FLUSHED};
 use outside::lent;
 use outside::subject::{Form, FAST, LIBRARY};
 
@@ -31,8 +32,25 @@ fn everything() -> Result<(), Difference> {
         return Err("the library wrote outside what was lent to it".to_string());
     }
     println!("  numbers and bytes before and behind the lent ones kept");
+    with_subnormals_flushed()?;
     println!("Wrong implementations, each to be found by the groups named:");
     every_wrong_one()
+}
+
+/// The library called with flush-to-zero and denormals-are-zero, and an implementation that is wrong only then.
+fn with_subnormals_flushed() -> Result<(), Difference> {
+    if !flushed::AVAILABLE {
+        println!("Flush-to-zero and denormals-are-zero are set on x86-64 only: this is left out here.");
+        return Ok(());
+    }
+    println!("The library with flush-to-zero and denormals-are-zero against the exact Rust form:");
+    if !flushed::is_zero_within() {
+        return Err("subnormal numbers are not flushed".to_string());
+    }
+    let total = each_group(flushed::GROUPS, &FLUSHED)?;
+    println!("  in all {} answers", total.answers);
+    flushed::GROUPS.iter().try_for_each(|group| run(group, &CARRIED).map(|_| ()))?;
+    find(&flushed::WRONG)
 }
 
 /// Runs a group against one subject. A difference is told with its name.
@@ -40,14 +58,20 @@ fn run(group: &Group, subject: &Form) -> Result<Tally, Difference> {
     group.run(subject).map_err(|difference| format!("{}: {difference}", group.name))
 }
 
-/// Runs all groups and these more against one subject and prints a line for each.
-fn every_group(subject: &Form, more: &[Group]) -> Result<(), Difference> {
+/// Runs groups against one subject and prints a line for each.
+fn each_group<'a>(groups: impl IntoIterator<Item = &'a Group>, subject: &Form) -> Result<Tally, Difference> {
     let mut total = Tally::default();
-    for group in GROUPS.iter().chain(more) {
+    for group in groups {
         let tally = run(group, subject)?;
         println!("  {} ({}): {} answers agree{}", group.name, group.what, tally.answers, sound_of(&tally));
         total.add(&tally);
     }
+    Ok(total)
+}
+
+/// Runs all groups and these more against one subject, which must reach everything.
+fn every_group(subject: &Form, more: &[Group]) -> Result<(), Difference> {
+    let total = each_group(GROUPS.iter().chain(more), subject)?;
     println!("  in all {} answers, among them", total.answers);
     for (what, count) in total.reached() {
         println!("    {count} {what}");

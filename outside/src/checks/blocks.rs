@@ -2,12 +2,13 @@
 //! blocks of wrong lengths: "5 input bytes no multiple of four; 6 output shorter than input. Unit and output
 //! unchanged."
 
+use super::bands::slow_accepted;
 use super::run::{marks, Checked, Run};
 use super::sounds::{Sound, SOUNDS};
 use super::units::{half_unit, random_fit, strips};
 use crate::random::Random;
 use crate::reference::{ACCEPTED, WORD_MAX, WORD_MIN};
-use crate::unit::{cleared, house_unit, Numbers, OUTPUT_TOO_SHORT, PART_OF_A_FRAME};
+use crate::unit::{cleared, house_unit, Numbers, BANDS, LEFT, OUTPUT_TOO_SHORT, PART_OF_A_FRAME};
 
 /// One block with a few bytes of room behind it.
 fn block(run: &mut Run, numbers: &mut Numbers, sound: Sound, frames: usize) -> Checked {
@@ -88,15 +89,41 @@ pub fn frames(run: &mut Run) -> Checked {
     Ok(())
 }
 
-/// Every size from 0 to 64 frames, with 0 to 7 bytes of room behind.
-fn sizes(run: &mut Run, start: &Numbers) -> Checked {
-    for frames in 0..=64 {
-        let input = Sound::Noise.block(frames, &mut run.random);
-        for behind in 0..8 {
+/// The sizes of blocks: every one to 200 frames, and the neighbours of multiples of 64, the frames of a pass.
+fn every_size() -> impl Iterator<Item = usize> {
+    let beside = |multiple: usize| multiple - 1..=multiple + 1;
+    (0..=200).chain([256, 320, 512, 1_024, 2_048, 4_096].into_iter().flat_map(beside))
+}
+
+/// Every size of this sound, with 0 to 7 bytes of room behind.
+fn sizes(run: &mut Run, start: &Numbers, sound: Sound) -> Checked {
+    for frames in every_size() {
+        let input = sound.block(frames, &mut run.random);
+        let behind = if frames <= 64 { 0..8 } else { frames % 8..frames % 8 + 1 };
+        for behind in behind {
             run.block(&mut start.clone(), &input, input.len() + behind)?;
         }
     }
     Ok(())
+}
+
+/// Every size on units whose sections limit, whose levels all move to the far ends of their ranges, and that ring on in
+/// silence.
+fn sizes_of_every_kind(run: &mut Run, start: &Numbers) -> Checked {
+    let extreme = run.sets.draw(2, &mut run.random);
+    let mut limiting = *start;
+    limiting[BANDS..LEFT].copy_from_slice(&extreme);
+    sizes(run, &limiting, Sound::Ends)?;
+    let mut moving = *start;
+    moving[..2].copy_from_slice(&[WORD_MAX, 0]);
+    strips(&mut moving).for_each(|strip| strip[2..].copy_from_slice(&[WORD_MIN, WORD_MAX]));
+    sizes(run, &moving, Sound::Noise)?;
+    let mut ringing = *start;
+    ringing[..2].fill(WORD_MAX);
+    for band in ringing[BANDS..LEFT].chunks_exact_mut(3) {
+        band.copy_from_slice(&slow_accepted(&mut run.random));
+    }
+    sizes(run, &ringing, Sound::Silence)
 }
 
 /// One sound whole, and cut where `next` says. Sound and unit must be alike.
@@ -117,9 +144,9 @@ fn cut(run: &mut Run, start: &Numbers, sound: &[u8], next: impl Fn(&mut Random) 
 pub fn sizes_and_cuts(run: &mut Run) -> Checked {
     for turn in 0..20 {
         let start = run.fit_unit(turn);
-        sizes(run, &start)?;
+        sizes_of_every_kind(run, &start)?;
         let sound = Sound::Noise.block(3_000, &mut run.random);
-        for size in [1, 2, 3, 64, 441, 2_999, 3_000] {
+        for size in [1, 2, 3, 63, 64, 65, 128, 441, 2_999, 3_000] {
             cut(run, &start, &sound, |_| size)?;
         }
         // Empty blocks between the others too.

@@ -64,7 +64,7 @@ groups! { GROUPS:
     FRAMES: blocks::frames, 0xF0DD_0015, "frames",
         "single frames on random units";
     CUTS: blocks::sizes_and_cuts, 0xF0DD_0016, "cuts",
-        "blocks of 0 to 64 frames, and one sound cut in several ways";
+        "blocks of 0 to 200 frames and about multiples of 64 to 4,096, limiting, moving and ringing; cuts of one sound";
     REFUSED_BLOCKS: blocks::lengths, 0xF0DD_0017, "refused blocks",
         "input and output of every small length and of larger ones";
     UNIT_FIGURES: figures::of_units, 0, "unit figures",

@@ -2,13 +2,13 @@
 //! group named beside it; a comparison that passes one of them is itself wrong.
 
 mod sheets;
-mod sound;
+pub mod sound;
 mod waves;
 
 use self::sheets::{exchanged, flag_2, four_blanks_for_eight, last_line_unread, letters_first};
 use self::sound::{
-    block_with, frames_with, halves_up, levels, mix, nine_first, order_with, output, output_unlimited, past_target,
-    preview_with, raise_flags, step_leaving, step_with, worked_again, wrapped,
+    block_with, frames_with, halves_up, levels, mix, nine_first, order_with, output, output_unlimited, passes_and,
+    past_target, preview_with, raise_flags, step_leaving, step_with, worked_again, wrapped, PASS,
 };
 use self::waves::{number, read_by, write_riff, write_with, Rules, RULES};
 use crate::checks::groups::*;
@@ -152,6 +152,15 @@ wrong! {
         block = |unit, input, output| block_with(unit, input, output, |_, sound| {
             sound[sound.len() - 2] ^= 1;
         });
+    "the frames behind the last whole 64 left out" [BLOCKS FRAMES CUTS UNIT_FIGURES LISTS_OF_CALLS DISTANCE]
+        block = |unit, input, output| passes_and(unit, input, output, |_, _, _| ());
+    "a single frame behind whole 64s played twice" [CUTS]
+        block = |unit, input, output| {
+            let twice = input.len() > PASS && input.len() % PASS == 4;
+            passes_and(unit, input, output, |unit, rest, sound| {
+                (0..1 + u8::from(twice)).for_each(|_| _ = block(unit, rest, sound));
+            })
+        };
     "bytes behind the block cleared" [BLOCKS FRAMES CUTS REFUSED_BLOCKS]
         block = |unit, input, output| {
             let behind = input.len().min(output.len());

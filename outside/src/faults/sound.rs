@@ -101,6 +101,26 @@ pub fn frames_with(
     refusal
 }
 
+/// The bytes of a pass of 64 frames.
+pub const PASS: usize = 4 * 64;
+
+/// A block played as whole passes, and the frames behind the last of them by this function.
+pub fn passes_and(
+    unit: &mut Numbers,
+    input: &[u8],
+    output: &mut [u8],
+    rest: impl FnOnce(&mut Numbers, &[u8], &mut [u8]),
+) -> u32 {
+    let refusal = block_refusal(fit(unit), input.len(), output.len());
+    if refusal == ACCEPTED {
+        let (passes, behind) = input.split_at(input.len() / PASS * PASS);
+        let (sound, room) = output.split_at_mut(passes.len());
+        block(unit, passes, sound);
+        rest(unit, behind, &mut room[..behind.len()]);
+    }
+    refusal
+}
+
 /// Replaces the sound of a frame by these samples of the left and the right.
 pub fn worked_again(frame: &mut [u8], sample: impl Fn(usize) -> i16) {
     for (bytes, side) in frame.chunks_exact_mut(2).zip([LEFT, RIGHT]) {

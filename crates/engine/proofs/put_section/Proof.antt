@@ -1,31 +1,29 @@
--- `engine::put_section` meets its contract: four stores, one behind the other.
+-- `engine::put_section` meets its contract: four stores.
+use mathlib.Core.Path.{refl}
 use Prim.Native.Nat.{_+_}
 use native.Mathlib.Omega.{arith}
-use lib.ListN.{set}
+use lib.ListN.{set, length-set}
 use denote.Ref.{now}
-use mir.Syntax.{w64}
-use Rattle.integers.proofs.Machine.{reads-back}
-use Rattle.engine.specs.Numbers.{place, putSection}
 use borrow.Author.Needs.{needs}
+use Rattle.engine.specs.Layout.{putSection}
 use Rattle.engine.proofs.put_section.Statement.{statement}
 use Rattle.engine.proofs.put_section.Tie as tie
-use Rattle.engine.proofs.put_section.Reads as reads
-use Rattle.engine.proofs.put_section.Lts as lts
 
-abbrev start : lts.After-struct-told4 reads.Pre reads.Post → lts.Start reads.Pre reads.Post
-start c = c .before .before .before .before
+slice-write-pair-2 : tie.Need-slice-write-pair-2
+slice-write-pair-2 c = omega (arith, c .pre, length-set (now (c .args .pair)) (c .args .at) (c .args .section .y1))
+
+slice-write-pair-3 : tie.Need-slice-write-pair-3
+slice-write-pair-3 c =
+    omega (
+      arith,
+      c .pre,
+      length-set (now (c .args .pair)) (c .args .at) (c .args .section .y1),
+      length-set (set (now (c .args .pair)) (c .args .at) (c .args .section .y1)) (c .args .at + 2) (c .args .section .y2),
+    )
 
 returns : tie.Need-returns
 unfolding putSection
-returns c =
-    λ i.
-    set
-    (set
-    (set
-    (set (now (start c .args .channel)) (place (start c .args .b)) (reads-back w64 (start c .args .section .y1) (omega arith) i))
-    (place (start c .args .b) + 1) (reads-back w64 (start c .args .section .y2) (omega arith) i))
-    (place (start c .args .b) + 2) (reads-back w64 (start c .args .section .gain .present) (omega arith) i))
-    (place (start c .args .b) + 3) (reads-back w64 (start c .args .section .gain .target) (omega arith) i)
+returns c = refl
 
 pub put-section-spec : {M : Type 1} → statement M
 put-section-spec =
@@ -35,11 +33,10 @@ put-section-spec =
     (λ c. search needs)
     (λ c. search needs)
     (λ c. search needs)
+    slice-write-pair-2
     (λ c. search needs)
     (λ c. search needs)
-    (λ c. search needs)
-    (λ c. search needs)
-    (λ c. search needs)
+    slice-write-pair-3
     (λ c. search needs)
     (λ c. search needs)
     (λ c. search needs)

@@ -1,24 +1,18 @@
 -- `numbers::put_channel` meets its contract: three stores, and then the sections.
 use mathlib.Core.Path.{_≡_, subst}
-use mathlib.Core.Bool.{true}
 use mathlib.Core.List.{List, [], _∷_}
 use Prim.Native.Nat.{ℕ, _+_, _≤_, _*_}
 use native.Mathlib.Omega.{arith}
-use lib.IntN.{ℤ, pos, natAbs}
+use lib.IntN.{ℤ, natAbs}
 use lib.ListN.{set}
 use denote.Ref.{now}
 use mir.Syntax.{w32, w64}
 use mir.Val.{toZ, ofZ}
-use Rattle.integers.proofs.Parts.{linear}
-use Rattle.integers.proofs.Abs.{abs-le}
-use Rattle.rounding.proofs.Limit.{within-bounds}
 use Rattle.bands.specs.Bands.{bandCount}
 use Rattle.bands.proofs.Laws.{narrow-need, narrow-reads}
 use Rattle.bands.specs.Words.{wordSize}
-use Rattle.unit.specs.Sizes.{headSize, sectionSize, channelSize}
-use Rattle.unit.specs.Fit.{isFlag}
-use Rattle.unit.proofs.Ranges.{input-size}
-use Rattle.numbers.specs.Layout.{channelNumbers, PutGives}
+use Rattle.unit.proofs.Ranges.{input-size, flag-size}
+use Rattle.numbers.specs.Layout.{headSize, sectionSize, channelSize, channelNumbers, PutGives}
 use Rattle.numbers.proofs.Put.{put-three, put-then}
 use borrow.Author.Needs.{needs}
 use Rattle.numbers.proofs.put_channel.Statement.{statement}
@@ -28,11 +22,6 @@ use Rattle.numbers.proofs.put_channel.Lts as lts
 use Rattle.numbers.proofs.put_sections.Reads as put-sections-reads
 
 -- ---- the channel's own numbers are no larger than a word
-
-flag-size : (v : ℤ) → isFlag v ≡ true → natAbs v ≤ wordSize
-unfolding isFlag
-flag-size v e =
-    abs-le v wordSize (omega (linear, within-bounds (pos 0) (pos 1) v e .0)) (omega (linear, within-bounds (pos 0) (pos 1) v e .1))
 
 module _ (s : lts.Start (put-sections-reads.Asked, put-sections-reads.Learnt) reads.Pre reads.Post) where
   x1-size : natAbs (s .args .channel .x1) ≤ wordSize

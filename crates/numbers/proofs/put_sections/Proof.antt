@@ -6,12 +6,11 @@ use denote.Ref.{now}
 use mathlib.Core.Path.{_≡_, subst}
 use mathlib.Core.List.{[]}
 use Rattle.bands.specs.Bands.{bandCount}
-use Rattle.unit.specs.Sizes.{sectionSize}
 use Rattle.unit.specs.Fit.{SectionFit}
 use borrow.Author.Needs.{needs}
 use Rattle.unit.specs.Cleared.{clearedBandSection}
 use Rattle.unit.proofs.Tabulate.{each-getD}
-use Rattle.numbers.specs.Layout.{joined, sectionNumbers, PutGives}
+use Rattle.numbers.specs.Layout.{sectionSize, joined, sectionNumbers, PutGives}
 use Rattle.numbers.proofs.Put.{put-none, put-entry, put-entries}
 use Rattle.numbers.proofs.put_sections.Statement.{statement}
 use Rattle.numbers.proofs.put_sections.Tie as tie

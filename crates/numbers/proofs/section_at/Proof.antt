@@ -7,7 +7,7 @@ use lib.IntN.{ℤ}
 use denote.Ref.{now}
 use mir.Syntax.{w64}
 use mir.Facts.{toZ-ofZ}
-use Rattle.engine.specs.Numbers.{place}
+use Rattle.numbers.specs.Layout.{place}
 use Rattle.numbers.proofs.Put.{behind}
 use borrow.Author.Needs.{needs}
 use Rattle.numbers.proofs.section_at.Statement.{statement}

@@ -6,7 +6,7 @@ use native.Mathlib.Omega.{arith}
 use borrow.Author.Needs.{needs}
 use Rattle.bands.specs.Bands.{bandCount}
 use Rattle.unit.proofs.Lists.{Tabulated, tabulated-begin, tabulated-next, tabulated-done}
-use Rattle.engine.specs.Numbers.{sectionAt}
+use Rattle.numbers.specs.Layout.{sectionAt}
 use Rattle.numbers.proofs.sections_of.Statement.{statement}
 use Rattle.numbers.proofs.sections_of.Tie as tie
 

@@ -4,6 +4,7 @@ use Prim.Native.Nat.{_+_}
 use lib.ListN.{getD}
 use denote.Ref.{now}
 use borrow.Author.Needs.{needs}
+use Rattle.unit.specs.Sizes.{channelCount}
 use Rattle.settings.specs.declared.Setting.{Setting}
 use Rattle.orders.specs.Orders.{ordered}
 use Rattle.order_lists.proofs.order_at.Statement.{statement}
@@ -13,7 +14,7 @@ returns : tie.Need-returns
 returns c =
     let s = c .before .before .before .before .before .before in
     let l = now (s .args .numbers) in
-    c .order .ensures ∙ ap (λ (setting : Setting). ordered (s .args .unit) (getD l (s .args .at) 0) (getD l (s .args .at + 1) 0) setting) (c .before .before .before .setting-of .ensures)
+    c .order .ensures ∙ ap (λ (setting : Setting). ordered channelCount (s .args .unit) (getD l (s .args .at) 0) (getD l (s .args .at + 1) 0) setting) (c .before .before .before .setting-of .ensures)
 
 pub order-at-spec : {M : Type 1} → statement M
 order-at-spec =

@@ -19,6 +19,7 @@ use Rattle.orders.proofs.aim_channels.Lts as lts
 use Rattle.orders.proofs.aim_named.Reads as aim-named-reads
 
 returns : tie.Need-returns
+unfolding names
 returns c =
     (λ i. c .before .aim-named .ensures i ∷ c .aim-named2 .ensures i ∷ [])
     ∙ ap (changed (names (s .args .side)) (aimedChannel (s .args .band) (toZ w64 (ofZ w64 (s .args .target))))) (tabulate-all (s .args .t1) zeroChannel 2 (omega arith))

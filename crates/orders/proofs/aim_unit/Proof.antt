@@ -28,7 +28,7 @@ returns c =
     s = c .before .before .before .before .before
 
 aim-channels-requires : tie.Need-aim-channels-requires
-aim-channels-requires c κs = place-below _ _ (c .before .before .before .before .pre) (c .if1 .left)
+aim-channels-requires c κs = place-below _ _ _ (c .before .before .before .before .pre) (c .if1 .left)
 
 returns-2 : tie.Need-returns-2
 unfolding aimedUnit

@@ -8,6 +8,7 @@ use borrow.Author.Tests.{not-true, not-false}
 use Rattle.refusals.specs.Numbers.{isAccepted}
 use Rattle.refusals.specs.declared.Verdict.{Verdict}
 use Rattle.unit.specs.Fit.{unitFits}
+use Rattle.unit.specs.Sizes.{channelCount}
 use Rattle.settings.specs.Settings.{orderArguments, targetOf}
 use Rattle.settings.proofs.Laws.{place-accepted, level-accepted}
 use Rattle.orders.specs.Orders.{aimedUnit}
@@ -29,7 +30,7 @@ module _ (c : lts.After-accepted (is-fit-reads.Asked, is-fit-reads.Learnt, check
   s = c .before .before .before .before
 
   abbrev verdict : Verdict
-  verdict = orderArguments (s .args .side) (s .args .band) (s .args .setting)
+  verdict = orderArguments channelCount (s .args .side) (s .args .band) (s .args .setting)
 
   fits : unitFits (s .args .unit) ≡ true
   fits = sym (c .before .before .before .is-fit .ensures) ∙ not-false _ (c .before .before .if1 .left)
@@ -43,31 +44,31 @@ arguments-right c = sym (arguments-test (c .before)) ∙ not-false _ (c .if2 .le
 returns : tie.Need-returns
 returns c =
     sym
-    (ordered-unfit (c .before .before .args .unit) (c .before .before .args .side) (c .before .before .args .band) (c .before .before .args .setting)
+    (ordered-unfit channelCount (c .before .before .args .unit) (c .before .before .args .side) (c .before .before .args .band) (c .before .before .args .setting)
     (sym (c .before .is-fit .ensures) ∙ not-true _ (c .if1 .taken)))
 
 returns-2 : tie.Need-returns-2
 returns-2 c =
     (λ i. record { verdict = c .before .before .check-order .ensures i; unit = t .args .unit })
     ∙ sym
-    (ordered-refused (t .args .unit) (t .args .side) (t .args .band) (t .args .setting) (fits (c .before))
+    (ordered-refused channelCount (t .args .unit) (t .args .side) (t .args .band) (t .args .setting) (fits (c .before))
     (sym (arguments-test (c .before)) ∙ not-true _ (c .if2 .taken)))
   where
     t : lts.Start (is-fit-reads.Asked, is-fit-reads.Learnt, check-order-reads.Asked, check-order-reads.Learnt, accepted-reads.Asked, accepted-reads.Learnt, target-of-reads.Asked, target-of-reads.Learnt, aim-unit-reads.Asked, aim-unit-reads.Learnt) reads.Pre reads.Post
     t = s (c .before)
 
 target-of-requires : tie.Need-target-of-requires
-target-of-requires c κs = level-accepted (s (c .before) .args .side) (s (c .before) .args .band) (s (c .before) .args .setting) (arguments-right c)
+target-of-requires c κs = level-accepted channelCount (s (c .before) .args .side) (s (c .before) .args .band) (s (c .before) .args .setting) (arguments-right c)
 
 aim-unit-requires : tie.Need-aim-unit-requires
 aim-unit-requires c κs =
-    place-accepted (s (c .before .before) .args .side) (s (c .before .before) .args .band) (s (c .before .before) .args .setting) (arguments-right (c .before))
+    place-accepted channelCount (s (c .before .before) .args .side) (s (c .before .before) .args .band) (s (c .before .before) .args .setting) (arguments-right (c .before))
 
 returns-3 : tie.Need-returns-3
 returns-3 c =
     (λ i. record { verdict = c .before .before .before .before .check-order .ensures i; unit = unit-is i })
     ∙ sym
-    (ordered-accepted (t .args .unit) (t .args .side) (t .args .band) (t .args .setting) (fits (c .before .before .before)) (arguments-right (c .before .before)))
+    (ordered-accepted channelCount (t .args .unit) (t .args .side) (t .args .band) (t .args .setting) (fits (c .before .before .before)) (arguments-right (c .before .before)))
   where
     t : lts.Start (is-fit-reads.Asked, is-fit-reads.Learnt, check-order-reads.Asked, check-order-reads.Learnt, accepted-reads.Asked, accepted-reads.Learnt, target-of-reads.Asked, target-of-reads.Learnt, aim-unit-reads.Asked, aim-unit-reads.Learnt) reads.Pre reads.Post
     t = s (c .before .before .before)

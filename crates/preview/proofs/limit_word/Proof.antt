@@ -5,8 +5,7 @@ use lib.IntN.{ℤ}
 use lib.Ieee.{Float, ofBits, ofInt, lt}
 use Rattle.rounding.specs.Rounding.{limit}
 use Rattle.bands.specs.Words.{wordLow, wordHigh}
-use Rattle.floats.specs.Whole.{wholeOf}
-use Rattle.preview.specs.Carried.{float}
+use Rattle.floats.specs.Whole.{float, wholeOf}
 use Rattle.preview.proofs.Results.{chosen}
 use Rattle.preview.proofs.limit_word.Statement.{statement}
 use Rattle.preview.proofs.limit_word.Tie as tie

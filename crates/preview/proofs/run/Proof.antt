@@ -19,6 +19,7 @@ use mir.Val.{toZ, ofZ}
 use mir.Facts.{toZ-ofZ}
 use Rattle.integers.proofs.Order.{both-true}
 use Rattle.integers.proofs.Machine.{reads-back}
+use Rattle.floats.specs.Whole.{float}
 use Rattle.bands.specs.Words.{isWord}
 use Rattle.section.specs.declared.Section.{Section}
 use Rattle.section.specs.declared.Stepped.{Stepped}
@@ -27,7 +28,7 @@ use Rattle.section.proofs.Ready.{HoldsWords, cleared-ready, ready-stays}
 use Rattle.preview.specs.declared.Preview.{Preview}
 use Rattle.preview.specs.declared.PreviewStep.{PreviewStep}
 use Rattle.preview.specs.Preview.{areWords, filledFront, buffersOf}
-use Rattle.preview.specs.Carried.{float, carried, carriedStep, sectionIn, StepAsks}
+use Rattle.preview.specs.Carried.{carried, carriedStep, sectionIn, StepAsks}
 use Rattle.preview.proofs.Carry.{carried-back, may-step, result-back, remainder-back}
 use Rattle.preview.proofs.Lists.{words-from, answers-from, front-length, front-next, AcceptedCall, preview-accepted}
 use Rattle.preview.proofs.run.Statement.{statement}

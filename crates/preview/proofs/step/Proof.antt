@@ -11,7 +11,7 @@ use mir.Val.{toZ, ofZ}
 use mir.Facts.{toZ-ofZ}
 use Rattle.rounding.specs.Rounding.{nearest, limit}
 use Rattle.bands.specs.Words.{wordLow, wordHigh}
-use Rattle.floats.specs.Whole.{NearestWholeAsks, wholeOf}
+use Rattle.floats.specs.Whole.{float, NearestWholeAsks, wholeOf}
 use Rattle.floats.proofs.Quotient.{whole-back}
 use Rattle.section.specs.declared.Section.{Section}
 use Rattle.section.specs.Equation.{exactSum, sumShift, worked}
@@ -20,7 +20,7 @@ use Rattle.section.specs.Step.{acceptedStep}
 use Rattle.section.proofs.Laws.{accepted-small, sum-size}
 use Rattle.section.proofs.Ready.{accepted-advances}
 use Rattle.preview.specs.declared.Preview.{Preview}
-use Rattle.preview.specs.Carried.{float, carriedStep, sectionIn}
+use Rattle.preview.specs.Carried.{carriedStep, sectionIn}
 use Rattle.preview.proofs.Sum.{floatSum, sum-exact}
 use Rattle.preview.proofs.Results.{quotientOf, leftOver, roundable, quotient-rounds, rounded-size, remainder-is}
 use Rattle.preview.proofs.step.Statement.{statement}

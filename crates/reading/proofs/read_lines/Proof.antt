@@ -11,9 +11,8 @@ use borrow.Author.Needs.{needs}
 use borrow.Author.Tests.{not-true, not-false}
 use Rattle.refusals.specs.Numbers.{isAccepted}
 use Rattle.bands.specs.Bands.{bandCount, setSize}
-use Rattle.unit.specs.Sizes.{channelSize}
 use Rattle.unit.specs.Fit.{isVolume}
-use Rattle.numbers.specs.Layout.{leftPlace}
+use Rattle.numbers.specs.Layout.{channelSize, leftPlace}
 use Rattle.sheet.specs.declared.Line.the-variants.{Volume, Band, Left, Right}
 use Rattle.sheet.specs.Lines.{lines, letterOf, bandsAt, leftAt, rightAt}
 use Rattle.line_reading.specs.Parts.{Part, andThen, linePart, ReadGives}

@@ -3,19 +3,20 @@ use mathlib.Core.Path.{sym}
 use mathlib.Core.Logic.{⊎-elim}
 use Prim.Native.Nat.{_<_}
 use native.Mathlib.Nat.{eq-or-lt-of-le}
+use Rattle.unit.specs.Sizes.{channelCount}
 use Rattle.settings.specs.Settings.{volumeBand}
 use Rattle.settings.proofs.Laws.{band-place, volume-place, no-place}
 use Rattle.settings.proofs.is_place.Statement.{statement}
 use Rattle.settings.proofs.is_place.Tie as tie
 
 returns : tie.Need-returns
-returns c = sym (band-place (c .before .args .side) (c .before .args .band) (c .if1 .taken))
+returns c = sym (band-place channelCount (c .before .args .side) (c .before .args .band) (c .if1 .taken))
 
 returns-2 : tie.Need-returns-2
-returns-2 c = sym (volume-place (c .before .before .args .side) (c .before .before .args .band) (c .if2 .taken))
+returns-2 c = sym (volume-place channelCount (c .before .before .args .side) (c .before .before .args .band) (c .if2 .taken))
 
 returns-3 : tie.Need-returns-3
-returns-3 c = sym (no-place (c .before .before .args .side) (c .before .before .args .band) above)
+returns-3 c = sym (no-place channelCount (c .before .before .args .side) (c .before .before .args .band) above)
   where
     above : volumeBand < c .before .before .args .band
     above = ⊎-elim (λ e. absurd (c .if2 .left (sym e))) (λ l. l) (eq-or-lt-of-le (c .before .if1 .left))

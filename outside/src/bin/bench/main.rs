@@ -1,9 +1,12 @@
 //! Times the library over the C ABI against the fast Rust form, and its preview against its own section too: same
-//! input, same loop, in turns. The results must be equal. Exit status 0 only if a block of the library takes at most a
-//! tenth longer than one of the Rust form, and a sheet written or read at most half longer; no other time is asserted.
+//! input, same loop, in turns. The results must be equal. Exit status 0 only if a block of the library takes at most
+//! nine tenths of the time of one of the Rust form, and a sheet written or read at most half longer; no other time is
+//! asserted. Where something is aimed at, that is printed beside the times.
 
 mod blocks;
+mod processes;
 
+use std::env;
 use std::hint::black_box;
 use std::process::ExitCode;
 
@@ -12,7 +15,7 @@ use outside::ffi::raw;
 use outside::random::Random;
 use outside::reference::{fast, house_set, Section, Step, ACCEPTED};
 use outside::subject::{Form, FAST, LIBRARY};
-use outside::timer::{fold, in_turns, status, timed, within};
+use outside::timer::{fold, in_turns, status, timed, within, Goal, NO_GOAL};
 use outside::unit::orders::Order;
 use outside::unit::sheet::SHEET;
 use outside::unit::{house_unit, Numbers};
@@ -21,7 +24,9 @@ const SEED: u64 = 0xF0DD_00BE;
 const ROUNDS: usize = 11;
 /// Steps and roundings of a run.
 const COUNT: usize = 2_000_000;
+/// Orders of a run, and what is aimed at for one.
 const ORDERS: usize = 100_000;
+const ORDER_GOAL: Goal = Goal { ratio: 2.0, time: 60.0 };
 /// The words of a list, and how often it is previewed in a run.
 const WORDS: usize = 100_000;
 const PREVIEWS: usize = 20;
@@ -45,22 +50,33 @@ fn section_steps([a, b, g]: [i32; 3], words: &[i32], results: &mut [i32], remain
     ACCEPTED
 }
 
-/// Prints the best time of each for one thing of so many, in so many rounds, and gives both.
-fn race<F>(
-    name: &str,
-    pair: &Pair<F>,
-    [rounds, count]: [usize; 2],
-    run: impl Fn(&F) -> (f64, u64),
-) -> Result<[f64; 2], String> {
-    let [(first, one), (second, other)] = pair;
+/// The best time of each for one thing of so many, in so many rounds.
+fn best<F>(pair: &Pair<F>, [rounds, count]: [usize; 2], run: impl Fn(&F) -> (f64, u64)) -> Result<[f64; 2], String> {
+    let [(_, one), (_, other)] = pair;
     let measure = |form: &F| {
         let (time, checksum) = run(black_box(form));
         Ok(([time / count as f64], checksum))
     };
-    let best = in_turns(rounds, [&mut || measure(one), &mut || measure(other)]);
-    let [[one], [other]] = best.map_err(|fault| format!("{name}: {fault}"))?;
-    println!("{name}: {first} {one:.2} ns, {second} {other:.2} ns, ratio {:.3}", one / other);
-    Ok([one, other])
+    in_turns(rounds, [&mut || measure(one), &mut || measure(other)]).map(|times| times.map(|[time]| time))
+}
+
+/// Prints the times of a pair, and what is aimed at.
+fn told<F>(name: &str, [(first, _), (second, _)]: &Pair<F>, times: [f64; 2], goal: Goal) {
+    let [one, other] = times;
+    println!("{name}: {first} {one:.2} ns, {second} {other:.2} ns, ratio {:.3}{}", one / other, goal.told(times));
+}
+
+/// Prints the best time of each for one thing of so many, in so many rounds, and gives both.
+fn race<F>(
+    name: &str,
+    pair: &Pair<F>,
+    counts: [usize; 2],
+    goal: Goal,
+    run: impl Fn(&F) -> (f64, u64),
+) -> Result<[f64; 2], String> {
+    let times = best(pair, counts, run).map_err(|fault| format!("{name}: {fault}"))?;
+    told(name, pair, times, goal);
+    Ok(times)
 }
 
 /// A run over a list: each thing gives a number for the checksum.
@@ -86,7 +102,7 @@ unsafe extern "C" fn rust_step(section: *mut Section, x: i32) -> Step {
 fn time_steps(random: &mut Random) -> Result<(), String> {
     let words: Vec<i32> = (0..COUNT).map(|_| random.word()).collect();
     for (name, [a, b, g]) in bands() {
-        race(&format!("step, {name}"), &STEPS, [ROUNDS, COUNT], |step| {
+        race(&format!("step, {name}"), &STEPS, [ROUNDS, COUNT], NO_GOAL, |step| {
             let mut section = [a, b, g, 0, 0, 0, 0];
             run_each(&words, |&x| {
                 // SAFETY: the section is seven numbers that nobody else holds.
@@ -103,7 +119,8 @@ fn time_nearest(random: &mut Random) -> Result<(), String> {
     let rows: [(&str, Vec<(i64, u32)>); 2] =
         [("nearest, shift 22", section_sums), ("nearest, shifts 0 to 63", any_shift)];
     for (name, numbers) in rows {
-        race(name, &WITH_RUST, [ROUNDS, COUNT], |form| run_each(&numbers, |&(v, k)| (form.nearest)(v, k)))?;
+        let run = |form: &Form| run_each(&numbers, |&(v, k)| (form.nearest)(v, k));
+        race(name, &WITH_RUST, [ROUNDS, COUNT], NO_GOAL, run)?;
     }
     Ok(())
 }
@@ -117,7 +134,7 @@ fn time_orders(random: &mut Random) -> Result<(), String> {
     let positions = orders(|side, band, draw| Order::position(side, band, (draw % 33) as u8));
     let factors = orders(|side, band, draw| Order::factor(side, band, (draw % 4_096) as f32 / 2_000.0 - 1.024));
     for (name, orders) in [("order, position", positions), ("order, factor", factors)] {
-        race(name, &WITH_RUST, [ROUNDS, ORDERS], |form| {
+        race(name, &WITH_RUST, [ROUNDS, ORDERS], ORDER_GOAL, |form| {
             let mut unit = house_unit();
             let (time, checksum) = run_each(&orders, |order| (form.order)(&mut unit, order).into());
             (time, unit.iter().fold(checksum, |sum, &n| fold(sum, n.into())))
@@ -139,8 +156,8 @@ fn time_previews(random: &mut Random) -> Result<(), String> {
             assert!(accepted);
             (time, results.iter().chain(&remainders).fold(0, |sum, &number| fold(sum, number.into())))
         };
-        race(&format!("preview and section, {name}"), &WITH_SECTION, count, run)?;
-        race(&format!("preview, {name}"), &WITH_RUST, count, run)?;
+        race(&format!("preview and section, {name}"), &WITH_SECTION, count, NO_GOAL, run)?;
+        race(&format!("preview, {name}"), &WITH_RUST, count, NO_GOAL, run)?;
     }
     Ok(())
 }
@@ -177,7 +194,7 @@ fn time_sheets(random: &mut Random) -> Result<bool, String> {
         units.iter().zip(&mut sheets).for_each(|(unit, sheet)| assert_eq!((FAST.sheet_write)(unit, sheet), SHEET));
         let time = |what: &str, run: &dyn Fn(&Form) -> (f64, u64)| {
             let name = format!("sheet {name} {what}");
-            within(&name, MOST_SHEET, || race(&name, &WITH_RUST, [ROUNDS, SHEETS], run))
+            within(&name, MOST_SHEET, || race(&name, &WITH_RUST, [ROUNDS, SHEETS], NO_GOAL, run))
         };
         all_kept &= time("written", &|form| run_writes(form, units))?;
         all_kept &= time("read", &|form| run_reads(form, &sheets))?;
@@ -186,16 +203,20 @@ fn time_sheets(random: &mut Random) -> Result<bool, String> {
 }
 
 fn everything() -> Result<bool, String> {
-    println!("seed {SEED:#x}, best of {ROUNDS} runs each, of blocks of {}, in turns", blocks::ROUNDS);
+    println!("seed {SEED:#x}, best of {ROUNDS} runs each, in turns");
+    println!("blocks of frames: best of {} runs in each of {} processes", blocks::IN_A_PROCESS, processes::PROCESSES);
     let random = &mut Random::new(SEED);
     time_steps(random)?;
     time_nearest(random)?;
     time_orders(random)?;
     time_previews(random)?;
-    let blocks = blocks::time(random)?;
+    let blocks = blocks::time()?;
     Ok(time_sheets(random)? && blocks)
 }
 
 fn main() -> ExitCode {
-    status(everything())
+    match env::args().nth(1) {
+        Some(name) => processes::one(&name),
+        None => status(everything()),
+    }
 }

@@ -132,7 +132,12 @@ impl<'a> Run<'a> {
     }
 
     /// Runs the program that these words name in this folder to its end.
-    pub fn to_its_end(&self, words: Vec<OsString>, folder: &Folder, patience: Duration) -> Result<Ended, Difference> {
+    pub fn until_its_end(
+        &self,
+        words: Vec<OsString>,
+        folder: &Folder,
+        patience: Duration,
+    ) -> Result<Ended, Difference> {
         let mut session = self.start(words, folder)?;
         let mut ended = match self.input {
             Input::Pipe(bytes) => session.end(bytes)?,

@@ -86,7 +86,7 @@ impl Test {
         let folder = Folder::new(before).map_err(system_fault)?;
         self.runs += 1;
         let words = self.setup.words(run.program, run.arguments);
-        seen(run.to_its_end(words, &folder, self.setup.patience)?, &folder)
+        seen(run.until_its_end(words, &folder, self.setup.patience)?, &folder)
     }
 
     /// Runs a program and holds what is seen against what must be.

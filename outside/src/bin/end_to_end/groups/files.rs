@@ -195,7 +195,7 @@ fn rights(test: &mut Test, material: &Material) -> Result<(), Difference> {
         test.runs += 1;
         let folder = Folder::new(sheet).map_err(system_fault)?;
         set_rights(&folder, modes).map_err(system_fault)?;
-        let ended = run.to_its_end(setup.words(PLAY, &[]), &folder, setup.patience)?;
+        let ended = run.until_its_end(setup.words(PLAY, &[]), &folder, setup.patience)?;
         set_rights(&folder, [0o755, 0o644]).map_err(system_fault)?;
         same(expected, &seen(ended, &folder)?).map_err(|difference| format!("{case}: {difference}"))?;
     }

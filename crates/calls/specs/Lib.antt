@@ -1,0 +1,2 @@
+-- A list of calls.
+pub mod Calls

@@ -1,0 +1,2 @@
+-- Blocks on lent numbers.
+pub mod Play

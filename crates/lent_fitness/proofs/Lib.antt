@@ -1,0 +1,2 @@
+-- The laws of the test on numbers.
+pub mod Laws

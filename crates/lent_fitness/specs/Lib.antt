@@ -1,0 +1,1 @@
+-- The definitions are those of the crates unit and numbers.

@@ -1,0 +1,2 @@
+-- Where the targets stand among a unit's numbers.
+pub mod Places
