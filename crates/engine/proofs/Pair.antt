@@ -25,7 +25,7 @@ use Rattle.engine.specs.declared.Sides.{Sides}
 use Rattle.engine.specs.declared.Tallies.{Tallies}
 use Rattle.engine.specs.declared.Tally.{Tally}
 use Rattle.engine.specs.Floats.{Carries, floatAt, WholeFloats, floatSection, bandSectionIn}
-use Rattle.engine.specs.Layout.{sectionFloats, pairFloats, Side, firstSide, secondSide, floatSectionAt, putSection, sidesAt, putSides, sectionAtSide}
+use Rattle.engine.specs.Layout.{sectionFloats, x1Place, x2Place, flagPlace, pairFloats, Side, firstSide, secondSide, floatSectionAt, putSection, sidesAt, putSides, sectionAtSide}
 use Rattle.engine.specs.Frame.{firstTurned, secondTurned, talliesAfter, pairAfter, TurnPairAsks, FrameAsks, SideGives, FrameGives}
 use Rattle.engine.proofs.Carry.{carries-whole, section-back}
 use Rattle.engine.proofs.Store.{IsWhole, float-whole, section-whole, sides-length, sides-outside, sides-same, sides-whole, both-length, both-away, both-first, both-second, both-other}
@@ -194,19 +194,19 @@ module _ (bands l : List Float) (x : Sides) (asks : FrameAsks bands l x) where
     flags = record { first = tallies .first .flag; second = tallies .second .flag }
 
     abbrev m1 : List Float
-    m1 = putSides m 80 x
+    m1 = putSides m x1Place x
 
     abbrev m2 : List Float
-    m2 = putSides m1 82 (sidesAt l 80)
+    m2 = putSides m1 x2Place (sidesAt l x1Place)
 
     abbrev pub ended : List Float
-    ended = putSides m2 84 flags
+    ended = putSides m2 flagPlace flags
 
     m1-size : length m1 ≡ pairFloats
-    m1-size = sides-length m 80 x ∙ p .size
+    m1-size = sides-length m x1Place x ∙ p .size
 
     m2-size : length m2 ≡ pairFloats
-    m2-size = sides-length m1 82 (sidesAt l 80) ∙ m1-size
+    m2-size = sides-length m1 x2Place (sidesAt l x1Place) ∙ m1-size
 
     sections-kept : (at : ℕ) → at + 6 < sectionFloats * bandCount → floatSectionAt ended at ≡ floatSectionAt m at
     sections-kept at h =
@@ -219,38 +219,38 @@ module _ (bands l : List Float) (x : Sides) (asks : FrameAsks bands l x) where
       where
         kept : (j : ℕ) → j < sectionFloats * bandCount → floatAt ended j ≡ floatAt m j
         kept j k =
-            sides-outside m2 84 flags j (λ e. omega arith) (λ e. omega arith)
-            ∙ sides-outside m1 82 (sidesAt l 80) j (λ e. omega arith) (λ e. omega arith)
-            ∙ sides-outside m 80 x j (λ e. omega arith) (λ e. omega arith)
+            sides-outside m2 flagPlace flags j (λ e. omega arith) (λ e. omega arith)
+            ∙ sides-outside m1 x2Place (sidesAt l x1Place) j (λ e. omega arith) (λ e. omega arith)
+            ∙ sides-outside m x1Place x j (λ e. omega arith) (λ e. omega arith)
 
-    x1-are : sidesAt ended 80 ≡ x
+    x1-are : sidesAt ended x1Place ≡ x
     x1-are =
-        (λ i. record { first = past 80 (λ e. omega arith) (λ e. omega arith) (λ e. omega arith) (λ e. omega arith) i; second = past 81 (λ e. omega arith) (λ e. omega arith) (λ e. omega arith) (λ e. omega arith) i })
-        ∙ sides-same m 80 x (omega (arith, p .size))
+        (λ i. record { first = past x1Place (λ e. omega arith) (λ e. omega arith) (λ e. omega arith) (λ e. omega arith) i; second = past (x1Place + 1) (λ e. omega arith) (λ e. omega arith) (λ e. omega arith) (λ e. omega arith) i })
+        ∙ sides-same m x1Place x (omega (arith, p .size))
       where
-        past : (j : ℕ) → (j ≡ 84 → ⊥) → (j ≡ 84 + 1 → ⊥) → (j ≡ 82 → ⊥) → (j ≡ 82 + 1 → ⊥) → floatAt ended j ≡ floatAt m1 j
-        past j a b c d = sides-outside m2 84 flags j a b ∙ sides-outside m1 82 (sidesAt l 80) j c d
+        past : (j : ℕ) → (j ≡ flagPlace → ⊥) → (j ≡ flagPlace + 1 → ⊥) → (j ≡ x2Place → ⊥) → (j ≡ x2Place + 1 → ⊥) → floatAt ended j ≡ floatAt m1 j
+        past j a b c d = sides-outside m2 flagPlace flags j a b ∙ sides-outside m1 x2Place (sidesAt l x1Place) j c d
 
-    x2-are : sidesAt ended 82 ≡ sidesAt l 80
+    x2-are : sidesAt ended x2Place ≡ sidesAt l x1Place
     x2-are =
         (λ i. record {
-          first = sides-outside m2 84 flags 82 (λ e. omega arith) (λ e. omega arith) i;
-          second = sides-outside m2 84 flags 83 (λ e. omega arith) (λ e. omega arith) i;
+          first = sides-outside m2 flagPlace flags x2Place (λ e. omega arith) (λ e. omega arith) i;
+          second = sides-outside m2 flagPlace flags (x2Place + 1) (λ e. omega arith) (λ e. omega arith) i;
         })
-        ∙ sides-same m1 82 (sidesAt l 80) (omega (arith, m1-size))
+        ∙ sides-same m1 x2Place (sidesAt l x1Place) (omega (arith, m1-size))
 
-    flags-are : sidesAt ended 84 ≡ flags
-    flags-are = sides-same m2 84 flags (omega (arith, m2-size))
+    flags-are : sidesAt ended flagPlace ≡ flags
+    flags-are = sides-same m2 flagPlace flags (omega (arith, m2-size))
 
     pub ends : FrameGives bands l x ended (record { first = tallies .first .total; second = tallies .second .total })
     ends =
         record {
-          size = sides-length m2 84 flags ∙ m2-size;
+          size = sides-length m2 flagPlace flags ∙ m2-size;
           whole =
-              sides-whole m2 84 flags
-              (sides-whole m1 82 (sidesAt l 80)
-              (sides-whole m 80 x (p .whole) (asks .first .x-carries .whole) (asks .second .x-carries .whole))
-              (asks .whole 80 (omega (arith, asks .size))) (asks .whole 81 (omega (arith, asks .size))))
+              sides-whole m2 flagPlace flags
+              (sides-whole m1 x2Place (sidesAt l x1Place)
+              (sides-whole m x1Place x (p .whole) (asks .first .x-carries .whole) (asks .second .x-carries .whole))
+              (asks .whole x1Place (omega (arith, asks .size))) (asks .whole (x1Place + 1) (omega (arith, asks .size))))
               (flag-whole firstSide (x .first) first-begun m ended (tallies .first) (p .first)) (flag-whole secondSide (x .second) second-begun m ended (tallies .second) (p .second));
           first =
               side-gives firstSide (x .first) first-begun m ended (tallies .first) (p .first)

@@ -69,7 +69,7 @@ module _ (band : FloatBand) (section : FloatSection) (d : Float) (tally : Tally)
             };
       }
 
-  -- what a turn asks
+  -- what a turn asks: T, as far as it goes, is at most 2^52 in size
   pub record TurnAsks : Type 0 where
     pub band-carries : band ≡ floatBand (bandIn band)
     pub band-fit : BandFit (bandIn band)

@@ -33,9 +33,18 @@ setFloats = bandFloats * bandCount
 abbrev pub sectionFloats : ℕ
 sectionFloats = sideCount * 4
 
--- how many floats a pair has: behind the sections x1, x2 and the flag
+-- where x1, x2 and the flag of the first side stand, behind the sections, and how many floats a pair has
+abbrev pub x1Place : ℕ
+x1Place = sectionFloats * bandCount
+
+abbrev pub x2Place : ℕ
+x2Place = x1Place + sideCount
+
+abbrev pub flagPlace : ℕ
+flagPlace = x2Place + sideCount
+
 abbrev pub pairFloats : ℕ
-pairFloats = sectionFloats * bandCount + sideCount * 3
+pairFloats = flagPlace + sideCount
 
 -- where the numbers of one side stand: A of band b, y1 of section b, x1, x2 and the flag. B and G, y2, gain and target follow at every second
 -- place
@@ -47,10 +56,11 @@ pub record Side : Type 0 where
   pub flag : ℕ
 
 abbrev pub firstSide : Side
-firstSide = record { band = λ b. bandFloats * b; section = λ b. sectionFloats * b; x1 = 80; x2 = 82; flag = 84 }
+firstSide = record { band = λ b. bandFloats * b; section = λ b. sectionFloats * b; x1 = x1Place; x2 = x2Place; flag = flagPlace }
 
 abbrev pub secondSide : Side
-secondSide = record { band = λ b. bandFloats * b + 1; section = λ b. sectionFloats * b + 1; x1 = 81; x2 = 83; flag = 85 }
+secondSide =
+    record { band = λ b. bandFloats * b + 1; section = λ b. sectionFloats * b + 1; x1 = x1Place + 1; x2 = x2Place + 1; flag = flagPlace + 1 }
 
 -- the band and the section whose numbers begin at a place
 abbrev pub floatBandAt : List Float → ℕ → FloatBand

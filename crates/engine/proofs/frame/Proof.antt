@@ -10,7 +10,7 @@ use denote.Ref.{now}
 use Rattle.bands.specs.Bands.{bandCount}
 use Rattle.engine.specs.declared.Sides.{Sides}
 use Rattle.engine.specs.declared.Tallies.{Tallies}
-use Rattle.engine.specs.Layout.{pairFloats, sidesAt, putSides}
+use Rattle.engine.specs.Layout.{x1Place, x2Place, flagPlace, pairFloats, sidesAt, putSides}
 use Rattle.engine.specs.Frame.{talliesAfter, pairAfter, TurnPairAsks, FrameGives}
 use Rattle.engine.proofs.Store.{sides-length}
 use Rattle.engine.proofs.Pair.{ways, Turning, talliesBefore, begins, pair-may-turn, next, ended, ends}
@@ -134,7 +134,7 @@ module _ (c : lts.After-put-sides (sides-at-reads.Asked, sides-at-reads.Learnt, 
   g = c .before .before
 
   one-size : length (c .put-sides .last .0) ≡ pairFloats
-  one-size = ap length (c .put-sides .ensures) ∙ sides-length (M g) 80 (x (e g)) ∙ all g .size
+  one-size = ap length (c .put-sides .ensures) ∙ sides-length (M g) x1Place (x (e g)) ∙ all g .size
 
 put-sides-requires-2 : tie.Need-put-sides-requires-2 Inv-loop μ-loop
 put-sides-requires-2 c κs = omega (arith, one-size (c .before .before .before))
@@ -143,14 +143,14 @@ module _ (c : lts.After-put-sides2 (sides-at-reads.Asked, sides-at-reads.Learnt,
   abbrev h : lts.After-put-sides (sides-at-reads.Asked, sides-at-reads.Learnt, turn-pair-reads.Asked, turn-pair-reads.Learnt, put-sides-reads.Asked, put-sides-reads.Learnt) reads.Pre reads.Post Inv-loop μ-loop
   h = c .before .before .before .before
 
-  two-is : c .put-sides2 .last .0 ≡ putSides (putSides (M (g h)) 80 (x (e (g h)))) 82 (sidesAt (l (e (g h))) 80)
-  two-is = c .put-sides2 .ensures ∙ ap₂ (λ (a : List Float) (t : Sides). putSides a 82 t) (h .put-sides .ensures) (e (g h) .before .before .before .before .sides-at .ensures)
+  two-is : c .put-sides2 .last .0 ≡ putSides (putSides (M (g h)) x1Place (x (e (g h)))) x2Place (sidesAt (l (e (g h))) x1Place)
+  two-is = c .put-sides2 .ensures ∙ ap₂ (λ (a : List Float) (t : Sides). putSides a x2Place t) (h .put-sides .ensures) (e (g h) .before .before .before .before .sides-at .ensures)
 
   two-size : length (c .put-sides2 .last .0) ≡ pairFloats
   two-size =
       ap length two-is
-      ∙ sides-length (putSides (M (g h)) 80 (x (e (g h)))) 82 (sidesAt (l (e (g h))) 80)
-      ∙ sides-length (M (g h)) 80 (x (e (g h)))
+      ∙ sides-length (putSides (M (g h)) x1Place (x (e (g h)))) x2Place (sidesAt (l (e (g h))) x1Place)
+      ∙ sides-length (M (g h)) x1Place (x (e (g h)))
       ∙ all (g h) .size
 
 put-sides-requires-3 : tie.Need-put-sides-requires-3 Inv-loop μ-loop
@@ -164,7 +164,7 @@ module _ (c : lts.After-put-sides3 (sides-at-reads.Asked, sides-at-reads.Learnt,
   k = g (h t)
 
   three-is : c .put-sides3 .last .0 ≡ ended (bands (e k)) (l (e k)) (x (e k)) (s (e k) .pre) (M k) (last-tallies k) (all k)
-  three-is = c .put-sides3 .ensures ∙ ap (λ (a : List Float). putSides a 84 (record { first = last-tallies k .first .flag; second = last-tallies k .second .flag })) (two-is t)
+  three-is = c .put-sides3 .ensures ∙ ap (λ (a : List Float). putSides a flagPlace (record { first = last-tallies k .first .flag; second = last-tallies k .second .flag })) (two-is t)
 
   given : FrameGives (bands (e k)) (l (e k)) (x (e k)) (c .put-sides3 .last .0) (record { first = last-tallies k .first .total; second = last-tallies k .second .total })
   given =
