@@ -78,9 +78,9 @@ enum {
 
 /* ---- Units and band sets ------------------------------------------------------------------ */
 
-/* A unit: 118 numbers in the order of the strip sheet's fields. The library takes the address of
- * the first number, which is the struct's own. A unit is copied by assignment, holds no pointer,
- * and needs no release. It is fit where each number has its range, as below.
+/* A unit: 118 numbers, in the order below. The library takes the address of the first number,
+ * which is the struct's own. A unit is copied by assignment, holds no pointer, and needs no
+ * release. It is fit where each number has its range.
  *
  *   from  numbers                               range
  *      0  volume, its target                    0 to 8,388,607

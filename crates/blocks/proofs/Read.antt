@@ -12,10 +12,10 @@ use lib.Signed.{_≤ℤ_, leZ-yes}
 use borrow.Author.Tests.{eqb-true, eqb-false, ltb-true, ltb-false}
 use Rattle.integers.proofs.Parts.{linear, var, _⊕_, _⊖_}
 use Rattle.integers.proofs.Abs.{abs-nonneg}
+use Rattle.lists.specs.Lists.{Each}
 use Rattle.rounding.proofs.Limit.{limit-low, limit-high}
 use Rattle.unit.specs.declared.Channel.{Channel}
 use Rattle.unit.specs.declared.Unit.{Unit}
-use Rattle.unit.specs.Lists.{Each}
 use Rattle.unit.specs.Frame.{channelFrame, unitFrame, mix, sampleLow, sampleHigh, output, heard}
 use Rattle.frames.specs.Bytes.{sampleOf, sampleAt, frameSize, frameCount, bitsOf, lowByte, highByte, bytesOf}
 use Rattle.frames.specs.Played.{playedOn, soundOn, blockWords}

@@ -11,10 +11,10 @@ use mathlib.Core.List.{List, [], _∷_, _++_}
 use Prim.Native.Nat.{ℕ, _+_, _*_}
 use lib.IntN.{ℤ}
 use lib.ListN.{length, getD}
+use Rattle.lists.specs.Lists.{tabulate}
 use Rattle.refusals.specs.Numbers.{isAccepted}
 use Rattle.unit.specs.declared.Channel.{Channel}
 use Rattle.unit.specs.declared.Unit.{Unit}
-use Rattle.unit.specs.Lists.{tabulate}
 use Rattle.unit.specs.Cleared.{clearedChannel, clearedUnit, bandsOf}
 use Rattle.settings.specs.declared.Setting.{Setting}
 use Rattle.orders.specs.Orders.{ordered}

@@ -6,6 +6,7 @@ use Prim.Native.Nat.{_<_}
 use lib.Dec.{lit≤}
 use lib.IntN.{ℤ, pos, negℤ}
 use lib.ListN.{length, getD, take}
+use Rattle.lists.specs.Lists.{anyOf}
 use Rattle.rounding.specs.Rounding.{floor, rest, odd, goesUp, nearest, taken, limit, within}
 use Rattle.refusals.specs.Numbers.{isAccepted}
 use Rattle.bands.specs.Bands.{bandCount, alphaAccepted, betaAccepted, gammaAccepted, bandVerdict}
@@ -13,7 +14,6 @@ use Rattle.bands.specs.House.{houseSet}
 use Rattle.floats.specs.Value.{inUnits, inRange, factorTarget}
 use Rattle.section.specs.Equation.{exactSum, worked}
 use Rattle.levels.specs.Levels.{ramp}
-use Rattle.unit.specs.Lists.{anyOf}
 use Rattle.unit.specs.Cleared.{bandsOf}
 use Rattle.unit.specs.Frame.{sectionFrame, channelFrame, exactMix, mix, output, unitFrame}
 use Rattle.unit.specs.Fit.{isVolume, isInput, isFlag, unitFits}

@@ -7,8 +7,8 @@ use Prim.Native.Nat.{ℕ, zero, suc, _+_, _^_, _<_}
 use native.Mathlib.Omega.{arith}
 use lib.IntN.{ℤ}
 use lib.ListN.{length, getD, take}
+use Rattle.lists.specs.Lists.{anyOf}
 use Rattle.bands.specs.declared.Band.{Band}
-use Rattle.unit.specs.Lists.{anyOf}
 use Rattle.closeness.specs.Claim.{divisor, Exact, Close}
 
 module _ (bands : List Band) where

@@ -7,10 +7,10 @@ use native.Mathlib.Nat.{zero-add}
 use native.Mathlib.Omega.{arith}
 use lib.IntN.{ℤ, pos}
 use lib.ListN.{length, getD, take, replicate, getD-replicate}
+use Rattle.lists.specs.Lists.{anyOf}
 use Rattle.refusals.specs.Numbers.{isAccepted}
 use Rattle.bands.specs.declared.Band.{Band}
 use Rattle.unit.specs.declared.Channel.{Channel}
-use Rattle.unit.specs.Lists.{anyOf}
 use Rattle.unit.specs.Cleared.{clearedLevel, clearedBandSection, clearedChannel, bandsOf}
 use Rattle.loading.specs.Loading.{setVerdict}
 use Rattle.loading.specs.declared.Loaded.{Loaded}

@@ -7,6 +7,9 @@ use native.Mathlib.Omega.{arith}
 use lib.Dec.{eqb}
 use lib.IntN.{ℤ, pos}
 use lib.ListN.{length, getD}
+use Rattle.lists.specs.Lists.{tabulate, changed, anyOf}
+use Rattle.lists.proofs.Tabulate.{each-getD, any-append, any-snoc, tabulate-length}
+use Rattle.lists.proofs.Changed.{changed-at}
 use Rattle.refusals.specs.Numbers.{isAccepted}
 use Rattle.bands.specs.declared.Band.{Band}
 use Rattle.section.specs.Equation.{flag}
@@ -15,13 +18,10 @@ use Rattle.levels.specs.Levels.{volumeSlope, moved, aimed}
 use Rattle.unit.specs.declared.BandSection.{BandSection}
 use Rattle.unit.specs.declared.Channel.{Channel}
 use Rattle.unit.specs.declared.Unit.{Unit}
-use Rattle.unit.specs.Lists.{tabulate, changed, anyOf}
 use Rattle.unit.specs.Cleared.{clearedChannel}
 use Rattle.unit.specs.Frame.{anyLimits, channelFrame, unitFrame}
 use Rattle.unit.specs.Shaped.{TenSections, Shaped}
 use Rattle.unit.proofs.Fitness.{test-of-fit}
-use Rattle.unit.proofs.Tabulate.{each-getD, any-append, any-snoc, tabulate-length}
-use Rattle.unit.proofs.Changed.{changed-at}
 use Rattle.settings.specs.declared.Setting.{Setting}
 use Rattle.settings.specs.Settings.{volumeBand, names, targetOf, orderArguments}
 use Rattle.orders.specs.Orders.{aimedSection, aimedChannel, aimedVolume, aimedBand, aimedUnit, ordered}
@@ -29,9 +29,9 @@ use Rattle.orders.proofs.Laws.{order-accepts}
 use Rattle.frames.specs.Bytes.{sampleAt, frameCount}
 use Rattle.frames.specs.Played.{playedOn, blockWords}
 use Rattle.frames.proofs.Many.{Feeds, block-feeds, fed-shaped}
+use Rattle.frames.proofs.Channel.{block-word}
 use Rattle.blocks.specs.Block.{blockArguments, blockVerdict, blockPlayed, blockOutput}
 use Rattle.blocks.proofs.Block.{block-accepted}
-use Rattle.frames.proofs.Channel.{block-word}
 use Rattle.blocks.proofs.Read.{fed-channel, sampleAfter, output-sample}
 use Rattle.calls.specs.Calls.{Call, order, block, channelIn, unitAfter, handedBack, placeOf, samplesOf, samples}
 use Rattle.calls.proofs.Kept.{Kept, call-kept}

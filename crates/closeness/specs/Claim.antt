@@ -17,6 +17,7 @@ use Prim.Native.Nat.{ℕ, zero, suc, _+_, _*_, _^_, _≤_, _<_}
 use lib.Dec.{eqb}
 use lib.IntN.{ℤ, pos, natAbs, _+ℤ_, _-ℤ_, _*ℤ_}
 use lib.ListN.{length, getD, take, replicate}
+use Rattle.lists.specs.Lists.{tabulate, changed, anyOf}
 use Rattle.rounding.specs.Rounding.{limit}
 use Rattle.refusals.specs.Numbers.{isAccepted}
 use Rattle.bands.specs.Bands.{bandCount}
@@ -26,7 +27,6 @@ use Rattle.levels.specs.declared.Level.{Level}
 use Rattle.levels.specs.Levels.{gainSlope, volumeSlope, moved, aimed}
 use Rattle.unit.specs.Sizes.{channelCount}
 use Rattle.unit.specs.declared.Unit.{Unit}
-use Rattle.unit.specs.Lists.{tabulate, changed, anyOf}
 use Rattle.unit.specs.Cleared.{clearedLevel, bandsOf}
 use Rattle.unit.specs.Frame.{anyLimits, sampleLow, sampleHigh}
 use Rattle.unit.specs.Fit.{Fit}

@@ -7,7 +7,7 @@ use lib.Dec.{ltb}
 use Rattle.refusals.specs.Numbers.{numberOf, isAccepted}
 use Rattle.refusals.specs.declared.Verdict.{Verdict}
 use Rattle.fields.specs.Fields.{digit}
-use Rattle.sheet.specs.Lines.{lineFeed}
+use Rattle.forms.specs.Line.{lineFeed}
 
 -- a number below a hundred, in decimal digits
 abbrev pub decimal : ℕ → List ℕ

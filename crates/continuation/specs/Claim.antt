@@ -9,21 +9,20 @@
 --
 -- What it rests on. The calls, the unit that they hand back and the samples are those of calls/specs/Calls.antt; the limiting, the exact
 -- reckoning and `Close` are those of demand 3 (closeness/specs/Claim.antt). `filledPart` (writing/specs/Written.antt) and `sheetRead` (reading/specs/Reading.antt) are what the contracts of
--- `writing::write` and `reading::read` promise, for all inputs. The number of channels is the product's, since a sheet has two.
+-- `writing::write` and `reading::read` promise, for all inputs. It is stated over the letters of the sides: a unit has a channel for each of them.
 use mathlib.Core.Path.{_≡_}
 use mathlib.Core.Bool.{Bool, true, false}
 use mathlib.Core.List.{List, [], _∷_, _++_}
 use Prim.Native.Nat.{ℕ, suc, _≤_, _<_}
 use lib.IntN.{ℤ, pos}
 use lib.ListN.{length, getD, take}
+use Rattle.lists.specs.Lists.{Each, anyOf}
 use Rattle.refusals.specs.Numbers.{isAccepted}
 use Rattle.refusals.specs.declared.Verdict.the-variants.{Accepted}
 use Rattle.unit.specs.declared.Unit.{Unit}
-use Rattle.unit.specs.Sizes.{channelCount}
-use Rattle.unit.specs.Lists.{Each, anyOf}
 use Rattle.unit.specs.Cleared.{bandsOf}
 use Rattle.loading.specs.Loading.{setVerdict}
-use Rattle.sheet.specs.Lines.{sheetSize}
+use Rattle.sheet.specs.Sheet.{sheetSize}
 use Rattle.writing.specs.Written.{filledPart}
 use Rattle.reading.specs.declared.SheetRead.{SheetRead}
 use Rattle.reading.specs.Reading.{sheetRead}
@@ -39,77 +38,78 @@ pub record Stretch : Type 0 where
   pub room : ℕ
   pub given : Unit
 
--- the buffer has room for the sheet
-abbrev pub HasRoom : Stretch → Type 0
-HasRoom stretch = sheetSize ≤ stretch .room
-
 -- the list that was not cut
 abbrev pub uncut : List Stretch → List Call
 uncut [] = []
 uncut (stretch ∷ stretches) = stretch .calls ++ uncut stretches
 
--- ---- what a cut list gives. The first stretch begins with the unit u, each other one with the unit that was read at the cut before it
-
--- the unit that the calls of a stretch hand back
-abbrev pub unitAtCut : Unit → Stretch → Unit
-unitAtCut u stretch = handedBack channelCount u (stretch .calls)
-
--- what the reader answers at the cut behind a stretch
-abbrev pub answerAtCut : Unit → Stretch → SheetRead
-answerAtCut u stretch = sheetRead (filledPart (unitAtCut u stretch) (stretch .room)) (stretch .given)
-
 -- the sheet is accepted
 abbrev pub SheetAccepted : SheetRead → Type 0
 SheetAccepted answer = answer .verdict ≡ Accepted
 
--- the answers at all cuts
-abbrev pub answers : Unit → List Stretch → List SheetRead
-answers u [] = []
-answers u (stretch ∷ stretches) = answerAtCut u stretch ∷ answers (answerAtCut u stretch .unit) stretches
+module _ (letters : List ℕ) where
+  -- the buffer has room for the sheet
+  abbrev pub HasRoom : Stretch → Type 0
+  HasRoom stretch = sheetSize letters ≤ stretch .room
 
--- the unit that was read last
-abbrev pub unitAcross : Unit → List Stretch → Unit
-unitAcross u [] = u
-unitAcross u (stretch ∷ stretches) = unitAcross (answerAtCut u stretch .unit) stretches
+  -- ---- what a cut list gives. The first stretch begins with the unit u, each other one with the unit that was read at the cut before it
 
-module _ (channel : ℕ) where
-  -- the samples of the channel
-  abbrev pub samplesAcross : Unit → List Stretch → List ℤ
-  samplesAcross u [] = []
-  samplesAcross u (stretch ∷ stretches) =
-      samples channelCount channel u (stretch .calls) ++ samplesAcross (answerAtCut u stretch .unit) stretches
+  -- the unit that the calls of a stretch hand back
+  abbrev pub unitAtCut : Unit → Stretch → Unit
+  unitAtCut u stretch = handedBack (length letters) u (stretch .calls)
 
-  -- whether one of the channel's sections limits, frame by frame
-  abbrev pub limitsAcross : Unit → List Stretch → List Bool
-  limitsAcross u [] = []
-  limitsAcross u (stretch ∷ stretches) =
-      limits channelCount channel u (stretch .calls) ++ limitsAcross (answerAtCut u stretch .unit) stretches
+  -- what the reader answers at the cut behind a stretch
+  abbrev pub answerAtCut : Unit → Stretch → SheetRead
+  answerAtCut u stretch = sheetRead letters (filledPart letters (unitAtCut u stretch) (stretch .room)) (stretch .given)
 
--- ---- the claim
+  -- the answers at all cuts
+  abbrev pub answers : Unit → List Stretch → List SheetRead
+  answers u [] = []
+  answers u (stretch ∷ stretches) = answerAtCut u stretch ∷ answers (answerAtCut u stretch .unit) stretches
 
--- a list that begins with a cleared unit with this band set, and is cut so
-module _ (set : List ℤ) (stretches : List Stretch) where
-  -- all frames of a channel: the samples, and whether a section limits
-  abbrev pub cutSamples : ℕ → List ℤ
-  cutSamples channel = samplesAcross channel (startingUnit channelCount set) stretches
+  -- the unit that was read last
+  abbrev pub unitAcross : Unit → List Stretch → Unit
+  unitAcross u [] = u
+  unitAcross u (stretch ∷ stretches) = unitAcross (answerAtCut u stretch .unit) stretches
 
-  abbrev pub cutLimits : ℕ → List Bool
-  cutLimits channel = limitsAcross channel (startingUnit channelCount set) stretches
+  module _ (channel : ℕ) where
+    -- the samples of the channel
+    abbrev pub samplesAcross : Unit → List Stretch → List ℤ
+    samplesAcross u [] = []
+    samplesAcross u (stretch ∷ stretches) =
+        samples (length letters) channel u (stretch .calls) ++ samplesAcross (answerAtCut u stretch .unit) stretches
 
-  -- the channel's sample for frame n, n = i + 1, is close to the exact output of the list that was not cut, "if no section of that side has
-  -- limited up to and including frame n"
-  abbrev pub CloseAcross : ℕ → ℕ → Type 0
-  CloseAcross channel i =
-      i < length (cutSamples channel) → anyOf (take (suc i) (cutLimits channel)) ≡ false → Close (bandsOf set) (suc i) (getD (cutSamples channel) i (pos 0)) (getD (allExacts channelCount channel set (uncut stretches)) i silent)
+    -- whether one of the channel's sections limits, frame by frame
+    abbrev pub limitsAcross : Unit → List Stretch → List Bool
+    limitsAcross u [] = []
+    limitsAcross u (stretch ∷ stretches) =
+        limits (length letters) channel u (stretch .calls) ++ limitsAcross (answerAtCut u stretch .unit) stretches
 
-  -- every sheet is accepted; unit, samples and limiting are those of the list that was not cut; and demand 3 speaks of every frame
-  pub record Continued : Type 0 where
-    pub accepted : Each SheetAccepted (answers (startingUnit channelCount set) stretches)
-    pub unit-uncut : unitAcross (startingUnit channelCount set) stretches ≡ handedBack channelCount (startingUnit channelCount set) (uncut stretches)
-    pub samples-uncut : (channel : ℕ) → cutSamples channel ≡ allSamples channelCount channel set (uncut stretches)
-    pub limits-uncut : (channel : ℕ) → cutLimits channel ≡ allLimits channelCount channel set (uncut stretches)
-    pub close : (channel : ℕ) → channel < channelCount → (i : ℕ) → CloseAcross channel i
+  -- ---- the claim
 
--- for every accepted band set, every list, and every way to cut it with room for the sheets
-pub record Continuing : Type 0 where
-  pub continued : (set : List ℤ) (stretches : List Stretch) → isAccepted (setVerdict set) ≡ true → Each HasRoom stretches → Continued set stretches
+  -- a list that begins with a cleared unit with this band set, and is cut so
+  module _ (set : List ℤ) (stretches : List Stretch) where
+    -- all frames of a channel: the samples, and whether a section limits
+    abbrev pub cutSamples : ℕ → List ℤ
+    cutSamples channel = samplesAcross channel (startingUnit (length letters) set) stretches
+
+    abbrev pub cutLimits : ℕ → List Bool
+    cutLimits channel = limitsAcross channel (startingUnit (length letters) set) stretches
+
+    -- the channel's sample for frame n, n = i + 1, is close to the exact output of the list that was not cut, "if no section of that side has
+    -- limited up to and including frame n"
+    abbrev pub CloseAcross : ℕ → ℕ → Type 0
+    CloseAcross channel i =
+        i < length (cutSamples channel) → anyOf (take (suc i) (cutLimits channel)) ≡ false → Close (bandsOf set) (suc i) (getD (cutSamples channel) i (pos 0)) (getD (allExacts (length letters) channel set (uncut stretches)) i silent)
+
+    -- every sheet is accepted; unit, samples and limiting are those of the list that was not cut; and demand 3 speaks of every frame
+    pub record Continued : Type 0 where
+      pub accepted : Each SheetAccepted (answers (startingUnit (length letters) set) stretches)
+      pub unit-uncut : unitAcross (startingUnit (length letters) set) stretches ≡ handedBack (length letters) (startingUnit (length letters) set) (uncut stretches)
+      pub samples-uncut : (channel : ℕ) → cutSamples channel ≡ allSamples (length letters) channel set (uncut stretches)
+      pub limits-uncut : (channel : ℕ) → cutLimits channel ≡ allLimits (length letters) channel set (uncut stretches)
+      pub close : (channel : ℕ) → channel < length letters → (i : ℕ) → CloseAcross channel i
+
+  -- for every accepted band set, every list, and every way to cut it with room for the sheets
+  pub record Continuing : Type 0 where
+    pub continued : (set : List ℤ) (stretches : List Stretch) → isAccepted (setVerdict set) ≡ true → Each HasRoom stretches → Continued set stretches

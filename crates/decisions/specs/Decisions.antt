@@ -11,9 +11,10 @@ use Rattle.refusals.specs.declared.Verdict.the-variants.{Accepted, InputLength}
 use Rattle.bands.specs.House.{houseSet}
 use Rattle.loading.specs.Loading.{loaded}
 use Rattle.orders.specs.declared.Ordered.{Ordered}
-use Rattle.writing.specs.Written.{sheetOf, filled}
+use Rattle.sheet.specs.Sheet.{sideLetters, sheetVerdict, carriedUnit, sheetOf}
+use Rattle.writing.specs.Written.{filled}
 use Rattle.reading.specs.declared.SheetRead.{SheetRead}
-use Rattle.reading.specs.Reading.{sheetVerdict, unitIn, sheetRead}
+use Rattle.reading.specs.Reading.{sheetRead}
 use Rattle.wave_reading.specs.declared.Located.{Located}
 use Rattle.wave_reading.specs.Reading.{dataVerdict}
 use Rattle.wave_writing.specs.Writing.{sizeVerdict}
@@ -25,7 +26,7 @@ use Rattle.decisions.specs.declared.PassEnd.{PassEnd}
 
 -- what is answered for the bytes of a sheet; the reader is given the cleared house unit
 abbrev pub opened : List ℕ → SheetRead
-opened bytes = sheetRead bytes (loaded houseSet .unit)
+opened bytes = sheetRead sideLetters bytes (loaded houseSet .unit)
 
 -- the end of a sound: "A tail of one to three bytes gives 5 after the whole frames are played and the sheet is written"; where sound was
 -- lost on its way out there is neither
@@ -56,17 +57,17 @@ isCall count numbers = (eqb count (length numbers) && ltb 0 count) && areOrders 
 module _ (bytes : List ℕ) (orders : List DeskOrder) where
   -- the orders to the unit that the bytes carry
   abbrev pub deskOrdered : Ordered
-  deskOrdered = orderedAll (unitIn bytes) orders
+  deskOrdered = orderedAll (carriedUnit sideLetters bytes) orders
 
   -- the sheet's refusal, or then that of the first refused order
   unfoldable pub deskVerdict : Verdict
-  deskVerdict = firstOf (sheetVerdict bytes) (deskOrdered .verdict)
+  deskVerdict = firstOf (sheetVerdict sideLetters bytes) (deskOrdered .verdict)
 
   -- all orders accepted, the sheet of the unit after them, at the front of the buffer; one refused, the buffer unchanged
   unfoldable pub deskSheet : List ℕ → List ℕ
-  deskSheet buffer = cond (isAccepted deskVerdict) (filled (deskOrdered .unit) buffer) buffer
+  deskSheet buffer = cond (isAccepted deskVerdict) (filled sideLetters (deskOrdered .unit) buffer) buffer
 
   -- what may go out: of accepted orders, the sheet of the unit after them
   pub record HandsOut (sheet : List ℕ) : Type 0 where
     pub accepted : isAccepted deskVerdict ≡ true
-    pub sheet-is : sheet ≡ sheetOf (deskOrdered .unit)
+    pub sheet-is : sheet ≡ sheetOf sideLetters (deskOrdered .unit)

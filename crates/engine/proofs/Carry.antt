@@ -13,17 +13,18 @@ use Rattle.integers.proofs.Abs.{abs-le}
 use Rattle.integers.proofs.Order.{ltZ-true, ltZ-false}
 use Rattle.rounding.specs.Rounding.{limit}
 use Rattle.rounding.proofs.Limit.{limit-case, limit-inside, limit-low, limit-high, within-bounds, bounds-within}
-use Rattle.bands.specs.Words.{wordLow, wordHigh, isWord}
+use Rattle.words.specs.Words.{wordLow, wordHigh, isWord}
+use Rattle.words.proofs.Laws.{word-size}
 use Rattle.bands.specs.Bands.{bandOf}
 use Rattle.bands.specs.declared.Band.{Band}
-use Rattle.bands.proofs.Laws.{Accepts, band-sizes, word-size}
+use Rattle.bands.proofs.Laws.{Accepts, band-sizes}
+use Rattle.floats.specs.Whole.{float, wholeOf}
+use Rattle.floats.proofs.Quotient.{whole-back}
+use Rattle.floats.proofs.WholeNumbers.{Whole, of-whole, lt-whole, eq-same, eq-itself}
 use Rattle.levels.specs.declared.Level.{Level}
 use Rattle.unit.specs.declared.BandSection.{BandSection}
 use Rattle.unit.specs.Fit.{BandFit, SectionFit, VolumeFit}
 use Rattle.unit.proofs.Ranges.{volume-size}
-use Rattle.floats.specs.Whole.{float, wholeOf}
-use Rattle.floats.proofs.Quotient.{whole-back}
-use Rattle.floats.proofs.WholeNumbers.{Whole, of-whole, lt-whole, eq-same, eq-itself}
 use Rattle.engine.specs.Floats.{largest, Carries, floatBand, bandIn, floatLevel, levelIn, floatSection, bandSectionIn}
 use Rattle.engine.specs.Frame.{greater, limitedFloat, LevelCarries, RaisedAsks}
 

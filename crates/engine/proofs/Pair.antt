@@ -12,14 +12,14 @@ use lib.Ieee.{Float, binary64, ofBits, ofInt, add, mul}
 use borrow.Author.Tests.{eqb-true, eqb-false}
 use Rattle.integers.proofs.Machine.{product-sized}
 use Rattle.integers.proofs.Parts.{terms-eq, var, _⊕_}
-use Rattle.bands.specs.Words.{wordSize}
+use Rattle.lists.specs.Lists.{tabulate, anyOf}
+use Rattle.lists.proofs.Tabulate.{tabulate-cong}
+use Rattle.words.specs.Words.{wordSize}
 use Rattle.bands.specs.Bands.{bandCount}
-use Rattle.unit.specs.Lists.{tabulate, anyOf}
-use Rattle.unit.specs.Frame.{raised, channelFrame, exactMix}
-use Rattle.unit.proofs.Tabulate.{tabulate-cong}
 use Rattle.floats.specs.Whole.{float, wholeOf}
 use Rattle.floats.proofs.Quotient.{whole-back}
 use Rattle.floats.proofs.WholeNumbers.{of-whole, add-whole, mul-whole}
+use Rattle.unit.specs.Frame.{raised, channelFrame, exactMix}
 use Rattle.engine.specs.declared.FloatSection.{FloatSection}
 use Rattle.engine.specs.declared.Sides.{Sides}
 use Rattle.engine.specs.declared.Tallies.{Tallies}

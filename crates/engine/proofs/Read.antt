@@ -9,15 +9,15 @@ use lib.Dec.{T, lit≤}
 use lib.IntN.{pos, natAbs}
 use lib.ListN.{length, getD, replicate, length-replicate, getD-replicate}
 use lib.Ieee.{Float, nan, binary64, ofBits, ofInt, inSigned, toSigned}
-use Rattle.bands.specs.Words.{wordSize}
+use Rattle.lists.proofs.Tabulate.{tabulate-cong, tabulate-all}
+use Rattle.words.specs.Words.{wordSize}
 use Rattle.bands.specs.Bands.{bandCount}
 use Rattle.bands.specs.declared.Band.{Band}
+use Rattle.floats.specs.Whole.{float, wholeOf}
+use Rattle.floats.proofs.Casts.{int-back}
 use Rattle.unit.specs.declared.BandSection.{BandSection}
 use Rattle.unit.specs.Cleared.{clearedBandSection}
 use Rattle.unit.proofs.PastEnd.{zeroBand}
-use Rattle.unit.proofs.Tabulate.{tabulate-cong, tabulate-all}
-use Rattle.floats.specs.Whole.{float, wholeOf}
-use Rattle.floats.proofs.Casts.{int-back}
 use Rattle.engine.specs.declared.Sides.{Sides}
 use Rattle.engine.specs.Floats.{largest, Carries, floatAt, WholeFloats, floatBand, bandIn}
 use Rattle.engine.specs.Layout.{Side, floatBandAt, putSides, sidesAt, bandAtSide, bandsAtSide, sectionAtSide, channelAtSide}

@@ -9,10 +9,10 @@ use lib.IntN.{ℤ, pos, natAbs, _+ℤ_, _-ℤ_, _*ℤ_}
 use lib.Ieee.{Float, binary64, prec, add, sub, mul}
 use Rattle.integers.proofs.Parts.{var, _⊕_, _⊖_, terms-eq}
 use Rattle.integers.proofs.Machine.{sum-sized, difference-sized, product-sized}
+use Rattle.words.specs.Words.{wordSize}
+use Rattle.bands.specs.declared.Band.{Band}
 use Rattle.floats.specs.Whole.{float}
 use Rattle.floats.proofs.WholeNumbers.{Whole, of-whole, mul-whole, add-both, sub-both}
-use Rattle.bands.specs.Words.{wordSize}
-use Rattle.bands.specs.declared.Band.{Band}
 use Rattle.section.specs.Equation.{exactSum}
 
 abbrev pub floatSum : Float → Float → Float → Float → Float → Float → Float

@@ -11,22 +11,23 @@ use lib.ListN.{length}
 use lib.Ieee.{Float, binary64, sub}
 use Rattle.integers.proofs.Parts.{terms-eq, var, _⊕_, _⊖_}
 use Rattle.integers.proofs.Machine.{difference-sized}
-use Rattle.bands.specs.Words.{wordSize}
+use Rattle.lists.specs.Lists.{tabulate, anyOf}
+use Rattle.lists.proofs.Tabulate.{any-snoc, each-at, at-each, tabulate-length}
+use Rattle.words.specs.Words.{wordSize}
+use Rattle.words.proofs.Laws.{word-size}
 use Rattle.bands.specs.Bands.{bandCount}
 use Rattle.bands.specs.declared.Band.{Band}
-use Rattle.bands.proofs.Laws.{word-size}
-use Rattle.levels.specs.Levels.{gainSlope, moved}
+use Rattle.floats.specs.Whole.{float, wholeOf}
+use Rattle.floats.proofs.WholeNumbers.{sub-whole}
 use Rattle.section.specs.Equation.{exactSum, worked}
+use Rattle.levels.specs.Levels.{gainSlope, moved}
 use Rattle.unit.specs.declared.BandSection.{BandSection}
-use Rattle.unit.specs.Lists.{tabulate, anyOf}
 use Rattle.unit.specs.Frame.{sectionWork, sectionFrame, share, sumOf}
 use Rattle.unit.specs.Fit.{BandFit, SectionFit}
-use Rattle.unit.proofs.Tabulate.{any-snoc, sum-snoc, each-at, at-each, tabulate-length}
+use Rattle.unit.proofs.Mix.{sum-snoc}
 use Rattle.unit.proofs.Mix.{shareSize, share-size, exact-size}
 use Rattle.unit.proofs.Ranges.{input-size}
 use Rattle.unit.proofs.Stays.{section-stays}
-use Rattle.floats.specs.Whole.{float, wholeOf}
-use Rattle.floats.proofs.WholeNumbers.{sub-whole}
 use Rattle.engine.specs.declared.FloatSection.{FloatSection}
 use Rattle.engine.specs.declared.Tally.{Tally}
 use Rattle.engine.specs.declared.Turned.{Turned}

@@ -6,12 +6,12 @@ use Prim.Native.Nat.{ℕ, suc, _+_, _*_, _^_, _<_}
 use lib.IntN.{ℤ, pos, _+ℤ_}
 use lib.ListN.{length}
 use lib.Ieee.{Float, lt}
+use Rattle.lists.specs.Lists.{Each}
 use Rattle.rounding.specs.Rounding.{limit}
-use Rattle.floats.specs.Whole.{float, wholeOf}
-use Rattle.bands.specs.Words.{wordSize, wordLow, wordHigh, isWord}
+use Rattle.words.specs.Words.{wordSize, wordLow, wordHigh, isWord}
 use Rattle.bands.specs.Bands.{bandCount}
+use Rattle.floats.specs.Whole.{float, wholeOf}
 use Rattle.unit.specs.declared.BandSection.{BandSection}
-use Rattle.unit.specs.Lists.{Each}
 use Rattle.unit.specs.Frame.{sectionWork, sectionFrame, share, channelFrame, exactMix}
 use Rattle.unit.specs.Fit.{BandFit, SectionFit, ChannelFit}
 use Rattle.engine.specs.declared.FloatBand.{FloatBand}

@@ -7,12 +7,12 @@ use mathlib.Core.List.{List, [], _∷_}
 use Prim.Native.Nat.{ℕ, zero, suc, _+_, _*_}
 use lib.ListN.{set, drop}
 use lib.Ieee.{Float}
-use Rattle.floats.specs.Whole.{wholeOf}
+use Rattle.lists.specs.Lists.{tabulate}
 use Rattle.bands.specs.Bands.{bandCount, bandSize}
 use Rattle.bands.specs.declared.Band.{Band}
+use Rattle.floats.specs.Whole.{wholeOf}
 use Rattle.unit.specs.declared.BandSection.{BandSection}
 use Rattle.unit.specs.declared.Channel.{Channel}
-use Rattle.unit.specs.Lists.{tabulate}
 use Rattle.engine.specs.declared.FloatBand.{FloatBand}
 use Rattle.engine.specs.declared.FloatSection.{FloatSection}
 use Rattle.engine.specs.declared.Sides.{Sides}

@@ -39,9 +39,9 @@ const MIX_SCALE: f64 = 8388608.0;
 const OUTPUT_SCALE: f64 = 2147483648.0;
 
 // The ends of a word.
-const WORD_LOW: f64 = bands::WORD_LOW as f64;
+const WORD_LOW: f64 = words::WORD_LOW as f64;
 
-const WORD_HIGH: f64 = bands::WORD_HIGH as f64;
+const WORD_HIGH: f64 = words::WORD_HIGH as f64;
 
 // The ends of a sample: 16 bits, signed.
 const SAMPLE_LOW: f64 = -32768.0;

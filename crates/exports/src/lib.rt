@@ -8,13 +8,13 @@ ghost use Rattle.bands.specs.Bands.{bandVerdict, bandOf};
 ghost use Rattle.bands.specs.House.{houseSet};
 ghost use Rattle.section.specs.Equation.{flag};
 ghost use Rattle.section.specs.Step.{stepped};
+ghost use Rattle.preview.specs.Preview.{buffersOf};
 ghost use Rattle.levels.specs.Levels.{ramp};
 ghost use Rattle.unit.specs.Fit.{unitFits};
 ghost use Rattle.loading.specs.Loading.{loaded};
-ghost use Rattle.numbers.specs.Layout.{unitOf, numbersOf};
 ghost use Rattle.wave_reading.specs.Reading.{found};
 ghost use Rattle.wave_writing.specs.Writing.{writeVerdict, written};
-ghost use Rattle.preview.specs.Preview.{buffersOf};
+ghost use Rattle.numbers.specs.Layout.{unitOf, numbersOf};
 ghost use Rattle.lending.specs.Layout.{loneSection, loneNumbers, answerOf, PreviewGives, BlockGives, OrderGives, SheetWriteGives, SheetReadGives};
 use bands::Band;
 use lending::StepAnswer;
@@ -96,7 +96,7 @@ pub extern "C" fn fonddrys_level_moved(present: i32, target: i32, slope: u32) ->
     after.present as i32
 }
 
-// 1 where the unit of the 118 lent numbers, in the order of the strip sheet, is fit, else 0.
+// 1 where the unit of the 118 lent numbers is fit, else 0.
 #[no_mangle]
 pub extern "C" fn fonddrys_unit_fit(numbers: &[i32; numbers::UNIT_SIZE]) -> u32
     ensures { λ r. ⌜ r ≡ flag (unitFits (unitOf (now (numbers .entry)))) ⌝ }
@@ -176,7 +176,7 @@ pub extern "C" fn fonddrys_sheet_write(
 ) -> usize
     ensures { λ r. ⌜ SheetWriteGives (now (numbers .entry)) (now (buffer .entry)) r (now (buffer .exit)) ⌝ }
 {
-    writing::fill_numbers(numbers, buffer)
+    lending::sheet_write(numbers, buffer)
 }
 
 // Reads a strip sheet: the lent numbers are then those of the unit that it carries. 0 for an accepted sheet, else the number of its

@@ -1,7 +1,7 @@
 // Whether a unit is fit: each of its numbers is one that the strip sheet can carry.
 ghost use mathlib.Core.Path.{_≡_};
-ghost use Rattle.bands.specs.Words.{isWord};
-ghost use Rattle.unit.specs.Lists.{every};
+ghost use Rattle.lists.specs.Lists.{every};
+ghost use Rattle.words.specs.Words.{isWord};
 ghost use Rattle.unit.specs.Fit.{isInput, volumeFits, bandFits, sectionFits, channelFits, unitFits};
 use bands::Band;
 use levels::Level;
@@ -29,10 +29,10 @@ pub fn is_fit(unit: Unit) -> bool
 fn volume_fits(level: Level) -> bool
     ensures { λ r. ⌜ r ≡ volumeFits level ⌝ }
 {
-    if !rounding::in_range(0, bands::WORD_HIGH, level.present) {
+    if !rounding::in_range(0, words::WORD_HIGH, level.present) {
         return false;
     }
-    rounding::in_range(0, bands::WORD_HIGH, level.target)
+    rounding::in_range(0, words::WORD_HIGH, level.target)
 }
 
 // Whether every band is accepted.
@@ -97,7 +97,7 @@ fn input_fits(v: i64) -> bool
 pub fn is_input(v: i32) -> bool
     ensures { λ r. ⌜ r ≡ isInput v ⌝ }
 {
-    if !bands::is_word(v) {
+    if !words::is_word(v) {
         return false;
     }
     v - 256 * (v >> 8) <= 0
@@ -139,5 +139,5 @@ fn section_fits(section: BandSection) -> bool
 fn is_word(v: i64) -> bool
     ensures { λ r. ⌜ r ≡ isWord v ⌝ }
 {
-    rounding::in_range(bands::WORD_LOW, bands::WORD_HIGH, v)
+    rounding::in_range(words::WORD_LOW, words::WORD_HIGH, v)
 }

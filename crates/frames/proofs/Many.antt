@@ -5,9 +5,9 @@ use Prim.Native.Nat.{ℕ, zero, suc, _+_, _*_, _<_}
 use native.Mathlib.Omega.{arith}
 use lib.IntN.{ℤ}
 use lib.ListN.{length, length-append, length-map}
+use Rattle.lists.specs.Lists.{Each}
 use Rattle.unit.specs.declared.Channel.{Channel}
 use Rattle.unit.specs.declared.Unit.{Unit}
-use Rattle.unit.specs.Lists.{Each}
 use Rattle.unit.specs.Frame.{unitFrame, mix, output, heard}
 use Rattle.unit.specs.Fit.{Fit}
 use Rattle.unit.specs.Shaped.{Shaped}

@@ -7,9 +7,9 @@ use native.Mathlib.Omega.{arith}
 use lib.IntN.{ℤ}
 use lib.ListN.{length}
 use lib.Ieee.{Float}
+use Rattle.lists.specs.Lists.{Each}
 use Rattle.floats.specs.Whole.{float, wholeOf}
 use Rattle.unit.specs.declared.Channel.{Channel}
-use Rattle.unit.specs.Lists.{Each}
 use Rattle.unit.specs.Frame.{channelFrame, exactMix}
 use Rattle.unit.specs.Fit.{isInput, BandFit, ChannelFit}
 use Rattle.unit.proofs.Ranges.{input-size}

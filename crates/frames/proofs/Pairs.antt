@@ -12,15 +12,15 @@ use lib.Seq.{drop-at, take-at, drop-drop, getD-take, getD-drop, length-take-le}
 use lib.Ieee.{Float, nan}
 use borrow.Author.Tests.{eqb-true, eqb-false}
 use borrow.Rule.Slice.PartMut.{putMid}
+use Rattle.lists.specs.Lists.{Each}
+use Rattle.lists.proofs.Tabulate.{each-getD}
 use Rattle.bands.specs.declared.Band.{Band}
 use Rattle.levels.specs.declared.Level.{Level}
 use Rattle.unit.specs.declared.Channel.{Channel}
 use Rattle.unit.specs.declared.Unit.{Unit}
-use Rattle.unit.specs.Lists.{Each}
 use Rattle.unit.specs.Cleared.{clearedChannel}
 use Rattle.unit.specs.Frame.{mix, output, heard}
 use Rattle.unit.specs.Fit.{BandFit, ChannelFit}
-use Rattle.unit.proofs.Tabulate.{each-getD}
 use Rattle.engine.specs.declared.FloatLevel.{FloatLevel}
 use Rattle.engine.specs.Floats.{floatAt, WholeFloats, floatLevel, levelIn}
 use Rattle.engine.specs.Layout.{sideCount, pairFloats, Side, firstSide, secondSide, bandsAtSide, channelAtSide, channelsIn}

@@ -9,15 +9,15 @@ use lib.Dec.{lit≤}
 use lib.IntN.{ℤ, natAbs}
 use lib.ListN.{length}
 use lib.Ieee.{Float}
+use Rattle.lists.proofs.Tabulate.{tabulate-length}
 use Rattle.rounding.specs.Rounding.{nearest}
-use Rattle.floats.specs.Whole.{float, wholeOf}
 use Rattle.bands.specs.Bands.{bandCount}
+use Rattle.floats.specs.Whole.{float, wholeOf}
 use Rattle.levels.specs.declared.Level.{Level}
 use Rattle.unit.specs.declared.Channel.{Channel}
 use Rattle.unit.specs.Frame.{exactMix, mix, output}
 use Rattle.unit.specs.Fit.{isInput, VolumeFit, ChannelFit}
 use Rattle.unit.proofs.Ranges.{input-size}
-use Rattle.unit.proofs.Tabulate.{tabulate-length}
 use Rattle.engine.specs.declared.FloatLevel.{FloatLevel}
 use Rattle.engine.specs.declared.Sides.{Sides}
 use Rattle.engine.specs.Floats.{Carries, floatAt, WholeFloats, floatLevel, levelIn}

@@ -10,14 +10,14 @@ use lib.IntN.{ℤ, pos}
 use lib.ListN.{length, getD, take, drop, length-append, length-drop, List·getD-append}
 use lib.Seq.{getD-take, getD-drop, getD-append-add, drop-drop, length-take-le}
 use lib.Ieee.{Float, nan}
+use Rattle.lists.proofs.Tabulate.{tabulate-cong}
 use Rattle.bands.specs.Bands.{bandCount}
 use Rattle.bands.specs.declared.Band.{Band}
+use Rattle.floats.specs.Whole.{wholeOf}
 use Rattle.levels.specs.Levels.{volumeSlope, moved}
 use Rattle.unit.specs.declared.Channel.{Channel}
 use Rattle.unit.specs.declared.Unit.{Unit}
 use Rattle.unit.specs.Frame.{channelFrame, unitFrame}
-use Rattle.unit.proofs.Tabulate.{tabulate-cong}
-use Rattle.floats.specs.Whole.{wholeOf}
 use Rattle.engine.specs.Floats.{floatAt, WholeFloats, bandSectionIn}
 use Rattle.engine.specs.Layout.{pairFloats, Side, firstSide, secondSide, sectionAtSide, channelAtSide, channelsIn}
 use Rattle.engine.proofs.Store.{IsWhole}

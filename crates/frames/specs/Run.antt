@@ -6,10 +6,10 @@ use Prim.Native.Nat.{ℕ, suc, _+_, _*_, _≤_, _<_}
 use lib.IntN.{ℤ}
 use lib.ListN.{length, drop}
 use lib.Ieee.{Float}
+use Rattle.lists.specs.Lists.{Each}
 use Rattle.rounding.specs.Rounding.{nearest}
 use Rattle.floats.specs.Whole.{float, wholeOf}
 use Rattle.unit.specs.declared.Unit.{Unit}
-use Rattle.unit.specs.Lists.{Each}
 use Rattle.unit.specs.Frame.{exactMix, output}
 use Rattle.unit.specs.Fit.{isInput, VolumeFit, BandFit, ChannelFit, Fit}
 use Rattle.engine.specs.declared.FloatLevel.{FloatLevel}

@@ -3,7 +3,7 @@ ghost use mathlib.Core.Path.{_≡_};
 ghost use mathlib.Core.Bool.{true};
 ghost use Rattle.bands.specs.House.{houseSet};
 ghost use Rattle.loading.specs.Loading.{loaded};
-ghost use Rattle.writing.specs.Written.{sheetOf};
+ghost use Rattle.sheet.specs.Sheet.{sideLetters, sheetOf};
 ghost use Rattle.arguments.specs.Meaning.{requestOf, isPlain};
 use arguments::Request;
 
@@ -50,7 +50,7 @@ fn make_sheet(count: usize, first: &[u8])
 
 // Writes the sheet of the cleared house unit.
 fn hand_out(sheet: &[u8])
-    requires { ⌜ now sheet ≡ sheetOf (loaded houseSet .unit) ⌝ }
+    requires { ⌜ now sheet ≡ sheetOf sideLetters (loaded houseSet .unit) ⌝ }
 {
     console::write_out(sheet);
 }

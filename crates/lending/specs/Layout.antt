@@ -15,9 +15,10 @@ use Rattle.unit.specs.Sizes.{channelCount}
 use Rattle.settings.specs.declared.Setting.{Setting}
 use Rattle.orders.specs.Orders.{ordered}
 use Rattle.blocks.specs.Block.{blockPlayed, blockOutput}
-use Rattle.numbers.specs.Layout.{unitOf, numbersAfter}
+use Rattle.sheet.specs.Sheet.{sideLetters}
 use Rattle.writing.specs.Written.{filledCount, filled}
 use Rattle.reading.specs.Reading.{sheetRead}
+use Rattle.numbers.specs.Layout.{unitOf, numbersAfter}
 use Rattle.lending.specs.declared.StepAnswer.{StepAnswer}
 
 -- a section is seven numbers: A, B, G, x1, x2, y1, y2
@@ -59,10 +60,10 @@ pub record OrderGives (l : List ℤ) (side band : ℕ) (setting : Setting) (numb
 
 -- a sheet that is written: the count of its bytes, and the buffer
 pub record SheetWriteGives (l : List ℤ) (room : List ℕ) (count : ℕ) (after : List ℕ) : Type 0 where
-  pub count-is : count ≡ filledCount (unitOf l) (length room)
-  pub buffer-is : after ≡ filled (unitOf l) room
+  pub count-is : count ≡ filledCount sideLetters (unitOf l) (length room)
+  pub buffer-is : after ≡ filled sideLetters (unitOf l) room
 
 -- a sheet that is read: the refusal's number, and the numbers after it
 pub record SheetReadGives (l : List ℤ) (bytes : List ℕ) (number : ℕ) (after : List ℤ) : Type 0 where
-  pub number-is : number ≡ numberOf (sheetRead bytes (unitOf l) .verdict)
-  pub numbers-are : after ≡ numbersAfter l (sheetRead bytes (unitOf l) .verdict) (sheetRead bytes (unitOf l) .unit)
+  pub number-is : number ≡ numberOf (sheetRead sideLetters bytes (unitOf l) .verdict)
+  pub numbers-are : after ≡ numbersAfter l (sheetRead sideLetters bytes (unitOf l) .verdict) (sheetRead sideLetters bytes (unitOf l) .unit)

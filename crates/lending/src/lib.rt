@@ -4,7 +4,7 @@ ghost use Rattle.refusals.specs.Numbers.{numberOf};
 ghost use Rattle.section.specs.Step.{stepped};
 ghost use Rattle.loading.specs.Loading.{loaded};
 ghost use Rattle.numbers.specs.Layout.{numbersOf};
-ghost use Rattle.lending.specs.Layout.{loneSection, loneNumbers, answerOf, BlockGives, OrderGives, SheetReadGives};
+ghost use Rattle.lending.specs.Layout.{loneSection, loneNumbers, answerOf, BlockGives, OrderGives, SheetWriteGives, SheetReadGives};
 use bands::Band;
 use section::Section;
 use section::Stepped;
@@ -86,13 +86,41 @@ pub fn order(numbers: &mut [i32; numbers::UNIT_SIZE], side: u32, band: u32, sett
     refusals::number(verdict)
 }
 
+// Writes the strip sheet of the unit whose numbers are lent to the front of the buffer, and gives the count of its bytes. From a shorter
+// buffer, or for an unfit unit, the count is 0 and nothing is written.
+pub fn sheet_write(numbers: &[i32; numbers::UNIT_SIZE], buffer: &mut [u8]) -> usize
+    ensures { λ r. ⌜ SheetWriteGives (now (numbers .entry)) (now (buffer .entry)) r (now (buffer .exit)) ⌝ }
+{
+    if buffer.len() < sheet::SHEET_SIZE {
+        return 0;
+    }
+    if !lent_fitness::is_fit(numbers) {
+        return 0;
+    }
+    writing::put_sheet(buffer, numbers::unit_of(numbers));
+    sheet::SHEET_SIZE
+}
+
 // Reads a strip sheet: the lent numbers are then those of the unit that it carries. 0 for an accepted sheet, else the number of its
 // refusal: the lent numbers are then as they were.
 pub fn sheet_read(numbers: &mut [i32; numbers::UNIT_SIZE], bytes: &[u8]) -> u32
     ensures { λ r. ⌜ SheetReadGives (now (numbers .entry)) (now (bytes .entry)) r (now (numbers .exit)) ⌝ }
 {
-    let found = reading::read_numbers(bytes, numbers);
-    refusals::number(found)
+    // Of a refused sheet the numbers stay, whatever unit comes back: the reader is given one of zeros.
+    let zero = Band {
+        alpha: 0,
+        beta: 0,
+        gamma: 0,
+    };
+    let given = unit::cleared([zero; bands::BAND_COUNT]);
+    let answer = reading::read(bytes, given);
+    let verdict = answer.verdict;
+    if !refusals::accepted(verdict) {
+        return refusals::number(verdict);
+    }
+    let carried = answer.unit;
+    *numbers = numbers::numbers_of(carried);
+    refusals::number(verdict)
 }
 
 // An answer as numbers.

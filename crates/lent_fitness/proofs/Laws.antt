@@ -8,13 +8,13 @@ use native.Mathlib.Omega.{arith}
 use lib.IntN.{ℤ, pos}
 use lib.ListN.{length, getD, take, drop, length-drop}
 use lib.Seq.{take-suc, getD-drop}
-use Rattle.bands.specs.Words.{isWord}
+use Rattle.lists.specs.Lists.{tabulate, every, joined}
+use Rattle.lists.proofs.Tabulate.{every-snoc}
+use Rattle.words.specs.Words.{isWord}
 use Rattle.bands.specs.Bands.{bandCount}
 use Rattle.unit.specs.declared.BandSection.{BandSection}
-use Rattle.unit.specs.Lists.{tabulate, every}
 use Rattle.unit.specs.Fit.{sectionFits}
-use Rattle.unit.proofs.Tabulate.{every-snoc}
-use Rattle.numbers.specs.Layout.{headSize, sectionSize, channelSize, joined, sectionNumbers, sectionAt}
+use Rattle.numbers.specs.Layout.{headSize, sectionSize, channelSize, sectionNumbers, sectionAt}
 use Rattle.numbers.proofs.Laws.{sections-numbers}
 
 -- four tests in a row, told by the results of the code's tests

@@ -2,9 +2,9 @@
 ghost use mathlib.Core.Path.{_≡_};
 ghost use Prim.Native.Nat.{_+_, _*_, _≤_};
 ghost use lib.ListN.{length, take, drop};
-ghost use Rattle.bands.specs.Words.{isWord};
+ghost use Rattle.lists.specs.Lists.{every};
+ghost use Rattle.words.specs.Words.{isWord};
 ghost use Rattle.bands.specs.Bands.{bandCount, setSize};
-ghost use Rattle.unit.specs.Lists.{every};
 ghost use Rattle.unit.specs.Cleared.{bandsOf};
 ghost use Rattle.unit.specs.Fit.{volumeFits, bandFits, channelFits, unitFits};
 ghost use Rattle.numbers.specs.Layout.{sectionSize, unitSize, rightPlace, channelOf, unitOf};
@@ -33,8 +33,8 @@ pub fn is_fit(numbers: &[i32; numbers::UNIT_SIZE]) -> bool
 fn volume_fits(numbers: &[i32; numbers::UNIT_SIZE]) -> bool
     ensures { λ r. ⌜ r ≡ volumeFits (unitOf (now (numbers .entry)) .volume) ⌝ }
 {
-    let present = rounding::in_range_i32(0, bands::WORD_MOST, numbers[0]);
-    let target = rounding::in_range_i32(0, bands::WORD_MOST, numbers[1]);
+    let present = rounding::in_range_i32(0, words::WORD_MOST, numbers[0]);
+    let target = rounding::in_range_i32(0, words::WORD_MOST, numbers[1]);
     present & target
 }
 
@@ -75,7 +75,7 @@ fn are_words(numbers: &[i32; numbers::UNIT_SIZE], start: usize) -> bool
     let mut words = true;
     let mut i = 0;
     while i < SECTIONS_SIZE {
-        words = words & bands::is_word(numbers[start + i]);
+        words = words & words::is_word(numbers[start + i]);
         i += 1;
     }
     words

@@ -11,10 +11,10 @@ use lib.IntN.{ℤ, pos}
 use lib.ListN.{length, drop, set, length-set, length-drop}
 use lib.Seq.{getD-set-same, getD-set-other, drop-set-lt, drop-set-add}
 use borrow.Author.Tests.{eqb-true, eqb-false, eq-eqb, ne-eqb, ltb-true, ltb-false}
+use Rattle.lists.specs.Lists.{changed}
 use Rattle.refusals.proofs.Laws.{passed, failed}
 use Rattle.bands.specs.Bands.{bandCount}
 use Rattle.unit.specs.declared.Unit.{Unit}
-use Rattle.unit.specs.Lists.{changed}
 use Rattle.unit.specs.Cleared.{bandsOf}
 use Rattle.settings.specs.Settings.{volumeBand, names}
 use Rattle.orders.specs.Orders.{aimedChannel, aimedVolume, aimedBand, aimedUnit}

@@ -10,10 +10,10 @@ use lib.IntN.{ℤ, pos}
 use lib.ListN.{length, getD, set}
 use lib.Seq.{getD-set-same, getD-set-other}
 use borrow.Author.Tests.{eqb-true, eqb-false}
+use Rattle.lists.proofs.Tabulate.{tabulate-cong}
+use Rattle.lists.proofs.Changed.{changed-tabulate}
 use Rattle.bands.specs.Bands.{bandSize, bandCount, setSize}
 use Rattle.unit.specs.Cleared.{bandsOf, clearedBandSection}
-use Rattle.unit.proofs.Tabulate.{tabulate-cong}
-use Rattle.unit.proofs.Changed.{changed-tabulate}
 use Rattle.orders.specs.Orders.{aimedSection, aimedChannel}
 use Rattle.numbers.specs.Layout.{channelSize, place, sectionAt, channelOf}
 

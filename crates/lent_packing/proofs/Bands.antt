@@ -7,8 +7,8 @@ use lib.IntN.{ℤ, pos}
 use lib.ListN.{drop, length}
 use lib.Seq.{getD-drop}
 use lib.Ieee.{Float}
+use Rattle.lists.proofs.Tabulate.{tabulate-cong}
 use Rattle.bands.specs.Bands.{bandCount, setSize, bandAt}
-use Rattle.unit.proofs.Tabulate.{tabulate-cong}
 use Rattle.floats.specs.Whole.{wholeOf}
 use Rattle.engine.specs.Floats.{floatAt}
 use Rattle.engine.specs.Layout.{bandFloats, setFloats, Side, firstSide, secondSide, bandAtSide, bandsAtSide}

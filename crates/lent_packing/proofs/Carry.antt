@@ -10,13 +10,13 @@ use mathlib.Core.Bool.{Bool, true, false}
 use borrow.Author.Tests.{ltb-true, ltb-false}
 use lib.ListN.{length}
 use lib.Ieee.{Float}
-use Rattle.bands.specs.Words.{wordSize, isWord}
+use Rattle.lists.proofs.Tabulate.{each-at}
+use Rattle.words.specs.Words.{wordSize, isWord}
+use Rattle.words.proofs.Laws.{word-size}
 use Rattle.bands.specs.Bands.{bandCount}
-use Rattle.bands.proofs.Laws.{word-size}
-use Rattle.unit.specs.Fit.{SectionFit, ChannelFit}
-use Rattle.unit.proofs.Tabulate.{each-at}
-use Rattle.unit.proofs.Ranges.{input-size, flag-size}
 use Rattle.floats.specs.Whole.{wholeOf}
+use Rattle.unit.specs.Fit.{SectionFit, ChannelFit}
+use Rattle.unit.proofs.Ranges.{input-size, flag-size}
 use Rattle.engine.specs.Floats.{Carries, floatAt, WholeFloats}
 use Rattle.engine.specs.Layout.{sectionFloats, pairFloats, firstSide, secondSide, sectionAtSide, channelAtSide}
 

@@ -8,8 +8,8 @@ use lib.IntN.{ℤ, pos}
 use lib.ListN.{length, drop}
 use lib.Seq.{getD-drop}
 use lib.Ieee.{Float}
+use Rattle.lists.proofs.Tabulate.{tabulate-cong}
 use Rattle.bands.specs.Bands.{bandCount}
-use Rattle.unit.proofs.Tabulate.{tabulate-cong}
 use Rattle.floats.specs.Whole.{wholeOf}
 use Rattle.engine.specs.Floats.{floatAt}
 use Rattle.engine.specs.Layout.{sectionFloats, pairFloats, Side, firstSide, secondSide, sectionAtSide, channelAtSide}

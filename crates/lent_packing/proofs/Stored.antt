@@ -8,10 +8,10 @@ use lib.IntN.{ℤ, pos}
 use lib.ListN.{length, drop, set, length-set}
 use lib.Seq.{getD-set-same, getD-set-other, getD-drop}
 use lib.Ieee.{Float}
+use Rattle.lists.proofs.Tabulate.{tabulate-cong}
 use Rattle.bands.specs.Bands.{bandCount, setSize}
-use Rattle.unit.specs.Cleared.{bandsOf}
-use Rattle.unit.proofs.Tabulate.{tabulate-cong}
 use Rattle.floats.specs.Whole.{wholeOf}
+use Rattle.unit.specs.Cleared.{bandsOf}
 use Rattle.engine.specs.declared.FloatLevel.{FloatLevel}
 use Rattle.numbers.specs.Layout.{headSize, sectionSize, bandsPlace, leftPlace, rightPlace, unitSize, numbersOf, unitOf}
 use Rattle.numbers.proofs.Laws.{numbers-of-unit}

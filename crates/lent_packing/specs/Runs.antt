@@ -6,8 +6,8 @@ use Prim.Native.Nat.{ℕ, _+_, _*_, _≤_, _<_}
 use lib.IntN.{ℤ, pos}
 use lib.ListN.{length, getD}
 use lib.Ieee.{Float}
+use Rattle.words.specs.Words.{wordSize}
 use Rattle.floats.specs.Whole.{wholeOf}
-use Rattle.bands.specs.Words.{wordSize}
 use Rattle.engine.specs.Floats.{Carries, floatAt, WholeFloats}
 use Rattle.engine.specs.Layout.{sideCount}
 use Rattle.numbers.specs.Layout.{unitSize}

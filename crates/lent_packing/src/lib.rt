@@ -3,7 +3,7 @@
 // bands.
 ghost use mathlib.Core.Path.{_≡_};
 ghost use lib.ListN.{drop};
-ghost use Rattle.bands.specs.Words.{wordSize};
+ghost use Rattle.words.specs.Words.{wordSize};
 ghost use Rattle.floats.specs.Whole.{wholeOf};
 ghost use Rattle.engine.specs.Floats.{Carries, floatLevel};
 ghost use Rattle.packing.specs.Packing.{BandFloatsGives, PairFloatsGives, floatSides};

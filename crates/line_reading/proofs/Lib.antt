@@ -1,11 +1,7 @@
 -- The laws of reading a line.
---     Parts    parts one after the other, and what is stored of them
---     Field    a field, by the number that reading it gives
---     Whole    a line as a part: its verdict, and its numbers where it is accepted
---     Repeat   equal parts one after the other, read by a loop
+--     Field    a field, by the number that reading it gives, and one field and then others
+--     Fields   fields of one range, read by a loop
 --     Line     a line: its letter, its fields, and what stands behind them
-pub mod Parts
 pub mod Field
-pub mod Whole
-pub mod Repeat
+pub mod Fields
 pub mod Line

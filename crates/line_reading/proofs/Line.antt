@@ -1,65 +1,128 @@
 -- A line: its letter, its fields, and what stands behind them.
-use mathlib.Core.Path.{_≡_, refl, sym, ap, _∙_}
-use mathlib.Core.Bool.{Bool, true, false}
+use mathlib.Core.Path.{_≡_, refl, sym, ap, ap₂, _∙_}
+use mathlib.Core.Bool.{Bool, true, false, _&&_}
 use mathlib.Core.List.{List}
-use Prim.Native.Nat.{ℕ, _+_, _*_, _≤_}
+use Prim.Native.Nat.{ℕ, _+_, _*_, _-_, _≤_, _<_}
 use native.Mathlib.Nat.{add-zero}
+use native.Mathlib.Omega.{arith}
+use lib.Dec.{eqb, leb}
 use lib.IntN.{ℤ}
-use lib.ListN.{length, getD, take, drop}
-use lib.Seq.{getD-drop, drop-drop}
-use Rattle.refusals.specs.Numbers.{isAccepted}
+use lib.ListN.{length, getD, take, drop, length-drop}
+use lib.Seq.{sets, getD-drop, drop-drop}
+use borrow.Author.Tests.{eq-eqb, ne-eqb, le-leb, lt-leb}
+use Rattle.lists.proofs.Stores.{stored-part}
+use Rattle.refusals.specs.Numbers.{isAccepted, unless, firstOf}
 use Rattle.refusals.specs.declared.Verdict.{Verdict}
+use Rattle.refusals.specs.declared.Verdict.the-variants.{Accepted, LineMark}
+use Rattle.refusals.proofs.Laws.{first-accepted, first-refused}
 use Rattle.fields.specs.Fields.{fieldSize}
-use Rattle.fields.proofs.Stores.{stored-part}
-use Rattle.sheet.specs.Lines.{lineFeed}
-use Rattle.line_reading.specs.Line.{fieldNumbers, markVerdict}
-use Rattle.line_reading.specs.Parts.{Part, andThen, fieldsPart, letterPart, endPart, ReadGives}
-use Rattle.line_reading.proofs.Parts.{Leads, on, off, past, tested, restored}
-use Rattle.line_reading.proofs.Whole.{fields-numbers, fields-long}
+use Rattle.forms.specs.Line.{lineFeed, lineSize, fieldsVerdict, fieldNumbers, letterVerdict, endVerdict, lineVerdict, lineForm}
+use Rattle.forms.proofs.Line.{letter-room, field-numbers-length}
+use Rattle.line_reading.specs.Gives.{FieldsGive, LineGives}
+use Rattle.line_reading.proofs.Field.{refusal}
 
--- a byte tested at its place is tested in the part from another place on
-pub mark-at : (bytes : List ℕ) (at k place : ℕ) (wanted : ℕ) → place ≡ at + k → markVerdict (getD bytes place 0) wanted ≡ markVerdict (getD (drop at bytes) k 0) wanted
-mark-at bytes at k place wanted e = ap (λ (b : ℕ). markVerdict b wanted) (ap (λ (p : ℕ). getD bytes p 0) e ∙ sym (getD-drop at bytes k 0))
+-- ---- the letter and the line end
 
--- a line end
-pub line-ended : (bytes : List ℕ) (at n place : ℕ) → place ≡ at + (fieldSize * n + 1) → {v : Verdict} → v ≡ markVerdict (getD bytes place 0) lineFeed → {l : List ℤ} {spot : ℕ} → ReadGives (endPart n (drop at bytes)) l spot v l
-line-ended bytes at n place e q = tested (q ∙ mark-at bytes at (fieldSize * n + 1) place lineFeed e)
+module _ (bytes : List ℕ) (at : ℕ) where
+  abbrev from : List ℕ
+  from = drop at bytes
 
-module _ (letter : ℕ) (ranges : List (ℤ → Bool)) (behind : Part) (bytes : List ℕ) (at : ℕ) (l : List ℤ) (place : ℕ) {u : Verdict} (front : u ≡ markVerdict (getD bytes at 0) letter) where
-  abbrev fields : Part
-  fields = fieldsPart ranges (drop 1 (drop at bytes))
+  module _ (letter n : ℕ) where
+    -- the first byte from the place on
+    first-byte : getD from 0 0 ≡ getD bytes at 0
+    first-byte = getD-drop at bytes 0 0 ∙ ap (λ (k : ℕ). getD bytes k 0) (add-zero at)
 
-  abbrev pub line : Part
-  line = andThen (letterPart letter (drop at bytes)) (andThen fields behind)
+    -- fewer bytes are left than the line has
+    pub letter-short : length bytes - at < fieldSize * n + 2 → letterVerdict letter n from ≡ LineMark
+    letter-short h =
+        ap (λ (t : Bool). unless (t && eqb (getD from 0 0) letter) LineMark Accepted) (lt-leb (lineSize n) (length from) (omega (arith, length-drop at bytes)))
 
-  front-is : u ≡ letterPart letter (drop at bytes) .verdict
-  front-is = front ∙ mark-at bytes at 0 at letter (sym (add-zero at))
+    -- the first byte is not the letter, with room or without
+    pub letter-wrong : (getD bytes at 0 ≡ letter → ⊥) → letterVerdict letter n from ≡ LineMark
+    letter-wrong h =
+        ap (λ (t : Bool). unless (leb (lineSize n) (length from) && t) LineMark Accepted) (ne-eqb (getD from 0 0) letter (λ e. h (sym first-byte ∙ e)))
+        ∙ and-false (leb (lineSize n) (length from))
+      where
+        and-false : (t : Bool) → unless (t && false) LineMark Accepted ≡ LineMark
+        and-false true = refl
+        and-false false = refl
 
-  -- its letter is refused
-  pub letter-refused : isAccepted u ≡ false → ReadGives line l place u l
-  letter-refused e = off (letterPart letter (drop at bytes)) (andThen fields behind) (λ v m s. s) (tested front-is) e
+    -- it is, and there is room
+    pub letter-right : fieldSize * n + 2 ≤ length bytes - at → getD bytes at 0 ≡ letter → letterVerdict letter n from ≡ Accepted
+    letter-right h e =
+        ap₂ (λ (s t : Bool). unless (s && t) LineMark Accepted) (le-leb (lineSize n) (length from) (omega (arith, length-drop at bytes)))
+        (eq-eqb (getD from 0 0) letter (first-byte ∙ e))
 
-  module _ (e : isAccepted u ≡ true) {v : Verdict} {m : List ℤ} (s : ReadGives (fieldsPart ranges (drop (at + 1) bytes)) l place v m) where
-    leads : Leads (andThen fields behind) l place line l place
-    leads = past (letterPart letter (drop at bytes) .verdict) (andThen fields behind) (λ v m s. s) front-is e
+  -- the line end by the last byte
+  pub end-tested : (n : ℕ) (t : Bool) → eqb (getD bytes (at + fieldSize * n + 1) 0) lineFeed ≡ t → endVerdict n from ≡ unless t LineMark Accepted
+  end-tested n t e =
+      ap (λ (b : ℕ). unless (eqb b lineFeed) LineMark Accepted) (getD-drop at bytes (fieldSize * n + 1) 0 ∙ ap (λ (k : ℕ). getD bytes k 0) same)
+      ∙ ap (λ (u : Bool). unless u LineMark Accepted) e
+    where
+      same : at + (fieldSize * n + 1) ≡ at + fieldSize * n + 1
+      same = omega arith
 
-    here : ReadGives fields l place v m
-    here = restored (ap (fieldsPart ranges) (sym (drop-drop 1 at bytes))) refl s
+-- where the letter is accepted, the line's bytes are there
+pub room-from : (letter n : ℕ) (bytes : List ℕ) (at : ℕ) → at ≤ length bytes → {u : Verdict} → u ≡ letterVerdict letter n (drop at bytes) → isAccepted u ≡ true → at + lineSize n ≤ length bytes
+room-from letter n bytes at h e f =
+    omega (arith, length-drop at bytes, letter-room letter n (drop at bytes) (ap isAccepted (sym e) ∙ f))
 
-    -- one of its fields is refused
-    pub fields-refused : isAccepted v ≡ false → ReadGives line l place v m
-    fields-refused q = off fields behind leads here q
+-- ---- what is read of a line of so many fields
 
-    accepted : isAccepted v ≡ true → isAccepted (fields .verdict) ≡ true
-    accepted q = ap isAccepted (sym (here .verdict-is)) ∙ q
+module _ (letter : ℕ) (ranges : List (ℤ → Bool)) (joint : List ℤ → Verdict) (n : ℕ) (long : length ranges ≡ n) (bytes : List ℕ) (at : ℕ) (before : List ℤ) (place : ℕ) {u : Verdict} (front : u ≡ letterVerdict letter n (drop at bytes)) where
+  abbrev numbers : List ℤ
+  numbers = fieldNumbers (length ranges) (drop 1 (drop at bytes))
 
-    -- they are accepted
-    pub fields-passed : isAccepted v ≡ true → Leads behind m (place + length ranges) line l place
-    fields-passed q = on fields behind leads here q (length ranges) (fields-long ranges (drop 1 (drop at bytes)) (accepted q))
+  abbrev end : Verdict
+  end = endVerdict (length ranges) (drop at bytes)
 
-    -- and their numbers stand at the place
-    pub fields-there : isAccepted v ≡ true → place + length ranges ≤ length l → take (length ranges) (drop place m) ≡ fieldNumbers (length ranges) (drop 1 (drop at bytes))
-    fields-there q h =
-        ap (λ (r : List ℤ). take (length ranges) (drop place r)) (here .numbers-are)
-        ∙ stored-part (fields .numbers) l place (length ranges) (fields-long ranges (drop 1 (drop at bytes)) (accepted q)) h
-        ∙ fields-numbers ranges (drop 1 (drop at bytes)) (accepted q)
+  abbrev fields : Verdict
+  fields = fieldsVerdict ranges (drop 1 (drop at bytes))
+
+  -- the verdict, by that of the letter
+  line-is : lineVerdict letter ranges joint (drop at bytes) ≡ firstOf u (firstOf fields (firstOf (joint numbers) end))
+  unfolding lineVerdict
+  line-is =
+      ap (λ (v : Verdict). firstOf v (firstOf fields (firstOf (joint numbers) end)))
+      (ap (λ (k : ℕ). letterVerdict letter k (drop at bytes)) long ∙ sym front)
+
+  -- the letter is refused
+  pub letter-refused : isAccepted u ≡ false → LineGives (lineForm letter ranges joint) (drop at bytes) before place u before
+  letter-refused f = refusal (sym (line-is ∙ first-refused u (firstOf fields (firstOf (joint numbers) end)) f)) refl f
+
+  module _ (e : isAccepted u ≡ true) {v : Verdict} {m : List ℤ} (s : FieldsGive ranges (drop (at + 1) bytes) before place v m) where
+    -- the bytes behind the letter
+    past : drop (at + 1) bytes ≡ drop 1 (drop at bytes)
+    past = sym (drop-drop 1 at bytes)
+
+    -- by that of the fields
+    fields-is : lineVerdict letter ranges joint (drop at bytes) ≡ firstOf v (firstOf (joint numbers) end)
+    fields-is =
+        line-is ∙ first-accepted u (firstOf fields (firstOf (joint numbers) end)) e
+        ∙ ap (λ (w : Verdict). firstOf w (firstOf (joint numbers) end)) (ap (fieldsVerdict ranges) (sym past) ∙ sym (s .verdict-is))
+
+    -- one of the fields is refused
+    pub fields-refused : isAccepted v ≡ false → LineGives (lineForm letter ranges joint) (drop at bytes) before place v m
+    fields-refused f = refusal (sym (fields-is ∙ first-refused v (firstOf (joint numbers) end) f)) (s .size-is) f
+
+    module _ (q : isAccepted v ≡ true) where
+      -- the fields are accepted: the numbers are stored
+      stored : m ≡ sets before place numbers
+      stored = s .numbers-are q ∙ ap (λ (l : List ℕ). sets before place (fieldNumbers (length ranges) l)) past
+
+      -- and stand at the place
+      pub numbers-there : place + n ≤ length before → take n (drop place m) ≡ numbers
+      numbers-there h =
+          ap (λ (l : List ℤ). take n (drop place l)) stored
+          ∙ stored-part numbers before place n (field-numbers-length (length ranges) (drop 1 (drop at bytes)) ∙ long) h
+
+      -- what stands behind them is left
+      pub line-ended : {x : Verdict} → x ≡ firstOf (joint numbers) (endVerdict n (drop at bytes)) → LineGives (lineForm letter ranges joint) (drop at bytes) before place x m
+      line-ended h =
+          record {
+            verdict-is =
+                h ∙ ap (λ (k : ℕ). firstOf (joint numbers) (endVerdict k (drop at bytes))) (sym long)
+                ∙ sym (fields-is ∙ first-accepted v (firstOf (joint numbers) end) q);
+            size-is = s .size-is;
+            numbers-are = λ k. stored;
+          }

@@ -1,3 +1,2 @@
--- Reading a line.
-pub mod Line
-pub mod Parts
+-- What reading into lent slots gives.
+pub mod Gives

@@ -1,136 +1,141 @@
-// Reading a line of the strip sheet into a unit's numbers. Each routine stops at the first refusal; it has then stored the numbers ahead of it.
+// Reading a line of the strip sheet into lent slots. Each routine stops at the first refusal; the slots of a refused line then hold nothing of
+// use.
 ghost use mathlib.Core.Path.{_≡_};
 ghost use Prim.Native.Nat.{_+_, _*_, _≤_};
 ghost use lib.ListN.{length, take, drop, replicate};
 ghost use Rattle.rounding.specs.Rounding.{within};
+ghost use Rattle.refusals.specs.Numbers.{firstOf};
 ghost use Rattle.bands.specs.Bands.{bandSize, bandVerdict, bandAt};
 ghost use Rattle.unit.specs.Fit.{isInput};
-ghost use Rattle.numbers.specs.Layout.{unitSize};
-ghost use Rattle.fields.specs.Fields.{fieldSize};
-ghost use Rattle.sheet.specs.Lines.{channelRanges, fieldCount, lineSize};
-ghost use Rattle.line_reading.specs.Line.{markVerdict};
-ghost use Rattle.line_reading.specs.Parts.{fieldPart, fieldsPart, plainPart, linePart, ReadGives};
+ghost use Rattle.fields.specs.Fields.{fieldSize, fieldAt};
+ghost use Rattle.forms.specs.Line.{lineSize, letterVerdict, endVerdict, lineForm, alone};
+ghost use Rattle.sheet.specs.Lines.{volumeLetter, volumeRanges, bandLetter, bandRanges, bandJoint, headRanges, headForm, sectionLetter, sectionRanges, rowSize};
+ghost use Rattle.line_reading.specs.Gives.{FieldGives, FieldsGive, LineGives};
 use refusals::Verdict;
-use sheet::Line;
 
 // The numbers of nine digits: a number of a C line has no range by itself.
 const LEAST: i32 = -999_999_999;
 
 const MOST: i32 = 999_999_999;
 
-// Where the flag of an L or an R line stands behind its first field.
-const FLAG_AT: usize = fields::FIELD_SIZE * numbers::FLAG;
+// The number of an L or an R line that is the flag, and where its field stands behind the line's first field.
+const FLAG: usize = sheet::HEAD_FIELDS - 1;
+
+const FLAG_AT: usize = fields::FIELD_SIZE * FLAG;
+
+// Reads the V line from place at on: two numbers from 0 to the largest word.
+pub fn read_volume(bytes: &[u8], at: usize, slots: &mut [i32]) -> Verdict
+    requires { ⌜ (at ≤ length (now bytes)) × (length (now slots) ≡ length volumeRanges) ⌝ }
+    ensures { λ r. ⌜ LineGives (lineForm volumeLetter volumeRanges alone) (drop at (now (bytes .entry))) (now (slots .entry)) 0 r (now (slots .exit)) ⌝ }
+{
+    read_line(
+        bytes,
+        at,
+        sheet::VOLUME_LETTER,
+        sheet::VOLUME_FIELDS,
+        0,
+        words::WORD_MOST,
+        slots,
+        0,
+    )
+}
+
+// Reads an S line from place at on: four words.
+pub fn read_section(bytes: &[u8], at: usize, slots: &mut [i32], place: usize) -> Verdict
+    requires { ⌜ (at ≤ length (now bytes)) × (place + length sectionRanges ≤ length (now slots)) ⌝ }
+    ensures { λ r. ⌜ LineGives (lineForm sectionLetter sectionRanges alone) (drop at (now (bytes .entry))) (now (slots .entry)) place r (now (slots .exit)) ⌝ }
+{
+    read_line(
+        bytes,
+        at,
+        sheet::SECTION_LETTER,
+        sheet::SECTION_FIELDS,
+        words::WORD_LEAST,
+        words::WORD_MOST,
+        slots,
+        place,
+    )
+}
 
 // Reads a line from place at on: a letter, so many fields of one range, a line feed.
-pub fn read_line(
+fn read_line(
     bytes: &[u8],
     at: usize,
     letter: u8,
     count: usize,
     low: i32,
     high: i32,
-    numbers: &mut [i32; numbers::UNIT_SIZE],
+    slots: &mut [i32],
     place: usize,
 ) -> Verdict
-    requires { ⌜ (at + (fieldSize * count + 2) ≤ length (now bytes)) × (length (now numbers) ≡ unitSize) × (place + count ≤ unitSize) ⌝ }
-    ensures { λ r. ⌜ ReadGives (plainPart letter (replicate count (within low high)) (drop at (now (bytes .entry)))) (now (numbers .entry)) place r (now (numbers .exit)) ⌝ }
+    requires { ⌜ (at ≤ length (now bytes)) × (count ≤ rowSize) × (place + count ≤ length (now slots)) ⌝ }
+    ensures { λ r. ⌜ LineGives (lineForm letter (replicate count (within low high)) alone) (drop at (now (bytes .entry))) (now (slots .entry)) place r (now (slots .exit)) ⌝ }
 {
-    let front = check_mark(bytes[at], letter);
+    let front = check_letter(bytes, at, letter, count);
     if !refusals::accepted(front) {
         return front;
     }
-    let middle = read_fields(bytes, at + 1, count, low, high, numbers, place);
+    let middle = read_fields(bytes, at + 1, count, low, high, slots, place);
     if !refusals::accepted(middle) {
         return middle;
     }
-    check_mark(bytes[at + fields::FIELD_SIZE * count + 1], sheet::LINE_FEED)
+    check_end(bytes, at, count)
 }
 
 // Reads a C line from place at on: 8 to 10 stand behind its fields and ahead of its line end.
-pub fn read_band(
-    bytes: &[u8],
-    at: usize,
-    numbers: &mut [i32; numbers::UNIT_SIZE],
-    place: usize,
-) -> Verdict
-    requires { ⌜ (at + lineSize Line.Band ≤ length (now bytes)) × (length (now numbers) ≡ unitSize) × (place + fieldCount Line.Band ≤ unitSize) ⌝ }
-    ensures { λ r. ⌜ ReadGives (linePart Line.Band (drop at (now (bytes .entry)))) (now (numbers .entry)) place r (now (numbers .exit)) ⌝ }
+pub fn read_band(bytes: &[u8], at: usize, slots: &mut [i32], place: usize) -> Verdict
+    requires { ⌜ (at ≤ length (now bytes)) × (place + bandSize ≤ length (now slots)) ⌝ }
+    ensures { λ r. ⌜ LineGives (lineForm bandLetter bandRanges bandJoint) (drop at (now (bytes .entry))) (now (slots .entry)) place r (now (slots .exit)) ⌝ }
 {
-    let front = check_mark(bytes[at], sheet::BAND_LETTER);
+    let front = check_letter(bytes, at, sheet::BAND_LETTER, sheet::BAND_FIELDS);
     if !refusals::accepted(front) {
         return front;
     }
-    let middle = read_fields(
-        bytes,
-        at + 1,
-        sheet::BAND_FIELDS,
-        LEAST,
-        MOST,
-        numbers,
-        place,
-    );
+    let middle = read_fields(bytes, at + 1, sheet::BAND_FIELDS, LEAST, MOST, slots, place);
     if !refusals::accepted(middle) {
         return middle;
     }
-    let joint = check_band_at(numbers, place);
-    if !refusals::accepted(joint) {
-        return joint;
-    }
-    check_mark(bytes[at + sheet::BAND_END], sheet::LINE_FEED)
+    let joint = check_band_at(slots, place);
+    let end = check_end(bytes, at, sheet::BAND_FIELDS);
+    first_of(joint, end)
 }
 
 // Reads an L or an R line from place at on.
-pub fn read_head(
-    bytes: &[u8],
-    at: usize,
-    letter: u8,
-    numbers: &mut [i32; numbers::UNIT_SIZE],
-    place: usize,
-) -> Verdict
-    requires { ⌜ (at + lineSize Line.Left ≤ length (now bytes)) × (length (now numbers) ≡ unitSize) × (place + fieldCount Line.Left ≤ unitSize) ⌝ }
-    ensures { λ r. ⌜ ReadGives (plainPart letter channelRanges (drop at (now (bytes .entry)))) (now (numbers .entry)) place r (now (numbers .exit)) ⌝ }
+pub fn read_head(bytes: &[u8], at: usize, letter: u8, slots: &mut [i32]) -> Verdict
+    requires { ⌜ (at ≤ length (now bytes)) × (length (now slots) ≡ length headRanges) ⌝ }
+    ensures { λ r. ⌜ LineGives (headForm letter) (drop at (now (bytes .entry))) (now (slots .entry)) 0 r (now (slots .exit)) ⌝ }
 {
-    let front = check_mark(bytes[at], letter);
+    let front = check_letter(bytes, at, letter, sheet::HEAD_FIELDS);
     if !refusals::accepted(front) {
         return front;
     }
-    let middle = read_state(bytes, at + 1, numbers, place);
+    let middle = read_head_fields(bytes, at + 1, slots);
     if !refusals::accepted(middle) {
         return middle;
     }
-    check_mark(bytes[at + sheet::CHANNEL_END], sheet::LINE_FEED)
+    check_end(bytes, at, sheet::HEAD_FIELDS)
 }
 
 // Reads the fields of an L or an R line from place at on: two inputs and a flag.
-fn read_state(
-    bytes: &[u8],
-    at: usize,
-    numbers: &mut [i32; numbers::UNIT_SIZE],
-    place: usize,
-) -> Verdict
-    requires { ⌜ (at + fieldSize * fieldCount Line.Left ≤ length (now bytes)) × (length (now numbers) ≡ unitSize) × (place + fieldCount Line.Left ≤ unitSize) ⌝ }
-    ensures { λ r. ⌜ ReadGives (fieldsPart channelRanges (drop at (now (bytes .entry)))) (now (numbers .entry)) place r (now (numbers .exit)) ⌝ }
+fn read_head_fields(bytes: &[u8], at: usize, slots: &mut [i32]) -> Verdict
+    requires { ⌜ (at + fieldSize * length headRanges ≤ length (now bytes)) × (length (now slots) ≡ length headRanges) ⌝ }
+    ensures { λ r. ⌜ FieldsGive headRanges (drop at (now (bytes .entry))) (now (slots .entry)) 0 r (now (slots .exit)) ⌝ }
 {
-    let first = read_input(bytes, at, numbers, place);
+    let first = read_input(bytes, at, slots, 0);
     if !refusals::accepted(first) {
         return first;
     }
-    let second = read_input(bytes, at + fields::FIELD_SIZE, numbers, place + 1);
+    let second = read_input(bytes, at + fields::FIELD_SIZE, slots, 1);
     if !refusals::accepted(second) {
         return second;
     }
-    read_fields(bytes, at + FLAG_AT, 1, 0, 1, numbers, place + numbers::FLAG)
+    read_fields(bytes, at + FLAG_AT, 1, 0, 1, slots, FLAG)
 }
 
 // Reads the field of an input from place at on.
-fn read_input(
-    bytes: &[u8],
-    at: usize,
-    numbers: &mut [i32; numbers::UNIT_SIZE],
-    place: usize,
-) -> Verdict
-    requires { ⌜ (at + fieldSize ≤ length (now bytes)) × (length (now numbers) ≡ unitSize) × (place + 1 ≤ unitSize) ⌝ }
-    ensures { λ r. ⌜ ReadGives (fieldPart isInput (take fieldSize (drop at (now (bytes .entry))))) (now (numbers .entry)) place r (now (numbers .exit)) ⌝ }
+fn read_input(bytes: &[u8], at: usize, slots: &mut [i32], place: usize) -> Verdict
+    requires { ⌜ (at + fieldSize ≤ length (now bytes)) × (place + 1 ≤ length (now slots)) ⌝ }
+    ensures { λ r. ⌜ FieldGives isInput (fieldAt (now (bytes .entry)) at) (now (slots .entry)) place r (now (slots .exit)) ⌝ }
 {
     let input = field_reading::read_field(bytes, at);
     if input == fields::NO_NUMBER {
@@ -139,7 +144,7 @@ fn read_input(
     if !fitness::is_input(input) {
         return Verdict::Unfit;
     }
-    numbers[place] = input;
+    slots[place] = input;
     Verdict::Accepted
 }
 
@@ -150,11 +155,11 @@ fn read_fields(
     count: usize,
     low: i32,
     high: i32,
-    numbers: &mut [i32; numbers::UNIT_SIZE],
+    slots: &mut [i32],
     place: usize,
 ) -> Verdict
-    requires { ⌜ (at + fieldSize * count ≤ length (now bytes)) × (length (now numbers) ≡ unitSize) × (place + count ≤ unitSize) ⌝ }
-    ensures { λ r. ⌜ ReadGives (fieldsPart (replicate count (within low high)) (drop at (now (bytes .entry)))) (now (numbers .entry)) place r (now (numbers .exit)) ⌝ }
+    requires { ⌜ (at + fieldSize * count ≤ length (now bytes)) × (place + count ≤ length (now slots)) ⌝ }
+    ensures { λ r. ⌜ FieldsGive (replicate count (within low high)) (drop at (now (bytes .entry))) (now (slots .entry)) place r (now (slots .exit)) ⌝ }
 {
     let mut i = 0;
     while i < count {
@@ -165,28 +170,52 @@ fn read_fields(
         if !rounding::in_range_i32(low, high, number) {
             return Verdict::Unfit;
         }
-        numbers[place + i] = number;
+        slots[place + i] = number;
         i += 1;
     }
     Verdict::Accepted
 }
 
-// 12 where the byte is not the one wanted.
-fn check_mark(byte: u8, wanted: u8) -> Verdict
-    ensures { λ r. ⌜ r ≡ markVerdict byte wanted ⌝ }
+// 12 where fewer bytes are left from place at on than a line of so many fields has, or the first of them is not its letter.
+fn check_letter(bytes: &[u8], at: usize, letter: u8, count: usize) -> Verdict
+    requires { ⌜ (at ≤ length (now bytes)) × (count ≤ rowSize) ⌝ }
+    ensures { λ r. ⌜ r ≡ letterVerdict letter count (drop at (now (bytes .entry))) ⌝ }
 {
-    if byte != wanted {
+    if bytes.len() - at < fields::FIELD_SIZE * count + 2 {
+        return Verdict::LineMark;
+    }
+    if bytes[at] != letter {
+        return Verdict::LineMark;
+    }
+    Verdict::Accepted
+}
+
+// 12 where the line of so many fields from place at on does not end with a line feed.
+fn check_end(bytes: &[u8], at: usize, count: usize) -> Verdict
+    requires { ⌜ at + lineSize count ≤ length (now bytes) ⌝ }
+    ensures { λ r. ⌜ r ≡ endVerdict count (drop at (now (bytes .entry))) ⌝ }
+{
+    if bytes[at + fields::FIELD_SIZE * count + 1] != sheet::LINE_FEED {
         return Verdict::LineMark;
     }
     Verdict::Accepted
 }
 
 // 8 to 10 for the three numbers from `place` on.
-fn check_band_at(numbers: &[i32; numbers::UNIT_SIZE], place: usize) -> Verdict
-    requires { ⌜ (length (now numbers) ≡ unitSize) × (place + bandSize ≤ unitSize) ⌝ }
-    ensures { λ r. ⌜ r ≡ bandVerdict (bandAt (take bandSize (drop place (now (numbers .entry)))) 0) ⌝ }
+fn check_band_at(slots: &[i32], place: usize) -> Verdict
+    requires { ⌜ place + bandSize ≤ length (now slots) ⌝ }
+    ensures { λ r. ⌜ r ≡ bandVerdict (bandAt (take bandSize (drop place (now (slots .entry)))) 0) ⌝ }
 {
-    let all = &numbers[..];
-    let band = bands::band_at(&all[place..place + bands::BAND_SIZE], 0);
+    let band = bands::band_at(&slots[place..place + bands::BAND_SIZE], 0);
     bands::check_band(band)
+}
+
+// The verdict where it is a refusal, or else the next one.
+fn first_of(verdict: Verdict, next: Verdict) -> Verdict
+    ensures { λ r. ⌜ r ≡ firstOf verdict next ⌝ }
+{
+    if !refusals::accepted(verdict) {
+        return verdict;
+    }
+    next
 }

@@ -1,17 +1,15 @@
--- Reading behind a start, and storing from the front: one number, some numbers, and one store after another.
+-- Storing from the front: one number, some numbers, and one store after another.
 use mathlib.Core.Path.{_≡_, refl, sym, ap, _∙_, subst}
 use mathlib.Core.List.{List, [], _∷_, _++_, append-assoc, append-nil}
 use Prim.Native.Nat.{ℕ, _+_, _-_, _≤_, _<_}
 use native.Mathlib.Numerals.{add-one}
 use native.Mathlib.Omega.{arith}
-use lib.IntN.{ℤ, pos}
+use lib.IntN.{ℤ}
 use lib.ListN.{length, getD, take, drop, set, length-set}
-use lib.Seq.{take-suc-set, take-all, take-suc, getD-drop, drop-drop, drop-set-lt}
-use Rattle.numbers.specs.Layout.{unitSize, joined, PutGives}
-
--- the number behind a start
-pub behind : (l : List ℤ) (start i j : ℕ) → j ≡ start + i → getD l j (pos 0) ≡ getD (drop start l) i (pos 0)
-behind l start i j e = ap (λ (n : ℕ). getD l n (pos 0)) e ∙ sym (getD-drop start l i (pos 0))
+use lib.Seq.{take-suc-set, take-all, take-suc, drop-drop, drop-set-lt}
+use Rattle.lists.specs.Lists.{joined}
+use Rattle.lists.proofs.Joined.{joined-snoc}
+use Rattle.numbers.specs.Layout.{unitSize, PutGives}
 
 -- ---- stores
 
@@ -65,17 +63,6 @@ module _ (l : List ℤ) (i : ℕ) (h : length l ≡ unitSize) where
   put-four k p q r s = put-next (put-three (omega arith) p q r) (omega arith) (i + 4) (omega arith) s
 
 -- ---- what is joined of entries, one entry after the other
-
-pub joined-snoc : {A B : Type 0} (f : A → List B) (l : List A) (a : A) → joined f (l ++ (a ∷ [])) ≡ joined f l ++ f a
-joined-snoc f [] a = append-nil (f a)
-joined-snoc {B = B} f (b ∷ l) a = ap (λ (x : List B). f b ++ x) (joined-snoc f l a) ∙ sym (append-assoc (f b) (joined f l) (f a))
-
--- of two entries
-pub joined-two : {A : Type 0} (f : A → List ℤ) (l : List A) (d : A) → length l ≡ 2 → joined f l ≡ f (getD l 0 d) ++ f (getD l 1 d)
-joined-two f [] d e = absurd (omega arith)
-joined-two f (a ∷ []) d e = absurd (omega arith)
-joined-two f (a ∷ b ∷ []) d e = ap (λ (x : List ℤ). f a ++ x) (append-nil (f b))
-joined-two f (a ∷ b ∷ c ∷ l) d e = absurd (omega arith)
 
 module _ {A : Type 0} (f : A → List ℤ) (entries : List A) (d : A) where
   joined-next : (b : ℕ) → b < length entries → joined f (take (b + 1) entries) ≡ joined f (take b entries) ++ f (getD entries b d)

@@ -6,18 +6,18 @@ use native.Mathlib.Omega.{arith}
 use lib.IntN.{ℤ, pos}
 use lib.ListN.{length, getD, drop, length-append}
 use lib.Seq.{drop-at, drop-drop}
+use Rattle.lists.specs.Lists.{tabulate, Each, joined}
+use Rattle.lists.proofs.Tabulate.{tabulate-cong, tabulate-all}
 use Rattle.bands.specs.Bands.{bandCount, bandAt, setSize}
 use Rattle.bands.specs.declared.Band.{Band}
 use Rattle.unit.specs.Sizes.{channelCount}
 use Rattle.unit.specs.declared.BandSection.{BandSection}
 use Rattle.unit.specs.declared.Channel.{Channel}
 use Rattle.unit.specs.declared.Unit.{Unit}
-use Rattle.unit.specs.Lists.{tabulate, Each}
 use Rattle.unit.specs.Cleared.{bandsOf, clearedBandSection}
 use Rattle.unit.specs.Shaped.{TenSections, Shaped}
-use Rattle.unit.proofs.Tabulate.{tabulate-cong, tabulate-all}
 use Rattle.unit.proofs.PastEnd.{zeroBand}
-use Rattle.numbers.specs.Layout.{channelSize, unitSize, joined, bandNumbers, sectionNumbers, channelNumbers, numbersOf, place, sectionAt, channelOf, unitOf}
+use Rattle.numbers.specs.Layout.{channelSize, unitSize, bandNumbers, sectionNumbers, channelNumbers, numbersOf, place, sectionAt, channelOf, unitOf}
 
 -- ---- how many numbers
 

@@ -1,11 +1,11 @@
--- The unit as flat numbers, in the order of docs/SPECIFICATION.md, The strip sheet. Definitions only.
--- "In order: V (volume, target); ten C (A, B, G); L (x1, x2, flag); ten S (y1, y2, gain, target); R as L; ten S."
+-- The unit as flat numbers, in the order of docs/SPECIFICATION.md, The C library. Definitions only.
 use mathlib.Core.Path.{_≡_}
 use mathlib.Core.Bool.{cond}
 use mathlib.Core.List.{List, [], _∷_, _++_}
 use Prim.Native.Nat.{ℕ, _+_, _*_, _≤_}
 use lib.IntN.{ℤ, pos}
 use lib.ListN.{length, getD, take, drop}
+use Rattle.lists.specs.Lists.{tabulate, joined}
 use Rattle.refusals.specs.Numbers.{isAccepted}
 use Rattle.refusals.specs.declared.Verdict.{Verdict}
 use Rattle.bands.specs.Bands.{bandCount, setSize}
@@ -14,14 +14,13 @@ use Rattle.levels.specs.declared.Level.{Level}
 use Rattle.unit.specs.declared.BandSection.{BandSection}
 use Rattle.unit.specs.declared.Channel.{Channel}
 use Rattle.unit.specs.declared.Unit.{Unit}
-use Rattle.unit.specs.Lists.{tabulate}
 use Rattle.unit.specs.Cleared.{bandsOf}
 
--- "(x1, x2, flag)"
+-- "x1, x2, flag"
 abbrev pub headSize : ℕ
 headSize = 3
 
--- "(y1, y2, gain, target)"
+-- "y1, y2, gain, target of each section"
 abbrev pub sectionSize : ℕ
 sectionSize = 4
 
@@ -45,24 +44,19 @@ unitSize = rightPlace + channelSize
 
 -- ---- a unit's numbers
 
--- what f gives for each entry, one entry after the other
-abbrev pub joined : {A B : Type 0} → (A → List B) → List A → List B
-joined f [] = []
-joined f (a ∷ rest) = f a ++ joined f rest
-
--- "V (volume, target)"
+-- "the volume, its target"
 abbrev pub volumeNumbers : Level → List ℤ
 volumeNumbers v = v .present ∷ v .target ∷ []
 
--- "C (A, B, G)"
+-- "A, B, G of each band"
 abbrev pub bandNumbers : Band → List ℤ
 bandNumbers band = band .alpha ∷ band .beta ∷ band .gamma ∷ []
 
--- "S (y1, y2, gain, target)"
+-- "y1, y2, gain, target of each section"
 abbrev pub sectionNumbers : BandSection → List ℤ
 sectionNumbers s = s .y1 ∷ s .y2 ∷ s .gain .present ∷ s .gain .target ∷ []
 
--- "L (x1, x2, flag); ten S"
+-- "x1, x2, flag, then y1, y2, gain, target of each section"
 abbrev pub channelNumbers : Channel → List ℤ
 channelNumbers c = c .x1 ∷ c .x2 ∷ c .flag ∷ joined sectionNumbers (c .sections)
 

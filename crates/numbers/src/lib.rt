@@ -1,13 +1,13 @@
-// The unit as 118 numbers of 32 bits, in the order of the strip sheet: the volume and its target; A, B, G of each band; then of the
+// The unit as 118 numbers of 32 bits, in the order of the C library: the volume and its target; A, B, G of each band; then of the
 // left and of the right channel x1, x2, flag, and y1, y2, gain and target of each section.
 ghost use mathlib.Core.Path.{_≡_};
 ghost use Prim.Native.Nat.{_*_, _+_, _<_, _≤_};
 ghost use lib.IntN.{pos};
 ghost use lib.ListN.{length, getD, drop};
+ghost use Rattle.lists.specs.Lists.{Each, joined};
 ghost use Rattle.bands.specs.Bands.{bandSize, bandCount};
-ghost use Rattle.unit.specs.Lists.{Each};
 ghost use Rattle.unit.specs.Fit.{VolumeFit, SectionFit, ChannelFit, Fit};
-ghost use Rattle.numbers.specs.Layout.{sectionSize, channelSize, unitSize, bandsPlace, leftPlace, rightPlace, joined, volumeNumbers, bandNumbers, sectionNumbers, channelNumbers, numbersOf, sectionAt, channelOf, unitOf, PutGives};
+ghost use Rattle.numbers.specs.Layout.{sectionSize, channelSize, unitSize, bandsPlace, leftPlace, rightPlace, volumeNumbers, bandNumbers, sectionNumbers, channelNumbers, numbersOf, sectionAt, channelOf, unitOf, PutGives};
 use bands::Band;
 use levels::Level;
 use unit::BandSection;

@@ -5,16 +5,16 @@ use Prim.Native.Nat.{ℕ}
 use lib.Dec.{eqb}
 use lib.IntN.{ℤ}
 use borrow.Author.Tests.{eqb-true}
+use Rattle.lists.proofs.Changed.{changed-length, changed-each}
+use Rattle.words.specs.Words.{isWord}
 use Rattle.refusals.specs.Numbers.{isAccepted}
 use Rattle.refusals.specs.declared.Verdict.the-variants.{Unfit}
 use Rattle.refusals.proofs.Laws.{unless-accepted}
-use Rattle.bands.specs.Words.{isWord}
 use Rattle.unit.specs.Fit.{isVolume, SectionFit, ChannelFit, Fit, unitFits}
 use Rattle.unit.specs.Shaped.{TenSections, Shaped}
 use Rattle.unit.specs.declared.BandSection.{BandSection}
 use Rattle.unit.specs.declared.Channel.{Channel}
 use Rattle.unit.specs.declared.Unit.{Unit}
-use Rattle.unit.proofs.Changed.{changed-length, changed-each}
 use Rattle.unit.proofs.Fitness.{fit-of-test, test-of-fit}
 use Rattle.settings.specs.declared.Setting.{Setting}
 use Rattle.settings.specs.Settings.{volumeBand, names, targetOf, orderArguments}

@@ -3,11 +3,11 @@ use mathlib.Core.Bool.{cond}
 use Prim.Native.Nat.{ℕ}
 use lib.Dec.{eqb}
 use lib.IntN.{ℤ}
+use Rattle.lists.specs.Lists.{changed}
 use Rattle.refusals.specs.Numbers.{unless, isAccepted}
 use Rattle.refusals.specs.declared.Verdict.{Verdict}
 use Rattle.refusals.specs.declared.Verdict.the-variants.{Unfit}
 use Rattle.levels.specs.Levels.{aimed}
-use Rattle.unit.specs.Lists.{changed}
 use Rattle.unit.specs.Fit.{unitFits}
 use Rattle.unit.specs.declared.BandSection.{BandSection}
 use Rattle.unit.specs.declared.Channel.{Channel}

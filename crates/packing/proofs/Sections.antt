@@ -10,13 +10,13 @@ use mathlib.Core.Bool.{true}
 use lib.ListN.{length, getD}
 use lib.Ieee.{Float}
 use borrow.Author.Count.{below-more}
-use Rattle.bands.specs.Words.{isWord}
+use Rattle.words.specs.Words.{isWord}
+use Rattle.words.proofs.Laws.{word-size}
 use Rattle.bands.specs.Bands.{bandCount}
-use Rattle.bands.proofs.Laws.{word-size}
+use Rattle.floats.specs.Whole.{float}
 use Rattle.unit.specs.declared.BandSection.{BandSection}
 use Rattle.unit.specs.Cleared.{clearedBandSection}
 use Rattle.unit.specs.Fit.{SectionFit}
-use Rattle.floats.specs.Whole.{float}
 use Rattle.engine.specs.Floats.{floatAt, WholeFloats, floatSection, bandSectionIn}
 use Rattle.engine.specs.Layout.{sectionFloats, pairFloats, firstSide, secondSide, putSection, sectionAtSide}
 use Rattle.engine.proofs.Carry.{section-back}

@@ -5,13 +5,13 @@ use Prim.Native.Nat.{ℕ, zero, suc, _+_, _*_, _≤_, _<_}
 use native.Mathlib.Omega.{arith}
 use lib.IntN.{natAbs}
 use lib.Ieee.{Float}
-use Rattle.bands.specs.Words.{wordSize}
+use Rattle.lists.proofs.Tabulate.{each-at}
+use Rattle.words.specs.Words.{wordSize}
+use Rattle.words.proofs.Laws.{word-size}
 use Rattle.bands.specs.Bands.{bandCount}
-use Rattle.bands.proofs.Laws.{word-size}
-use Rattle.unit.specs.Fit.{SectionFit}
-use Rattle.unit.proofs.Tabulate.{each-at}
-use Rattle.unit.proofs.Ranges.{input-size, flag-size}
 use Rattle.floats.specs.Whole.{wholeOf}
+use Rattle.unit.specs.Fit.{SectionFit}
+use Rattle.unit.proofs.Ranges.{input-size, flag-size}
 use Rattle.engine.specs.Floats.{Carries, floatAt, bandSectionIn}
 use Rattle.engine.specs.Layout.{sideCount, sectionFloats, pairFloats, floatSectionAt, sectionAtSide}
 use Rattle.packing.specs.Packing.{pairSide, SectionOfAsks, ChannelOfAsks}

@@ -5,15 +5,15 @@ use Prim.Native.Nat.{ℕ, zero, suc, _+_, _*_, _≤_, _<_}
 use lib.IntN.{ℤ, natAbs}
 use lib.ListN.{length}
 use lib.Ieee.{Float}
-use Rattle.bands.specs.Words.{wordSize}
+use Rattle.lists.specs.Lists.{Each}
+use Rattle.words.specs.Words.{wordSize}
 use Rattle.bands.specs.Bands.{bandCount}
 use Rattle.bands.specs.declared.Band.{Band}
+use Rattle.floats.specs.Whole.{float}
 use Rattle.levels.specs.declared.Level.{Level}
 use Rattle.unit.specs.declared.Channel.{Channel}
 use Rattle.unit.specs.declared.BandSection.{BandSection}
-use Rattle.unit.specs.Lists.{Each}
 use Rattle.unit.specs.Fit.{SectionFit, ChannelFit}
-use Rattle.floats.specs.Whole.{float}
 use Rattle.engine.specs.declared.FloatSection.{FloatSection}
 use Rattle.engine.specs.declared.Sides.{Sides}
 use Rattle.engine.specs.Floats.{Carries, floatAt, WholeFloats}

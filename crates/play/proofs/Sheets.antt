@@ -4,27 +4,29 @@ use mathlib.Core.Bool.{true}
 use mathlib.Core.List.{List}
 use Prim.Native.Nat.{ℕ}
 use Rattle.refusals.specs.Numbers.{isAccepted}
+use Rattle.bands.specs.House.{houseSet}
 use Rattle.unit.specs.declared.Unit.{Unit}
 use Rattle.unit.proofs.Fitness.{fit-of-test}
+use Rattle.loading.specs.Loading.{loaded}
 use Rattle.stream.specs.Claim.{begun, Ready}
+use Rattle.sheet.specs.Sheet.{sideLetters, sheetVerdict, carriedUnit}
 use Rattle.reading.specs.declared.SheetRead.{SheetRead}
-use Rattle.reading.specs.Reading.{sheetVerdict, unitIn, sheetRead}
-use Rattle.reading.proofs.Laws.{read-accepted}
+use Rattle.reading.specs.Reading.{sheetRead}
 use Rattle.roundtrip.specs.Claim.{ReadsAs}
 use Rattle.roundtrip.proofs.Holds.{round-trip}
 use Rattle.decisions.specs.Decisions.{opened}
 
 -- an accepted sheet reads as the unit that is answered
-pub sheet-reads : (bytes : List ℕ) (r : SheetRead) → r ≡ opened bytes → isAccepted (r .verdict) ≡ true → ReadsAs bytes (r .unit)
+pub sheet-reads : (bytes : List ℕ) (r : SheetRead) → r ≡ opened bytes → isAccepted (r .verdict) ≡ true → ReadsAs sideLetters bytes (r .unit)
 unfolding sheetRead
-sheet-reads bytes r e accepted = subst (ReadsAs bytes) (sym unit-is) (round-trip .accepted-reads bytes yes)
+sheet-reads bytes r e accepted = subst (ReadsAs sideLetters bytes) (sym unit-is) (round-trip sideLetters .accepted-reads bytes yes)
   where
-    yes : isAccepted (sheetVerdict bytes) ≡ true
+    yes : isAccepted (sheetVerdict sideLetters bytes) ≡ true
     yes = sym (ap (λ (a : SheetRead). isAccepted (a .verdict)) e) ∙ accepted
 
-    unit-is : r .unit ≡ unitIn bytes
-    unit-is = ap (λ (a : SheetRead). a .unit) (e ∙ read-accepted bytes _ yes)
+    unit-is : r .unit ≡ carriedUnit sideLetters bytes
+    unit-is = ap (λ (a : SheetRead). a .unit) (e ∙ round-trip sideLetters .accepted-reads bytes yes (loaded houseSet .unit))
 
 -- and that unit can play a stream
-pub sheet-ready : (bytes : List ℕ) (u : Unit) → ReadsAs bytes u → Ready (begun u)
-sheet-ready bytes u reads = record { fit = fit-of-test u (round-trip .accepted-fit bytes u reads); channels-are = round-trip .accepted-shaped bytes u reads .channels }
+pub sheet-ready : (bytes : List ℕ) (u : Unit) → ReadsAs sideLetters bytes u → Ready (begun u)
+sheet-ready bytes u reads = record { fit = fit-of-test u (round-trip sideLetters .accepted-fit bytes u reads); channels-are = round-trip sideLetters .accepted-shaped bytes u reads .channels }

@@ -2,6 +2,7 @@
 // to strip.new; asked for wave files, their data. A refusal is one line on standard error, its number. What is answered is decided in `decisions`; here it
 // is followed.
 ghost use mathlib.Core.Path.{_≡_};
+ghost use Rattle.sheet.specs.Sheet.{sideLetters};
 ghost use Rattle.roundtrip.specs.Claim.{ReadsAs};
 ghost use Rattle.arguments.specs.Meaning.{requestOf};
 ghost use Rattle.decisions.specs.Decisions.{opened, endingOf};
@@ -101,7 +102,7 @@ fn answer_sheet(bytes: &[u8], verdict: Verdict)
 
 // A pass through the unit that the sheet of these bytes carries.
 fn pass(bytes: &[u8], unit: Unit, is_wave: bool)
-    requires { ⌜ ReadsAs (now bytes) unit ⌝ }
+    requires { ⌜ ReadsAs sideLetters (now bytes) unit ⌝ }
 {
     if is_wave {
         waves::pass(unit);

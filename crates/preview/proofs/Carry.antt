@@ -7,10 +7,11 @@ use native.Mathlib.Nat.{le-trans, lt-of-le-of-lt}
 use lib.Dec.{T, lit≤, lit<}
 use lib.IntN.{ℤ, natAbs}
 use lib.Ieee.{binary64, prec, toSigned, inSigned}
+use Rattle.words.specs.Words.{wordSize, isWord}
+use Rattle.words.proofs.Laws.{word-size}
 use Rattle.refusals.specs.Numbers.{isAccepted}
 use Rattle.bands.specs.Bands.{bandOf}
-use Rattle.bands.specs.Words.{wordSize, isWord}
-use Rattle.bands.proofs.Laws.{Accepts, band-sizes, word-size}
+use Rattle.bands.proofs.Laws.{Accepts, band-sizes}
 use Rattle.floats.specs.Whole.{float, isMinusZero}
 use Rattle.floats.proofs.Casts.{int-back}
 use Rattle.floats.proofs.Quotient.{whole-back}

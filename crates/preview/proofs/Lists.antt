@@ -11,11 +11,11 @@ use lib.ListN.{length, drop, getD, set, length-map, length-append, length-drop}
 use lib.Seq.{drop-cons, set-at, append-snoc}
 use borrow.Author.Tests.{leb-true}
 use Rattle.integers.proofs.Order.{both-true}
+use Rattle.words.specs.Words.{isWord}
 use Rattle.refusals.specs.Numbers.{isAccepted, unless}
 use Rattle.refusals.specs.declared.Verdict.{Verdict}
 use Rattle.refusals.specs.declared.Verdict.the-variants.{Accepted, OutputShort, NotWord}
 use Rattle.refusals.proofs.Laws.{unless-accepted, first-both}
-use Rattle.bands.specs.Words.{isWord}
 use Rattle.bands.specs.Bands.{bandVerdict}
 use Rattle.bands.specs.declared.Band.{Band}
 use Rattle.section.specs.declared.Section.{Section}

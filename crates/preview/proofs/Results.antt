@@ -11,7 +11,7 @@ use lib.Ieee.{Float, fin, binary64, prec, ofInt, lt, sub, mul, div}
 use Rattle.integers.proofs.Machine.{product-sized}
 use Rattle.rounding.specs.Rounding.{nearest, taken, limit}
 use Rattle.rounding.proofs.Nearest.{nearest-size}
-use Rattle.bands.specs.Words.{wordLow, wordHigh}
+use Rattle.words.specs.Words.{wordLow, wordHigh}
 use Rattle.floats.specs.Whole.{float, NearestWholeAsks, wholeOf}
 use Rattle.floats.proofs.WholeNumbers.{Whole, of-whole, sub-whole, mul-whole, lt-whole}
 use Rattle.floats.proofs.Quotient.{quotient-roundable, quotient-whole}

@@ -9,9 +9,9 @@ use lib.IntN.{ℤ, pos, natAbs, _+ℤ_, _-ℤ_, _*ℤ_, +ℤ-idl}
 use lib.Ieee.{Float, binary64, prec, add, sub, mul}
 use Rattle.integers.proofs.Parts.{var, _⊕_, _⊖_, terms-eq}
 use Rattle.integers.proofs.Machine.{difference-sized, product-sized}
-use Rattle.floats.specs.Whole.{float}
-use Rattle.bands.specs.Words.{wordSize}
+use Rattle.words.specs.Words.{wordSize}
 use Rattle.bands.specs.declared.Band.{Band}
+use Rattle.floats.specs.Whole.{float}
 use Rattle.floats.proofs.WholeNumbers.{Whole, of-whole, add-whole, sub-whole, mul-whole}
 use Rattle.section.specs.Equation.{exactSum}
 use Rattle.section.specs.Asks.{ExactSumAsks}

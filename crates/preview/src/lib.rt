@@ -7,8 +7,8 @@ ghost use mathlib.Core.Path.{_≡_};
 ghost use mathlib.Core.Bool.{true};
 ghost use lib.ListN.{length};
 ghost use Rattle.rounding.specs.Rounding.{limit};
+ghost use Rattle.words.specs.Words.{wordLow, wordHigh};
 ghost use Rattle.refusals.specs.Numbers.{isAccepted};
-ghost use Rattle.bands.specs.Words.{wordLow, wordHigh};
 ghost use Rattle.floats.specs.Whole.{float, wholeOf};
 ghost use Rattle.section.specs.Step.{clearedSection, stepped};
 ghost use Rattle.preview.specs.Preview.{areWords, previewVerdict, previewed, buffersOf, sectionBuffers};
@@ -72,7 +72,7 @@ fn are_words(words: &[i32]) -> bool
 {
     let mut i = 0;
     while i < words.len() {
-        if !bands::is_word(words[i]) {
+        if !words::is_word(words[i]) {
             return false;
         }
         i += 1;
@@ -143,9 +143,9 @@ fn step(preview: Preview, x: i32) -> PreviewStep
 }
 
 // The ends of a word.
-const WORD_LOW: f64 = bands::WORD_LOW as f64;
+const WORD_LOW: f64 = words::WORD_LOW as f64;
 
-const WORD_HIGH: f64 = bands::WORD_HIGH as f64;
+const WORD_HIGH: f64 = words::WORD_HIGH as f64;
 
 // A whole number limited to a word.
 fn limit_word(rounded: f64) -> f64

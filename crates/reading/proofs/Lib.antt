@@ -1,9 +1,11 @@
 -- The laws of reading the strip sheet.
---     Whole    the lines of a sheet as parts: their verdict, and their numbers where they are accepted
---     Repeat   lines of one kind one after the other, read by a loop
---     Sheet    the lines of a sheet in groups
+--     Bands    the bands of a set that C lines are read into
+--     Front    the V line, and the C lines behind it
+--     Sides    the sides, read by a loop from a running place
+--     Lines    the lines of a sheet, by what they are read in
 --     Laws     the answer where a sheet is accepted and where it is refused
-pub mod Whole
-pub mod Repeat
-pub mod Sheet
+pub mod Bands
+pub mod Front
+pub mod Sides
+pub mod Lines
 pub mod Laws

@@ -1,20 +1,24 @@
-// Reading the strip sheet: the unit or the numbers that it carries, or the first refusal, with the given unit or numbers as they were.
-// A routine that reads a part of the sheet stops at the first refusal; it has then stored the numbers ahead of it, in an array that no caller sees.
+// Reading the strip sheet: the unit that it carries, or the first refusal, with the given unit as it was.
+// A routine that reads a part of the sheet stops at the first refusal; what it gives besides the verdict is then of no use.
 ghost use mathlib.Core.Path.{_≡_};
-ghost use Prim.Native.Nat.{_+_, _*_, _≤_};
-ghost use lib.ListN.{length, drop, replicate};
-ghost use Rattle.bands.specs.Bands.{bandCount};
-ghost use Rattle.numbers.specs.Layout.{channelSize, unitSize, bandsPlace};
-ghost use Rattle.sheet.specs.Lines.{channelBytes, sheetSize, lines, fieldCount, lineSize};
-ghost use Rattle.line_reading.specs.Parts.{linePart, ReadGives};
-ghost use Rattle.reading.specs.Reading.{sheetVerdict, numbersRead, sheetRead};
-ghost use Rattle.reading.specs.Parts.{linesPart, channelPart};
+ghost use mathlib.Core.Bool.{cond};
+ghost use Prim.Native.Nat.{_≤_};
+ghost use lib.ListN.{length, drop};
+ghost use Rattle.lists.specs.Lists.{joined};
+ghost use Rattle.refusals.specs.Numbers.{isAccepted};
+ghost use Rattle.bands.specs.Bands.{setSize};
+ghost use Rattle.unit.specs.Sizes.{channelCount};
+ghost use Rattle.unit.specs.Cleared.{bandsOf};
+ghost use Rattle.sheet.specs.Lines.{volumeRanges, volumeOfRow, bandRow};
+ghost use Rattle.sheet.specs.Sheet.{sideLetters, bandsForm, unitOfLines, sidesForm, takenVerdict, linesVerdict, carriedUnit};
+ghost use Rattle.line_reading.specs.Gives.{FormGives};
+ghost use Rattle.side_reading.specs.Side.{FormRead};
+ghost use Rattle.reading.specs.Reading.{sheetRead};
+ghost use Rattle.reading.specs.Parts.{FrontRows, RestRead};
+use levels::Level;
 use refusals::Verdict;
-use sheet::Line;
+use unit::Channel;
 use unit::Unit;
-
-// The least volume.
-const VOLUME_LEAST: i32 = 0;
 
 // What reading a sheet gives.
 pub struct SheetRead {
@@ -22,94 +26,91 @@ pub struct SheetRead {
     pub unit: Unit,
 }
 
+// What reading the sides gives: the verdict, and where it is accepted the place behind them, and their channels.
+pub struct SidesRead {
+    pub verdict: Verdict,
+    pub next: usize,
+    pub channels: [Channel; unit::CHANNEL_COUNT],
+}
+
 // Reads a sheet: 11 for a wrong length, then the first refusal from the first byte on. Refused, the given unit comes back.
 pub fn read(bytes: &[u8], given: Unit) -> SheetRead
-    ensures { λ r. ⌜ r ≡ sheetRead (now (bytes .entry)) given ⌝ }
-{
-    let mut numbers = [0i32; numbers::UNIT_SIZE];
-    let verdict = read_numbers(bytes, &mut numbers);
-    if refusals::accepted(verdict) {
-        let unit = numbers::unit_of(&numbers);
-        return SheetRead { verdict, unit };
-    }
-    SheetRead {
-        verdict,
-        unit: given,
-    }
-}
-
-// Reads a sheet into a unit's numbers: 11 for a wrong length, then the first refusal from the first byte on. Refused, the lent numbers stay
-// as they are.
-pub fn read_numbers(bytes: &[u8], numbers: &mut [i32; numbers::UNIT_SIZE]) -> Verdict
-    ensures { λ r. ⌜ (r ≡ sheetVerdict (now (bytes .entry))) × (now (numbers .exit) ≡ numbersRead (now (bytes .entry)) (now (numbers .entry))) ⌝ }
+    ensures { λ r. ⌜ r ≡ sheetRead sideLetters (now (bytes .entry)) given ⌝ }
 {
     if bytes.len() != sheet::SHEET_SIZE {
-        return Verdict::SheetLength;
+        return SheetRead {
+            verdict: Verdict::SheetLength,
+            unit: given,
+        };
     }
-    let mut carried = [0i32; numbers::UNIT_SIZE];
-    let lines = read_lines(bytes, &mut carried);
-    if !refusals::accepted(lines) {
-        return lines;
-    }
-    *numbers = carried;
-    lines
+    read_lines(bytes, given)
 }
 
-// Reads all lines: the V line, ten C lines, then the lines of the left and of the right channel.
-fn read_lines(bytes: &[u8], numbers: &mut [i32; numbers::UNIT_SIZE]) -> Verdict
-    requires { ⌜ (length (now bytes) ≡ sheetSize) × (length (now numbers) ≡ unitSize) ⌝ }
-    ensures { λ r. ⌜ ReadGives (linesPart lines (now (bytes .entry))) (now (numbers .entry)) 0 r (now (numbers .exit)) ⌝ }
+// Reads all lines: the V line and the C lines, then the sides, and no byte more.
+fn read_lines(bytes: &[u8], given: Unit) -> SheetRead
+    ensures { λ r. ⌜ (r .verdict ≡ linesVerdict sideLetters (now (bytes .entry))) × (r .unit ≡ cond (isAccepted (linesVerdict sideLetters (now (bytes .entry)))) (carriedUnit sideLetters (now (bytes .entry))) given) ⌝ }
 {
-    let volume = line_reading::read_line(
-        bytes,
-        0,
-        sheet::VOLUME_LETTER,
-        sheet::VOLUME_FIELDS,
-        VOLUME_LEAST,
-        bands::WORD_MOST,
-        numbers,
-        0,
-    );
-    if !refusals::accepted(volume) {
-        return volume;
+    let mut volume = [0i32; sheet::VOLUME_FIELDS];
+    let mut set = [0i32; bands::SET_SIZE];
+    let front = read_front(bytes, &mut volume, &mut set);
+    if !refusals::accepted(front) {
+        return SheetRead {
+            verdict: front,
+            unit: given,
+        };
     }
-    let bands = read_bands(bytes, numbers);
-    if !refusals::accepted(bands) {
-        return bands;
+    let rest = read_rest(bytes, sheet::SIDES_AT);
+    let back = rest.verdict;
+    if !refusals::accepted(back) {
+        return SheetRead {
+            verdict: back,
+            unit: given,
+        };
     }
-    let left = read_channel(
-        bytes,
-        sheet::LEFT_AT,
-        sheet::LEFT_LETTER,
-        numbers,
-        numbers::LEFT,
-    );
-    if !refusals::accepted(left) {
-        return left;
+    let channels = rest.channels;
+    let unit = unit_of(&volume, &set, channels);
+    SheetRead {
+        verdict: back,
+        unit,
     }
-    read_channel(
-        bytes,
-        sheet::RIGHT_AT,
-        sheet::RIGHT_LETTER,
-        numbers,
-        numbers::RIGHT,
-    )
 }
 
-// Reads the ten C lines.
-fn read_bands(bytes: &[u8], numbers: &mut [i32; numbers::UNIT_SIZE]) -> Verdict
-    requires { ⌜ (length (now bytes) ≡ sheetSize) × (length (now numbers) ≡ unitSize) ⌝ }
-    ensures { λ r. ⌜ ReadGives (linesPart (replicate bandCount Line.Band) (drop (lineSize Line.Volume) (now (bytes .entry)))) (now (numbers .entry)) bandsPlace r (now (numbers .exit)) ⌝ }
+// The unit of a V line's numbers, a band set and channels.
+fn unit_of(volume: &[i32], set: &[i32], channels: [Channel; unit::CHANNEL_COUNT]) -> Unit
+    requires { ⌜ (length (now volume) ≡ length volumeRanges) × (length (now set) ≡ setSize) ⌝ }
+    ensures { λ r. ⌜ r ≡ unitOfLines ((volumeOfRow (now (volume .entry)), bandsOf (now (set .entry))), channels) ⌝ }
+{
+    let present = side_reading::number_at(volume, 0);
+    let target = side_reading::number_at(volume, 1);
+    let bands = unit::bands_of(set);
+    Unit {
+        volume: Level { present, target },
+        bands,
+        channels,
+    }
+}
+
+// Reads the V line and the C lines.
+fn read_front(bytes: &[u8], volume: &mut [i32], set: &mut [i32]) -> Verdict
+    requires { ⌜ (length (now volume) ≡ length volumeRanges) × (length (now set) ≡ setSize) ⌝ }
+    ensures { λ r. ⌜ FrontRows (now (bytes .entry)) r (now (volume .exit)) (now (set .exit)) ⌝ }
+{
+    let first = line_reading::read_volume(bytes, 0, volume);
+    if !refusals::accepted(first) {
+        return first;
+    }
+    read_bands(bytes, sheet::BANDS_AT, set)
+}
+
+// Reads ten C lines from place at on.
+fn read_bands(bytes: &[u8], at: usize, set: &mut [i32]) -> Verdict
+    requires { ⌜ (at ≤ length (now bytes)) × (length (now set) ≡ setSize) ⌝ }
+    ensures { λ r. ⌜ FormGives bandsForm (joined bandRow) (drop at (now (bytes .entry))) (now (set .entry)) 0 r (now (set .exit)) ⌝ }
 {
     let mut i = 0;
     while i < bands::BAND_COUNT {
-        let at = sheet::BAND_LINE * i + sheet::BANDS_AT;
-        let found = line_reading::read_band(
-            bytes,
-            at,
-            numbers,
-            sheet::BAND_FIELDS * i + numbers::BANDS,
-        );
+        let place = at + sheet::BAND_LINE * i;
+        let found = line_reading::read_band(bytes, place, set, sheet::BAND_FIELDS * i);
         if !refusals::accepted(found) {
             return found;
         }
@@ -118,69 +119,64 @@ fn read_bands(bytes: &[u8], numbers: &mut [i32; numbers::UNIT_SIZE]) -> Verdict
     Verdict::Accepted
 }
 
-// Reads the lines of a channel from place at on: an L or an R line, and ten S lines.
-fn read_channel(
-    bytes: &[u8],
-    at: usize,
-    letter: u8,
-    numbers: &mut [i32; numbers::UNIT_SIZE],
-    place: usize,
-) -> Verdict
-    requires { ⌜ (at + channelBytes ≤ length (now bytes)) × (length (now numbers) ≡ unitSize) × (place + channelSize ≤ unitSize) ⌝ }
-    ensures { λ r. ⌜ ReadGives (channelPart letter (drop at (now (bytes .entry)))) (now (numbers .entry)) place r (now (numbers .exit)) ⌝ }
+// Reads the sides from place at on, left and right, and no byte more.
+fn read_rest(bytes: &[u8], at: usize) -> SidesRead
+    requires { ⌜ at ≤ length (now bytes) ⌝ }
+    ensures { λ r. ⌜ RestRead sideLetters (now (bytes .entry)) at (r .verdict) (r .channels) ⌝ }
 {
-    let head = line_reading::read_head(bytes, at, letter, numbers, place);
-    if !refusals::accepted(head) {
-        return head;
+    let letters = [sheet::LEFT_LETTER, sheet::RIGHT_LETTER];
+    let sides = read_sides(bytes, at, &letters);
+    let first = sides.verdict;
+    if !refusals::accepted(first) {
+        return sides;
     }
-    read_sections(
-        bytes,
-        at + sheet::CHANNEL_LINE,
-        numbers,
-        place + sheet::CHANNEL_FIELDS,
-    )
+    let next = sides.next;
+    let verdict = check_taken(bytes, next);
+    let channels = sides.channels;
+    SidesRead {
+        verdict,
+        next,
+        channels,
+    }
 }
 
-// Reads the ten S lines from place at on.
-fn read_sections(
-    bytes: &[u8],
-    at: usize,
-    numbers: &mut [i32; numbers::UNIT_SIZE],
-    place: usize,
-) -> Verdict
-    requires { ⌜ (at + lineSize Line.Section * bandCount ≤ length (now bytes)) × (length (now numbers) ≡ unitSize) × (place + fieldCount Line.Section * bandCount ≤ unitSize) ⌝ }
-    ensures { λ r. ⌜ ReadGives (linesPart (replicate bandCount Line.Section) (drop at (now (bytes .entry)))) (now (numbers .entry)) place r (now (numbers .exit)) ⌝ }
+// 12 where bytes are left over from this place on.
+fn check_taken(bytes: &[u8], next: usize) -> Verdict
+    ensures { λ r. ⌜ r ≡ takenVerdict (now (bytes .entry)) next ⌝ }
 {
-    let mut i = 0;
-    while i < bands::BAND_COUNT {
-        let start = sheet::SECTION_LINE * i + at;
-        let found = read_words(bytes, start, numbers, sheet::SECTION_FIELDS * i + place);
-        if !refusals::accepted(found) {
-            return found;
-        }
-        i += 1;
+    if bytes.len() != next {
+        return Verdict::LineMark;
     }
     Verdict::Accepted
 }
 
-// Reads an S line from place at on.
-fn read_words(
-    bytes: &[u8],
-    at: usize,
-    numbers: &mut [i32; numbers::UNIT_SIZE],
-    place: usize,
-) -> Verdict
-    requires { ⌜ (at + lineSize Line.Section ≤ length (now bytes)) × (length (now numbers) ≡ unitSize) × (place + fieldCount Line.Section ≤ unitSize) ⌝ }
-    ensures { λ r. ⌜ ReadGives (linePart Line.Section (drop at (now (bytes .entry)))) (now (numbers .entry)) place r (now (numbers .exit)) ⌝ }
+// Reads a side for each letter from place at on, each from the place behind the one ahead of it.
+fn read_sides(bytes: &[u8], at: usize, letters: &[u8]) -> SidesRead
+    requires { ⌜ (at ≤ length (now bytes)) × (length (now letters) ≡ channelCount) ⌝ }
+    ensures { λ r. ⌜ FormRead (sidesForm (now (letters .entry))) (now (bytes .entry)) at (r .verdict) (r .channels) (r .next) ⌝ }
 {
-    line_reading::read_line(
-        bytes,
-        at,
-        sheet::SECTION_LETTER,
-        sheet::SECTION_FIELDS,
-        bands::WORD_LEAST,
-        bands::WORD_MOST,
-        numbers,
-        place,
-    )
+    let empty = unit::cleared_channel();
+    let mut channels = [empty; unit::CHANNEL_COUNT];
+    let mut next = at;
+    let mut i = 0;
+    while i < unit::CHANNEL_COUNT {
+        let found = side_reading::read_side(bytes, next, letters[i]);
+        let verdict = found.verdict;
+        if !refusals::accepted(verdict) {
+            return SidesRead {
+                verdict,
+                next,
+                channels,
+            };
+        }
+        let channel = found.channel;
+        channels[i] = channel;
+        next = found.next;
+        i += 1;
+    }
+    SidesRead {
+        verdict: Verdict::Accepted,
+        next,
+        channels,
+    }
 }

@@ -1,128 +1,133 @@
--- The round trip of the strip sheet holds.
+-- The round trip of the strip sheet holds, over the letters of the sides.
 use mathlib.Core.Path.{_≡_, refl, sym, ap, ap₂, _∙_, subst}
 use mathlib.Core.Bool.{Bool, true, cond, _&&_}
-use mathlib.Core.List.{List, []}
+use mathlib.Core.List.{List, [], append-nil}
 use Prim.Native.Nat.{ℕ, _≤_}
-use lib.ListN.{length}
-use borrow.Author.Tests.{eqb-true, le-leb}
+use native.Mathlib.Omega.{arith}
 use lib.Dec.{eqb}
-use Rattle.refusals.specs.Numbers.{isAccepted}
+use lib.ListN.{length}
+use lib.Seq.{take-all}
+use borrow.Author.Tests.{eqb-true, eq-eqb, le-leb}
+use Rattle.refusals.specs.Numbers.{isAccepted, unless, firstOf}
 use Rattle.refusals.specs.declared.Verdict.{Verdict}
-use Rattle.refusals.specs.declared.Verdict.the-variants.{Accepted, SheetLength}
-use Rattle.refusals.proofs.Laws.{unless-accepted, accepted-only}
+use Rattle.refusals.specs.declared.Verdict.the-variants.{Accepted, SheetLength, LineMark}
+use Rattle.refusals.proofs.Laws.{unless-accepted, first-both, accepted-only}
 use Rattle.unit.specs.declared.Unit.{Unit}
-use Rattle.unit.specs.Sizes.{channelCount}
+use Rattle.unit.specs.Fit.{Fit}
 use Rattle.unit.specs.Shaped.{Shaped}
 use Rattle.unit.proofs.Fitness.{fit-of-test, test-of-fit}
-use Rattle.numbers.specs.Layout.{numbersOf, unitOf}
-use Rattle.numbers.proofs.Laws.{numbers-of-unit}
-use Rattle.numbers.proofs.Units.{unit-shaped, unit-of-numbers}
-use Rattle.sheet.specs.Lines.{sheetSize, lines}
-use Rattle.writing.specs.Written.{written, sheetOf, writes, filledPart}
-use Rattle.writing.proofs.Laws.{sheet-length}
+use Rattle.forms.proofs.Sound.{Back, Told}
+use Rattle.sheet.specs.Sheet.{unitForm, sheetSize, takenVerdict, linesVerdict, sheetVerdict, carriedUnit, sheetOf}
+use Rattle.sheet.proofs.Sides.{UnitFits, unit-sound, fit-unit, unit-fit}
+use Rattle.sheet.proofs.Sizes.{sheet-length}
+use Rattle.writing.specs.Written.{writes, filledPart}
 use Rattle.reading.specs.declared.SheetRead.{SheetRead}
-use Rattle.reading.specs.Reading.{linesVerdict, numbersIn, sheetVerdict, unitIn, sheetRead}
-use Rattle.reading.proofs.Laws.{right-length, read-accepted}
-use Rattle.reading.proofs.Whole.{numbers-in-length}
-use Rattle.roundtrip.specs.Claim.{ReadsAs, HasSheet, RoundTrip}
-use Rattle.roundtrip.proofs.Passes.{LinesPass}
-use Rattle.roundtrip.proofs.Accepted.{LinesTold, lines-accepted}
-use Rattle.roundtrip.proofs.Back.{LinesBack, lines-back}
-use Rattle.roundtrip.proofs.Carry.{fit-passes, passes-fit}
+use Rattle.reading.specs.Reading.{sheetRead}
+use Rattle.roundtrip.specs.Claim.{HasSheet, ReadsAs, RoundTrip}
 
--- an accepted sheet reads as the unit that it carries
-accepted-reads : (bytes : List ℕ) → isAccepted (sheetVerdict bytes) ≡ true → ReadsAs bytes (unitIn bytes)
-accepted-reads bytes e given =
-    read-accepted bytes given e ∙ (λ i. record { verdict = accepted-only (sheetVerdict bytes) e i; unit = unitIn bytes })
+module _ (letters : List ℕ) where
+  -- the bytes that the lines take
+  abbrev taken : List ℕ → ℕ
+  taken bytes = unitForm letters .size bytes
 
--- ---- a fit unit's sheet
-
--- with room for it, it is the part that is handed back
-pub part-is-sheet : (u : Unit) (room : ℕ) → HasSheet u → sheetSize ≤ room → filledPart u room ≡ sheetOf u
-unfolding filledPart writes
-part-is-sheet u room has h = ap₂ (λ (a b : Bool). cond (a && b) (sheetOf u) []) (le-leb sheetSize room h) has
-
-module _ (u : Unit) (s : Shaped channelCount u) (has : HasSheet u) where
-  -- its lines are accepted, and give the unit's numbers
-  lines-carry : LinesBack lines (numbersOf u) (sheetOf u)
-  unfolding sheetOf
-  lines-carry = lines-back lines (numbersOf u) (fit-passes u s (fit-of-test u has))
-
-  sheet-accepted : isAccepted (sheetVerdict (sheetOf u)) ≡ true
-  sheet-accepted = ap isAccepted (right-length (sheetOf u) (sheet-length u s) ∙ lines-carry .verdict)
-
-  unit-carried : unitIn (sheetOf u) ≡ u
-  unfolding unitIn
-  unit-carried = ap unitOf (lines-carry .numbers-are) ∙ unit-of-numbers u s
-
-  sheet-reads : ReadsAs (sheetOf u) u
-  sheet-reads = subst (ReadsAs (sheetOf u)) unit-carried (accepted-reads (sheetOf u) sheet-accepted)
-
-  part-reads : (room : ℕ) → sheetSize ≤ room → ReadsAs (filledPart u room) u
-  part-reads room h = subst (λ (bytes : List ℕ). ReadsAs bytes u) (sym (part-is-sheet u room has h)) sheet-reads
-
--- ---- an accepted sheet
-
-module _ (bytes : List ℕ) (u : Unit) (reads : ReadsAs bytes u) where
-  verdict-accepted : sheetVerdict bytes ≡ Accepted
+  -- an accepted sheet reads as the unit that it carries
+  accepted-reads : (bytes : List ℕ) → isAccepted (sheetVerdict letters bytes) ≡ true → ReadsAs letters bytes (carriedUnit letters bytes)
   unfolding sheetRead
-  verdict-accepted = ap (λ (r : SheetRead). r .verdict) (reads u)
+  accepted-reads bytes e given = λ i.
+      record { verdict = accepted-only (sheetVerdict letters bytes) e i; unit = cond (e i) (carriedUnit letters bytes) given }
 
-  unit-is-carried : unitIn bytes ≡ u
-  unfolding sheetRead
-  unit-is-carried =
-      sym (ap (λ (v : Verdict). cond (isAccepted v) (unitIn bytes) u) verdict-accepted) ∙ ap (λ (r : SheetRead). r .unit) (reads u)
+  -- ---- a fit unit's sheet
 
-  -- its length is right, and its lines are accepted
-  length-and-lines : (eqb (length bytes) sheetSize ≡ true) × (isAccepted (linesVerdict lines bytes) ≡ true)
-  unfolding sheetVerdict
-  length-and-lines =
-      unless-accepted (eqb (length bytes) sheetSize) SheetLength (linesVerdict lines bytes) (λ t. refl) (ap isAccepted verdict-accepted)
+  -- with room for it, it is the part that is handed back
+  pub part-is-sheet : (u : Unit) (room : ℕ) → HasSheet u → sheetSize letters ≤ room → filledPart letters u room ≡ sheetOf letters u
+  unfolding filledPart writes
+  part-is-sheet u room has h = ap₂ (λ (a b : Bool). cond (a && b) (sheetOf letters u) []) (le-leb (sheetSize letters) room h) has
 
-  -- its numbers pass, and written again they are its bytes
-  lines-told : LinesTold lines bytes
-  lines-told = lines-accepted lines bytes (eqb-true (length bytes) sheetSize (length-and-lines .0)) (length-and-lines .1)
+  module _ (u : Unit) (s : Shaped (length letters) u) (has : HasSheet u) where
+    -- the lines are accepted, and give the unit
+    back : Back (unitForm letters) u (sheetOf letters u)
+    unfolding sheetOf
+    back =
+        subst (Back (unitForm letters) u) (append-nil (unitForm letters .text u))
+        (unit-sound letters .back u [] (fit-unit letters u s (fit-of-test u has)))
 
-  -- the unit's numbers are those of the sheet
-  numbers-carried : numbersOf u ≡ numbersIn lines bytes
-  unfolding unitIn
-  numbers-carried =
-      ap numbersOf (sym unit-is-carried) ∙ numbers-of-unit (numbersIn lines bytes) (numbers-in-length lines bytes)
+    sheet-accepted : sheetVerdict letters (sheetOf letters u) ≡ Accepted
+    unfolding sheetVerdict linesVerdict sheetOf
+    sheet-accepted =
+        ap (λ (t : Bool). unless t SheetLength (linesVerdict letters (sheetOf letters u)))
+        (eq-eqb (length (sheetOf letters u)) (sheetSize letters) (sheet-length letters u s))
+        ∙ ap₂ (λ (v : Verdict) (t : Bool). firstOf v (unless t LineMark Accepted)) (back .verdict)
+        (eq-eqb (length (sheetOf letters u)) (taken (sheetOf letters u)) (sym (back .size)))
 
-  accepted-shaped : Shaped channelCount u
-  unfolding unitIn
-  accepted-shaped = subst (Shaped channelCount) unit-is-carried (unit-shaped (numbersIn lines bytes))
+    unit-carried : carriedUnit letters (sheetOf letters u) ≡ u
+    unfolding carriedUnit
+    unit-carried = back .value
 
-  accepted-fit : HasSheet u
-  accepted-fit = test-of-fit u (passes-fit u accepted-shaped (subst (LinesPass lines) (sym numbers-carried) (lines-told .pass)))
+    sheet-reads : ReadsAs letters (sheetOf letters u) u
+    sheet-reads =
+        subst (ReadsAs letters (sheetOf letters u)) unit-carried (accepted-reads (sheetOf letters u) (ap isAccepted sheet-accepted))
 
-  written-again : sheetOf u ≡ bytes
-  unfolding sheetOf
-  written-again = ap (written lines) numbers-carried ∙ lines-told .again
+    part-reads : (room : ℕ) → sheetSize letters ≤ room → ReadsAs letters (filledPart letters u room) u
+    part-reads room h = subst (λ (bytes : List ℕ). ReadsAs letters bytes u) (sym (part-is-sheet u room has h)) sheet-reads
 
-  part-again : (room : ℕ) → sheetSize ≤ room → filledPart u room ≡ bytes
-  part-again room h = part-is-sheet u room accepted-fit h ∙ written-again
+  -- ---- an accepted sheet
 
--- ---- two units
+  module _ (bytes : List ℕ) (u : Unit) (reads : ReadsAs letters bytes u) where
+    verdict-accepted : sheetVerdict letters bytes ≡ Accepted
+    unfolding sheetRead
+    verdict-accepted = ap (λ (r : SheetRead). r .verdict) (reads u)
 
--- they are equal where their sheets are
-sheets-tell : (u w : Unit) → Shaped channelCount u → Shaped channelCount w → HasSheet u → HasSheet w → sheetOf u ≡ sheetOf w → u ≡ w
-sheets-tell u w s t p q e = sym (unit-carried u s p) ∙ ap unitIn e ∙ unit-carried w t q
+    unit-is-carried : carriedUnit letters bytes ≡ u
+    unfolding sheetRead
+    unit-is-carried =
+        sym (ap (λ (v : Verdict). cond (isAccepted v) (carriedUnit letters bytes) u) verdict-accepted) ∙ ap (λ (r : SheetRead). r .unit) (reads u)
 
--- the claim
-pub round-trip : RoundTrip
-round-trip =
-    record {
-      length-is = sheet-length;
-      reads-back = sheet-reads;
-      part-reads-back = λ u room s has h. part-reads u s has room h;
-      accepted-reads = accepted-reads;
-      accepted-shaped = accepted-shaped;
-      accepted-fit = accepted-fit;
-      written-again = written-again;
-      part-again = λ bytes u room reads h. part-again bytes u reads room h;
-      same-unit = sheets-tell;
-      same-sheet = λ u w e. ap sheetOf e;
-      carried = λ u s has. record { sheet = sheetOf u; reads = sheet-reads u s has };
-      carried-fit = λ u c. accepted-fit (c .sheet) u (c .reads);
-    }
+    -- the lines are accepted, and no byte is left over
+    lines-and-end : (isAccepted (unitForm letters .verdict bytes) ≡ true) × (isAccepted (takenVerdict bytes (taken bytes)) ≡ true)
+    unfolding sheetVerdict linesVerdict
+    lines-and-end =
+        first-both (unitForm letters .verdict bytes) (takenVerdict bytes (taken bytes))
+        (unless-accepted (eqb (length bytes) (sheetSize letters)) SheetLength (linesVerdict letters bytes) (λ t. refl) (ap isAccepted verdict-accepted) .1)
+
+    -- the unit fits, and written again it is the bytes that the lines take
+    told : Told (unitForm letters) (UnitFits letters) bytes
+    told = unit-sound letters .told bytes (lines-and-end .0)
+
+    all-taken : length bytes ≡ taken bytes
+    all-taken =
+        eqb-true (length bytes) (taken bytes)
+        (unless-accepted (eqb (length bytes) (taken bytes)) LineMark Accepted (λ t. refl) (lines-and-end .1) .0)
+
+    shaped-and-fit : Shaped (length letters) u × Fit u
+    unfolding carriedUnit
+    shaped-and-fit = unit-fit letters u (subst (UnitFits letters) unit-is-carried (told .fits))
+
+    accepted-fit : HasSheet u
+    accepted-fit = test-of-fit u (shaped-and-fit .1)
+
+    written-again : sheetOf letters u ≡ bytes
+    unfolding sheetOf carriedUnit
+    written-again =
+        ap (unitForm letters .text) (sym unit-is-carried) ∙ told .again ∙ take-all (taken bytes) bytes (omega (arith, all-taken))
+
+    part-again : (room : ℕ) → sheetSize letters ≤ room → filledPart letters u room ≡ bytes
+    part-again room h = part-is-sheet u room accepted-fit h ∙ written-again
+
+  -- the claim
+  pub round-trip : RoundTrip letters
+  round-trip =
+      record {
+        length-is = sheet-length letters;
+        stereo-size = refl;
+        reads-back = sheet-reads;
+        part-reads-back = λ u room s has h. part-reads u s has room h;
+        accepted-reads = accepted-reads;
+        accepted-shaped = λ bytes u reads. shaped-and-fit bytes u reads .0;
+        accepted-fit = accepted-fit;
+        written-again = written-again;
+        part-again = λ bytes u room reads h. part-again bytes u reads room h;
+        same-unit = λ u w s t p q e. sym (unit-carried u s p) ∙ ap (carriedUnit letters) e ∙ unit-carried w t q;
+        same-sheet = λ u w e. ap (sheetOf letters) e;
+        carried = λ u s has. record { sheet = sheetOf letters u; reads = sheet-reads u s has };
+        carried-fit = λ u c. accepted-fit (c .sheet) u (c .reads);
+      }

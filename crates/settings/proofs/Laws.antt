@@ -12,11 +12,11 @@ use borrow.Author.Tests.{ltb-true, ltb-false, lt-ltb, le-ltb, ne-eqb, leb-true, 
 use Rattle.integers.proofs.Parts.{linear, var, _⊖_, _⊗_}
 use Rattle.rounding.specs.Rounding.{within}
 use Rattle.rounding.proofs.Limit.{within-bounds, bounds-within}
+use Rattle.words.specs.Words.{wordLow, wordHigh, isWord}
 use Rattle.refusals.specs.Numbers.{unless, isAccepted}
 use Rattle.refusals.specs.declared.Verdict.the-variants.{Accepted, NoPlace, PositionOver, NotFinite, FactorRange}
 use Rattle.refusals.proofs.Laws.{unless-accepted}
 use Rattle.bands.specs.Bands.{bandCount}
-use Rattle.bands.specs.Words.{wordLow, wordHigh, isWord}
 use Rattle.floats.proofs.Laws.{volume-band, target-word as factor-word, volume-target}
 use Rattle.floats.specs.Value.{isFinite, inRange, isFactor, bandLowest, volumeLowest}
 use Rattle.unit.specs.Fit.{isVolume}

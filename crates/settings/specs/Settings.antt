@@ -4,11 +4,11 @@ use mathlib.Core.Bool.{Bool, cond, _&&_, _||_}
 use Prim.Native.Nat.{ℕ, suc}
 use lib.Dec.{eqb, leb, ltb}
 use lib.IntN.{ℤ, pos, _-ℤ_, _*ℤ_}
+use Rattle.words.specs.Words.{wordLow}
 use Rattle.refusals.specs.Numbers.{unless}
 use Rattle.refusals.specs.declared.Verdict.{Verdict}
 use Rattle.refusals.specs.declared.Verdict.the-variants.{Accepted, NoPlace, PositionOver, NotFinite, FactorRange}
 use Rattle.bands.specs.Bands.{bandCount}
-use Rattle.bands.specs.Words.{wordLow}
 use Rattle.floats.specs.Value.{isFinite, inRange, bandLowest, volumeLowest, factorTarget}
 use Rattle.settings.specs.declared.Setting.{Setting}
 use Rattle.settings.specs.declared.Setting.the-variants.{Position, Factor, Mute}

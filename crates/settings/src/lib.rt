@@ -26,7 +26,7 @@ const STEP_BELOW: i64 = 104857;
 const VOLUME_STEP: i64 = 270600;
 
 // The target of a muted band, and that of the muted volume.
-const MUTED_GAIN: i64 = bands::WORD_LOW;
+const MUTED_GAIN: i64 = words::WORD_LOW;
 
 const MUTED_VOLUME: i64 = 0;
 

@@ -1,2 +1,3 @@
--- The lines of the strip sheet.
+-- The strip sheet.
 pub mod Lines
+pub mod Sheet

@@ -1,95 +1,94 @@
--- The strip sheet: "1,128 bytes, 33 lines, each a letter, fields of nine columns ..., and a line feed (byte 10)."
+-- The lines of the strip sheet, each as a form: "V (volume, target)", "C (A, B, G)", "L (x1, x2, flag)", "R as L" and "S (y1, y2, gain, target)".
 -- Definitions only, by docs/SPECIFICATION.md, The strip sheet.
 use mathlib.Core.Bool.{Bool, true}
-use mathlib.Core.List.{List, [], _∷_, _++_}
-use Prim.Native.Nat.{ℕ, _+_, _*_}
-use lib.IntN.{ℤ}
-use lib.ListN.{length, replicate}
+use mathlib.Core.List.{List, [], _∷_}
+use Prim.Native.Nat.{ℕ}
+use lib.IntN.{ℤ, pos}
+use lib.ListN.{length, getD}
+use Rattle.words.specs.Words.{isWord}
 use Rattle.refusals.specs.declared.Verdict.{Verdict}
-use Rattle.refusals.specs.declared.Verdict.the-variants.{Accepted}
-use Rattle.bands.specs.Words.{isWord}
-use Rattle.bands.specs.Bands.{bandCount, bandVerdict, bandAt}
+use Rattle.bands.specs.Bands.{bandVerdict, bandAt}
+use Rattle.bands.specs.declared.Band.{Band}
+use Rattle.levels.specs.declared.Level.{Level}
+use Rattle.unit.specs.declared.BandSection.{BandSection}
+use Rattle.unit.specs.declared.Channel.{Channel}
 use Rattle.unit.specs.Fit.{isVolume, isInput, isFlag}
-use Rattle.fields.specs.Fields.{fieldSize}
-use Rattle.sheet.specs.declared.Line.{Line}
-use Rattle.sheet.specs.declared.Line.the-variants.{Volume, Band, Left, Section, Right}
+use Rattle.forms.specs.Form.{Form, seenAs}
+use Rattle.forms.specs.Line.{lineForm, alone}
 
--- "1,128 bytes"
-abbrev pub sheetSize : ℕ
-sheetSize = 1128
+-- number i of a line
+abbrev pub rowAt : List ℤ → ℕ → ℤ
+rowAt row i = getD row i (pos 0)
 
--- "a line feed (byte 10)"
-abbrev pub lineFeed : ℕ
-lineFeed = 10
+-- ---- "V (volume, target)"
 
--- "In order: V (volume, target); ten C (A, B, G); L (x1, x2, flag); ten S (y1, y2, gain, target); R as L; ten S."
-abbrev pub lines : List Line
-lines =
-    Volume ∷ (replicate bandCount Band ++ (Left ∷ (replicate bandCount Section ++ (Right ∷ replicate bandCount Section))))
+abbrev pub volumeLetter : ℕ
+volumeLetter = 86
 
--- each line's letter, as a byte: V, C, L, S, R
-abbrev pub letterOf : Line → ℕ
-letterOf Volume = 86
-letterOf Band = 67
-letterOf Left = 76
-letterOf Section = 83
-letterOf Right = 82
+abbrev pub volumeRanges : List (ℤ → Bool)
+volumeRanges = isVolume ∷ isVolume ∷ []
+
+abbrev pub volumeRow : Level → List ℤ
+volumeRow v = v .present ∷ v .target ∷ []
+
+abbrev pub volumeOfRow : List ℤ → Level
+volumeOfRow row = record { present = rowAt row 0; target = rowAt row 1 }
+
+abbrev pub volumeForm : Form Level
+volumeForm = seenAs volumeOfRow volumeRow (lineForm volumeLetter volumeRanges alone)
+
+-- ---- "C (A, B, G)": "a C line tests 8 to 10 after its three fields, in place of 14"
+
+abbrev pub bandLetter : ℕ
+bandLetter = 67
 
 -- a number of a C line has no range by itself
 abbrev pub anyNumber : ℤ → Bool
 anyNumber v = true
 
--- "L (x1, x2, flag)", "R as L"
-abbrev pub channelRanges : List (ℤ → Bool)
-channelRanges = isInput ∷ isInput ∷ isFlag ∷ []
+abbrev pub bandRanges : List (ℤ → Bool)
+bandRanges = anyNumber ∷ anyNumber ∷ anyNumber ∷ []
 
--- the range of each field of a line: "14 number outside its range"
-abbrev pub rangesOf : Line → List (ℤ → Bool)
-rangesOf Volume = isVolume ∷ isVolume ∷ []
-rangesOf Band = anyNumber ∷ anyNumber ∷ anyNumber ∷ []
-rangesOf Left = channelRanges
-rangesOf Section = isWord ∷ isWord ∷ isWord ∷ isWord ∷ []
-rangesOf Right = channelRanges
+abbrev pub bandRow : Band → List ℤ
+bandRow band = band .alpha ∷ band .beta ∷ band .gamma ∷ []
 
--- what a line's numbers are refused for together: "a C line tests 8 to 10 after its three fields, in place of 14"
-abbrev pub together : Line → List ℤ → Verdict
-together Volume numbers = Accepted
-together Band numbers = bandVerdict (bandAt numbers 0)
-together Left numbers = Accepted
-together Section numbers = Accepted
-together Right numbers = Accepted
+abbrev pub bandOfRow : List ℤ → Band
+bandOfRow row = bandAt row 0
 
--- how many fields a line has, and how many bytes: its letter, its fields, a line feed
-abbrev pub fieldCount : Line → ℕ
-fieldCount line = length (rangesOf line)
+abbrev pub bandJoint : List ℤ → Verdict
+bandJoint row = bandVerdict (bandOfRow row)
 
-abbrev pub lineSize : Line → ℕ
-lineSize line = fieldSize * fieldCount line + 2
+abbrev pub bandForm : ℕ → Form Band
+bandForm letter = seenAs bandOfRow bandRow (lineForm letter bandRanges bandJoint)
 
--- the sum over some lines, of their fields and of their bytes
-abbrev pub summed : (Line → ℕ) → List Line → ℕ
-summed f [] = 0
-summed f (line ∷ rest) = f line + summed f rest
+-- ---- "L (x1, x2, flag)", "R as L": the head of a side
 
-abbrev pub fieldsOf : List Line → ℕ
-fieldsOf = summed fieldCount
+abbrev pub headRanges : List (ℤ → Bool)
+headRanges = isInput ∷ isInput ∷ isFlag ∷ []
 
-abbrev pub sizeOf : List Line → ℕ
-sizeOf = summed lineSize
+abbrev pub headRow : Channel → List ℤ
+headRow c = c .x1 ∷ c .x2 ∷ c .flag ∷ []
 
--- ---- where the groups of lines begin
+abbrev pub headForm : ℕ → Form (List ℤ)
+headForm letter = lineForm letter headRanges alone
 
--- the C lines, behind the V line
-abbrev pub bandsAt : ℕ
-bandsAt = lineSize Volume
+-- ---- "S (y1, y2, gain, target)"
 
--- the bytes of a channel's lines: an L or an R line, ten S lines
-abbrev pub channelBytes : ℕ
-channelBytes = lineSize Left + lineSize Section * bandCount
+abbrev pub sectionLetter : ℕ
+sectionLetter = 83
 
--- the L line, behind the C lines, and the R line, behind the left channel
-abbrev pub leftAt : ℕ
-leftAt = bandsAt + lineSize Band * bandCount
+abbrev pub sectionRanges : List (ℤ → Bool)
+sectionRanges = isWord ∷ isWord ∷ isWord ∷ isWord ∷ []
 
-abbrev pub rightAt : ℕ
-rightAt = leftAt + channelBytes
+abbrev pub sectionRow : BandSection → List ℤ
+sectionRow s = s .y1 ∷ s .y2 ∷ s .gain .present ∷ s .gain .target ∷ []
+
+abbrev pub sectionOfRow : List ℤ → BandSection
+sectionOfRow row = record { y1 = rowAt row 0; y2 = rowAt row 1; gain = record { present = rowAt row 2; target = rowAt row 3 } }
+
+abbrev pub sectionForm : ℕ → Form BandSection
+sectionForm letter = seenAs sectionOfRow sectionRow (lineForm letter sectionRanges alone)
+
+-- no line has more fields
+abbrev pub rowSize : ℕ
+rowSize = length sectionRanges

@@ -5,16 +5,16 @@ use Prim.Native.Nat.{ℕ, suc}
 use native.Mathlib.Omega.{arith}
 use lib.IntN.{ℤ}
 use lib.ListN.{length, length-replicate}
+use Rattle.lists.specs.Lists.{Each}
+use Rattle.lists.proofs.Each.{each-replicate}
 use Rattle.bands.specs.Bands.{bandCount}
 use Rattle.bands.specs.declared.Band.{Band}
 use Rattle.unit.specs.declared.BandSection.{BandSection}
 use Rattle.unit.specs.declared.Channel.{Channel}
 use Rattle.unit.specs.declared.Unit.{Unit}
-use Rattle.unit.specs.Lists.{Each}
 use Rattle.unit.specs.Cleared.{clearedChannel, clearedUnit}
 use Rattle.unit.specs.Frame.{sectionsFrame, channelFrame, channelsFrame, unitFrame}
 use Rattle.unit.specs.Shaped.{TenSections, Shaped}
-use Rattle.unit.proofs.Fitness.{each-replicate}
 
 -- with any number of channels, on ten bands
 pub cleared-shaped : (channels : ℕ) (bands : List Band) → length bands ≡ bandCount → Shaped channels (clearedUnit channels bands)

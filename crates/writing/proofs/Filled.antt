@@ -5,19 +5,18 @@ use mathlib.Core.List.{List, [], _++_}
 use Prim.Native.Nat.{ℕ, _≤_, _<_}
 use native.Mathlib.Omega.{arith}
 use lib.Dec.{leb}
-use lib.IntN.{ℤ}
 use lib.ListN.{length, take, drop, length-append, length-drop}
 use lib.Seq.{sets, take-at}
 use borrow.Author.Tests.{leb-true, le-leb, lt-leb}
 use Rattle.integers.proofs.Order.{both-true}
+use Rattle.lists.proofs.Stores.{stored-front}
 use Rattle.refusals.proofs.Laws.{passed, failed}
 use Rattle.unit.specs.declared.Unit.{Unit}
 use Rattle.unit.specs.Fit.{unitFits}
-use Rattle.numbers.specs.Layout.{unitSize, numbersOf}
-use Rattle.fields.proofs.Stores.{stored-front}
-use Rattle.sheet.specs.Lines.{sheetSize, lines}
-use Rattle.writing.specs.Written.{written, sheetOf, writes, filledCount, filledPart, filled}
-use Rattle.writing.proofs.Laws.{written-length}
+use Rattle.unit.specs.Shaped.{Shaped}
+use Rattle.sheet.specs.Sheet.{sheetSize, sheetOf}
+use Rattle.sheet.proofs.Sizes.{sheet-length}
+use Rattle.writing.specs.Written.{writes, filledCount, filledPart, filled}
 
 -- ---- any bytes at the front of a buffer
 
@@ -32,48 +31,47 @@ module _ (p b : List ℕ) (n : ℕ) where
 
 -- ---- a unit's sheet
 
-module _ (u : Unit) (b : List ℕ) where
+module _ (letters : List ℕ) (u : Unit) (b : List ℕ) where
   -- nothing is filled
   abbrev Nothing : Type 0
-  Nothing = (0 ≡ filledCount u (length b)) × (b ≡ filled u b)
+  Nothing = (0 ≡ filledCount letters u (length b)) × (b ≡ filled letters u b)
 
   -- so it is where no sheet is written
-  none-filled : writes u (length b) ≡ false → Nothing
+  none-filled : writes letters u (length b) ≡ false → Nothing
   unfolding filledCount filled
-  none-filled e = (failed (writes u (length b)) _ 0 e, failed (writes u (length b)) _ b e)
+  none-filled e = (failed (writes letters u (length b)) _ 0 e, failed (writes letters u (length b)) _ b e)
 
   -- a sheet is written into a buffer that is long enough
-  room-written : writes u (length b) ≡ true → sheetSize ≤ length b
+  room-written : writes letters u (length b) ≡ true → sheetSize letters ≤ length b
   unfolding writes
-  room-written e = leb-true sheetSize (length b) (both-true (leb sheetSize (length b)) (unitFits u) e .0)
+  room-written e = leb-true (sheetSize letters) (length b) (both-true (leb (sheetSize letters) (length b)) (unitFits u) e .0)
 
   -- nothing is filled of a shorter buffer
-  pub short-filled : length b < sheetSize → Nothing
+  pub short-filled : length b < sheetSize letters → Nothing
   unfolding writes
-  short-filled h = none-filled (ap (λ (t : Bool). t && unitFits u) (lt-leb sheetSize (length b) h))
+  short-filled h = none-filled (ap (λ (t : Bool). t && unitFits u) (lt-leb (sheetSize letters) (length b) h))
 
-  module _ {t : Bool} (long : sheetSize ≤ length b) (test : t ≡ unitFits u) where
+  module _ {t : Bool} (long : sheetSize letters ≤ length b) (test : t ≡ unitFits u) where
     -- where the buffer is long enough, a test of the unit's fitness decides
-    fit-written : writes u (length b) ≡ t
+    fit-written : writes letters u (length b) ≡ t
     unfolding writes
-    fit-written = ap (λ (r : Bool). r && unitFits u) (le-leb sheetSize (length b) long) ∙ sym test
+    fit-written = ap (λ (r : Bool). r && unitFits u) (le-leb (sheetSize letters) (length b) long) ∙ sym test
 
     -- nothing is filled for an unfit unit
     pub unfit-filled : t ≡ false → Nothing
     unfit-filled e = none-filled (fit-written ∙ e)
 
-    -- the front is filled with the lines of a fit unit's numbers
-    pub sheet-filled : {ns : List ℤ} {after : List ℕ} → t ≡ true → ns ≡ numbersOf u → length ns ≡ unitSize → after ≡ sets b 0 (written lines ns) → (sheetSize ≡ filledCount u (length b)) × (after ≡ filled u b)
-    unfolding filledCount filled sheetOf
-    sheet-filled {ns} w e size a = (
-      passed (writes u (length b)) sheetSize 0 (fit-written ∙ w),
+    -- the front is filled with the sheet of a fit unit
+    pub sheet-filled : {after : List ℕ} → t ≡ true → Shaped (length letters) u → after ≡ sets b 0 (sheetOf letters u) → (sheetSize letters ≡ filledCount letters u (length b)) × (after ≡ filled letters u b)
+    unfolding filledCount filled
+    sheet-filled w s a = (
+      passed (writes letters u (length b)) (sheetSize letters) 0 (fit-written ∙ w),
       a
-          ∙ stored-front (written lines ns) b sheetSize (written-length lines ns (omega arith)) long
-          ∙ ap (λ (m : List ℤ). written lines m ++ drop sheetSize b) e
-          ∙ passed (writes u (length b)) (written lines (numbersOf u) ++ drop sheetSize b) b (fit-written ∙ w),
+          ∙ stored-front (sheetOf letters u) b (sheetSize letters) (sheet-length letters u s) long
+          ∙ passed (writes letters u (length b)) (sheetOf letters u ++ drop (sheetSize letters) b) b (fit-written ∙ w),
     )
 
   -- the part that is handed back is within the buffer, and holds the sheet or nothing
-  pub part-filled : {count : ℕ} {after : List ℕ} → count ≡ filledCount u (length b) → after ≡ filled u b → length after ≡ length b → (count ≤ length after) × (take count after ≡ filledPart u (length b))
+  pub part-filled : {count : ℕ} {after : List ℕ} → count ≡ filledCount letters u (length b) → after ≡ filled letters u b → length after ≡ length b → (count ≤ length after) × (take count after ≡ filledPart letters u (length b))
   unfolding filledCount filled filledPart
-  part-filled {count} {after} e f k = front-taken (sheetOf u) b sheetSize (writes u (length b)) count after room-written e f k
+  part-filled {count} {after} e f k = front-taken (sheetOf letters u) b (sheetSize letters) (writes letters u (length b)) count after room-written e f k

@@ -1,4 +1,5 @@
 -- The laws of a written sheet.
-pub mod Laws
-pub mod Runs
+--     Typed    a unit by value has the shape
+--     Filled   the buffer after a writing, and the part that is handed back
+pub mod Typed
 pub mod Filled

@@ -1,21 +1,27 @@
 // Writing the strip sheet: 33 lines, 1,128 bytes.
-// `fill` and `fill_numbers` promise every byte of the lent buffer. `write` hands back the part that it filled, and stands on `fill`.
+// `fill` promises every byte of the lent buffer. `write` hands back the part that it filled, and stands on `fill`.
 ghost use mathlib.Core.Path.{_≡_};
 ghost use Prim.Native.Nat.{_+_, _*_, _≤_};
 ghost use denote.Ref.{ptr};
-ghost use lib.ListN.{length, take, drop};
+ghost use lib.ListN.{length};
 ghost use lib.Seq.{sets};
+ghost use Rattle.lists.specs.Lists.{Each};
 ghost use Rattle.bands.specs.Bands.{bandCount};
-ghost use Rattle.numbers.specs.Layout.{channelSize, unitSize, joined, unitOf};
-ghost use Rattle.fields.specs.Fields.{fieldSize, field};
-ghost use Rattle.sheet.specs.Lines.{channelBytes, sheetSize, lines};
-ghost use Rattle.writing.specs.Written.{lineText, written, groupText, channelText, filledCount, filledPart, filled};
+ghost use Rattle.unit.specs.Fit.{SectionFit, ChannelFit, Fit};
+ghost use Rattle.unit.specs.Sizes.{channelCount};
+ghost use Rattle.forms.specs.Line.{lineSize};
+ghost use Rattle.sheet.specs.Lines.{bandRanges, sectionRanges};
+ghost use Rattle.sheet.specs.Sheet.{sideLetters, bandsForm, sectionsForm, sideForm, sidesForm, sideSize, sheetSize, sheetOf};
+ghost use Rattle.writing.specs.Written.{filledCount, filledPart, filled};
+use bands::Band;
+use unit::BandSection;
+use unit::Channel;
 use unit::Unit;
 
 // Writes the unit's sheet to the front of the buffer, and hands back that part: 1,128 bytes, or an empty part from a shorter buffer or for
 // an unfit unit.
 pub fn write<'a>(unit: Unit, out: &'a mut [u8]) -> &'a mut [u8]
-    ensures { λ r. ⌜ (now r ≡ filledPart unit (length (now (out .entry)))) × (ptr r ≡ ptr (out .entry)) ⌝ }
+    ensures { λ r. ⌜ (now r ≡ filledPart sideLetters unit (length (now (out .entry)))) × (ptr r ≡ ptr (out .entry)) ⌝ }
 {
     let count = fill(unit, out);
     &mut out[..count]
@@ -24,7 +30,7 @@ pub fn write<'a>(unit: Unit, out: &'a mut [u8]) -> &'a mut [u8]
 // Fills the front of the buffer with the unit's sheet, and gives the count of its bytes. From a shorter buffer, or for an unfit unit, the
 // count is 0 and nothing is written.
 pub fn fill(unit: Unit, out: &mut [u8]) -> usize
-    ensures { λ r. ⌜ (r ≡ filledCount unit (length (now (out .entry)))) × (now (out .exit) ≡ filled unit (now (out .entry))) ⌝ }
+    ensures { λ r. ⌜ (r ≡ filledCount sideLetters unit (length (now (out .entry)))) × (now (out .exit) ≡ filled sideLetters unit (now (out .entry))) ⌝ }
 {
     if out.len() < sheet::SHEET_SIZE {
         return 0;
@@ -32,144 +38,74 @@ pub fn fill(unit: Unit, out: &mut [u8]) -> usize
     if !fitness::is_fit(unit) {
         return 0;
     }
-    let numbers = numbers::numbers_of(unit);
-    put_lines(out, &numbers);
+    put_sheet(out, unit);
     sheet::SHEET_SIZE
 }
 
-// Fills the front of the buffer with the sheet of the unit that the numbers stand for, and gives the count of its bytes. From a shorter
-// buffer, or for an unfit unit, the count is 0 and nothing is written.
-pub fn fill_numbers(numbers: &[i32; numbers::UNIT_SIZE], buffer: &mut [u8]) -> usize
-    ensures { λ r. ⌜ (r ≡ filledCount (unitOf (now (numbers .entry))) (length (now (buffer .entry)))) × (now (buffer .exit) ≡ filled (unitOf (now (numbers .entry))) (now (buffer .entry))) ⌝ }
+// Writes the sheet of a fit unit to the front of a buffer that has room for it: the V line, the C lines, and a side for each letter.
+pub fn put_sheet(out: &mut [u8], unit: Unit)
+    requires { ⌜ (sheetSize sideLetters ≤ length (now out)) × Fit unit ⌝ }
+    ensures { λ r. ⌜ now (out .exit) ≡ sets (now (out .entry)) 0 (sheetOf sideLetters unit) ⌝ }
 {
-    if buffer.len() < sheet::SHEET_SIZE {
-        return 0;
-    }
-    if !fitness::is_fit(numbers::unit_of(numbers)) {
-        return 0;
-    }
-    // As a slice the numbers are known to be as many as a unit has.
-    let all: &[i32] = numbers;
-    put_lines(buffer, numbers);
-    sheet::SHEET_SIZE
+    let volume = unit.volume;
+    let bands = unit.bands;
+    let channels = unit.channels;
+    let letters = [sheet::LEFT_LETTER, sheet::RIGHT_LETTER];
+    line_writing::put_volume(out, 0, volume);
+    put_bands(out, sheet::BANDS_AT, bands);
+    put_sides(out, sheet::SIDES_AT, &letters, channels);
 }
 
-// Writes the lines of a unit's numbers to the front of the buffer.
-fn put_lines(out: &mut [u8], numbers: &[i32; numbers::UNIT_SIZE])
-    requires { ⌜ (sheetSize ≤ length (now out)) × (length (now numbers) ≡ unitSize) ⌝ }
-    ensures { λ r. ⌜ now (out .exit) ≡ sets (now (out .entry)) 0 (written lines (now (numbers .entry))) ⌝ }
-{
-    put_line(
-        out,
-        0,
-        sheet::VOLUME_LETTER,
-        numbers,
-        0,
-        sheet::VOLUME_FIELDS,
-    );
-    put_group(
-        out,
-        sheet::BANDS_AT,
-        sheet::BAND_LETTER,
-        numbers,
-        numbers::BANDS,
-        sheet::BAND_FIELDS,
-    );
-    put_channel(
-        out,
-        sheet::LEFT_AT,
-        sheet::LEFT_LETTER,
-        numbers,
-        numbers::LEFT,
-    );
-    put_channel(
-        out,
-        sheet::RIGHT_AT,
-        sheet::RIGHT_LETTER,
-        numbers,
-        numbers::RIGHT,
-    );
-}
-
-// Writes the lines of a channel from place at on, the numbers from `place` on: an L or an R line, and ten S lines.
-fn put_channel(
-    out: &mut [u8],
-    at: usize,
-    letter: u8,
-    numbers: &[i32; numbers::UNIT_SIZE],
-    place: usize,
-)
-    requires { ⌜ (at + channelBytes ≤ length (now out)) × (length (now numbers) ≡ unitSize) × (place + channelSize ≤ unitSize) ⌝ }
-    ensures { λ r. ⌜ now (out .exit) ≡ sets (now (out .entry)) at (channelText letter (drop place (now (numbers .entry)))) ⌝ }
-{
-    put_line(out, at, letter, numbers, place, sheet::CHANNEL_FIELDS);
-    put_group(
-        out,
-        at + sheet::CHANNEL_LINE,
-        sheet::SECTION_LETTER,
-        numbers,
-        place + sheet::CHANNEL_FIELDS,
-        sheet::SECTION_FIELDS,
-    );
-}
-
-// Writes ten lines of one letter from place at on, with so many fields each: the numbers from `place` on.
-fn put_group(
-    out: &mut [u8],
-    at: usize,
-    letter: u8,
-    numbers: &[i32; numbers::UNIT_SIZE],
-    place: usize,
-    count: usize,
-)
-    requires { ⌜ (at + (fieldSize * count + 2) * bandCount ≤ length (now out)) × (length (now numbers) ≡ unitSize) × (place + count * bandCount ≤ unitSize) ⌝ }
-    ensures { λ r. ⌜ now (out .exit) ≡ sets (now (out .entry)) at (groupText letter count bandCount (drop place (now (numbers .entry)))) ⌝ }
+// Writes ten C lines from place at on.
+fn put_bands(out: &mut [u8], at: usize, bands: [Band; bands::BAND_COUNT])
+    requires { ⌜ at + lineSize (length bandRanges) * bandCount ≤ length (now out) ⌝ }
+    ensures { λ r. ⌜ now (out .exit) ≡ sets (now (out .entry)) at (bandsForm .text bands) ⌝ }
 {
     let mut i = 0;
     while i < bands::BAND_COUNT {
-        put_line(
-            out,
-            at + (fields::FIELD_SIZE * count + 2) * i,
-            letter,
-            numbers,
-            place + count * i,
-            count,
-        );
+        let band = bands[i];
+        line_writing::put_band(out, at + sheet::BAND_LINE * i, band);
         i += 1;
     }
 }
 
-// Writes a line from place at on: a letter, so many fields, the numbers from `place` on, and a line feed.
-fn put_line(
-    out: &mut [u8],
-    at: usize,
-    letter: u8,
-    numbers: &[i32; numbers::UNIT_SIZE],
-    place: usize,
-    count: usize,
-)
-    requires { ⌜ (at + (fieldSize * count + 2) ≤ length (now out)) × (length (now numbers) ≡ unitSize) × (place + count ≤ unitSize) ⌝ }
-    ensures { λ r. ⌜ now (out .exit) ≡ sets (now (out .entry)) at (lineText letter (take count (drop place (now (numbers .entry))))) ⌝ }
+// Writes the side of each fit channel from place at on, each behind a letter.
+fn put_sides(out: &mut [u8], at: usize, letters: &[u8], channels: [Channel; unit::CHANNEL_COUNT])
+    requires { ⌜ (at + sideSize * channelCount ≤ length (now out)) × (length (now letters) ≡ channelCount) × Each ChannelFit channels ⌝ }
+    ensures { λ r. ⌜ now (out .exit) ≡ sets (now (out .entry)) at (sidesForm (now (letters .entry)) .text channels) ⌝ }
 {
-    out[at] = letter;
-    put_fields(out, at + 1, numbers, place, count);
-    out[at + 1 + fields::FIELD_SIZE * count] = sheet::LINE_FEED;
+    let mut next = at;
+    let mut i = 0;
+    while i < unit::CHANNEL_COUNT {
+        let channel = channels[i];
+        next = put_side(out, next, letters[i], channel);
+        i += 1;
+    }
 }
 
-// Writes so many fields from place at on: the numbers from `place` on.
-fn put_fields(
-    out: &mut [u8],
-    at: usize,
-    numbers: &[i32; numbers::UNIT_SIZE],
-    place: usize,
-    count: usize,
-)
-    requires { ⌜ (at + fieldSize * count ≤ length (now out)) × (length (now numbers) ≡ unitSize) × (place + count ≤ unitSize) ⌝ }
-    ensures { λ r. ⌜ now (out .exit) ≡ sets (now (out .entry)) at (joined field (take count (drop place (now (numbers .entry))))) ⌝ }
+// Writes the side of a fit channel from place at on, a head and ten S lines, and gives the place behind it.
+fn put_side(out: &mut [u8], at: usize, letter: u8, channel: Channel) -> usize
+    requires { ⌜ (at + sideSize ≤ length (now out)) × ChannelFit channel ⌝ }
+    ensures { λ r. ⌜ (now (out .exit) ≡ sets (now (out .entry)) at (sideForm letter .text channel)) × (r ≡ at + sideSize) ⌝ }
+{
+    let x1 = channel.x1 as i32;
+    let x2 = channel.x2 as i32;
+    let flag = channel.flag as i32;
+    let sections = channel.sections;
+    line_writing::put_head(out, at, letter, x1, x2, flag);
+    put_sections(out, at + sheet::HEAD_LINE, sections);
+    at + sheet::SIDE_LINES
+}
+
+// Writes ten S lines of fit sections from place at on.
+fn put_sections(out: &mut [u8], at: usize, sections: [BandSection; bands::BAND_COUNT])
+    requires { ⌜ (at + lineSize (length sectionRanges) * bandCount ≤ length (now out)) × Each SectionFit sections ⌝ }
+    ensures { λ r. ⌜ now (out .exit) ≡ sets (now (out .entry)) at (sectionsForm .text sections) ⌝ }
 {
     let mut i = 0;
-    while i < count {
-        field_writing::put_field(out, at + fields::FIELD_SIZE * i, numbers[place + i]);
+    while i < bands::BAND_COUNT {
+        let section = sections[i];
+        line_writing::put_section(out, at + sheet::SECTION_LINE * i, section);
         i += 1;
     }
 }

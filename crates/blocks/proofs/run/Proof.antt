@@ -7,13 +7,19 @@ use lib.ListN.{length, getD}
 use lib.Ieee.{Float}
 use borrow.Author.Needs.{needs}
 use denote.Ref.{now}
+use Rattle.lists.proofs.Tabulate.{tabulate-all, each-getD}
 use Rattle.unit.specs.declared.Unit.{Unit}
 use Rattle.unit.specs.Fit.{ChannelFit, Fit}
 use Rattle.unit.proofs.Ranges.{volume-size}
-use Rattle.unit.proofs.Tabulate.{tabulate-all, each-getD}
 use Rattle.unit.proofs.PastEnd.{zeroChannel}
 use Rattle.engine.specs.declared.FloatLevel.{FloatLevel}
+use Rattle.packing.proofs.band_floats.Reads as band-floats-reads
+use Rattle.packing.proofs.channel_of.Reads as channel-of-reads
+use Rattle.packing.proofs.level_floats.Reads as level-floats-reads
+use Rattle.packing.proofs.level_of.Reads as level-of-reads
+use Rattle.packing.proofs.pair_floats.Reads as pair-floats-reads
 use Rattle.frames.specs.Run.{unitIn}
+use Rattle.frames.proofs.frames.Reads as frames-reads
 use Rattle.blocks.specs.Run.{unitOfParts}
 use Rattle.blocks.proofs.Block.{BlockAccepts, block-accepted}
 use Rattle.blocks.proofs.Packed.{Packed, frames-asks, unit-after, fit-after, volume-after, output-after}
@@ -21,12 +27,6 @@ use Rattle.blocks.proofs.run.Statement.{statement}
 use Rattle.blocks.proofs.run.Tie as tie
 use Rattle.blocks.proofs.run.Reads as reads
 use Rattle.blocks.proofs.run.Lts as lts
-use Rattle.frames.proofs.frames.Reads as frames-reads
-use Rattle.packing.proofs.band_floats.Reads as band-floats-reads
-use Rattle.packing.proofs.channel_of.Reads as channel-of-reads
-use Rattle.packing.proofs.level_floats.Reads as level-floats-reads
-use Rattle.packing.proofs.level_of.Reads as level-of-reads
-use Rattle.packing.proofs.pair_floats.Reads as pair-floats-reads
 
 module _ (s : lts.Start (band-floats-reads.Asked, band-floats-reads.Learnt, pair-floats-reads.Asked, pair-floats-reads.Learnt, level-floats-reads.Asked, level-floats-reads.Learnt, frames-reads.Asked, frames-reads.Learnt, level-of-reads.Asked, level-of-reads.Learnt, channel-of-reads.Asked, channel-of-reads.Learnt) reads.Pre reads.Post) where
   abbrev input : List ℕ

@@ -6,6 +6,7 @@ use denote.Ref.{now}
 use borrow.Author.Needs.{needs}
 use Rattle.loading.specs.declared.Loaded.{Loaded}
 use Rattle.loading.specs.Loading.{loaded}
+use Rattle.sheet.specs.Sheet.{sideLetters}
 use Rattle.reading.specs.Reading.{sheetRead}
 use Rattle.decisions.proofs.opening.Statement.{statement}
 use Rattle.decisions.proofs.opening.Tie as tie
@@ -13,7 +14,7 @@ use Rattle.decisions.proofs.opening.Tie as tie
 returns : tie.Need-returns
 returns c =
     c .read .ensures
-    ∙ ap (sheetRead (now (c .before .before .before .before .before .before .args .bytes)))
+    ∙ ap (sheetRead sideLetters (now (c .before .before .before .before .before .before .args .bytes)))
     (ap (λ (l : Loaded). l .unit) (c .before .before .load .ensures) ∙ ap (λ (set : List ℤ). loaded set .unit) (c .before .before .before .before .house-set .ensures))
 
 pub opening-spec : {M : Type 1} → statement M

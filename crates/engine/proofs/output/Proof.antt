@@ -16,12 +16,13 @@ use Rattle.integers.proofs.Machine.{product-sized}
 use Rattle.rounding.specs.Rounding.{nearest, limit}
 use Rattle.rounding.proofs.Nearest.{nearest-size}
 use Rattle.rounding.proofs.Limit.{limit-low, limit-high}
-use Rattle.bands.specs.Words.{wordSize}
-use Rattle.unit.specs.Frame.{sampleLow, sampleHigh, output}
+use Rattle.words.specs.Words.{wordSize}
 use Rattle.floats.specs.Whole.{float, wholeOf}
 use Rattle.floats.proofs.Casts.{int-back}
 use Rattle.floats.proofs.Quotient.{quotient-roundable, quotient-whole}
 use Rattle.floats.proofs.WholeNumbers.{Whole, of-whole, mul-whole}
+use Rattle.floats.proofs.nearest_whole.Reads as nearest-whole-reads
+use Rattle.unit.specs.Frame.{sampleLow, sampleHigh, output}
 use Rattle.engine.specs.Floats.{largest}
 use Rattle.engine.proofs.Carry.{carries-whole, limited-is}
 use Rattle.engine.proofs.output.Statement.{statement}
@@ -29,7 +30,6 @@ use Rattle.engine.proofs.output.Tie as tie
 use Rattle.engine.proofs.output.Reads as reads
 use Rattle.engine.proofs.output.Lts as lts
 use Rattle.engine.proofs.limited.Reads as limited-reads
-use Rattle.floats.proofs.nearest_whole.Reads as nearest-whole-reads
 
 -- the ends of a sample
 abbrev lowest : Float

@@ -10,18 +10,20 @@ use borrow.Author.Needs.{needs}
 use Rattle.integers.proofs.Machine.{product-sized}
 use Rattle.rounding.specs.Rounding.{nearest, limit}
 use Rattle.rounding.proofs.Nearest.{nearest-size}
-use Rattle.bands.specs.Words.{wordSize, wordLow, wordHigh}
+use Rattle.words.specs.Words.{wordSize, wordLow, wordHigh}
+use Rattle.words.proofs.Laws.{word-size}
 use Rattle.bands.specs.declared.Band.{Band}
-use Rattle.bands.proofs.Laws.{Accepts, band-sizes, word-size}
-use Rattle.levels.specs.Levels.{gainSlope, ramp}
-use Rattle.levels.proofs.Laws.{ramp-size}
-use Rattle.section.specs.Equation.{sumShift, exactSum, worked}
-use Rattle.section.proofs.Laws.{worked-size}
-use Rattle.unit.specs.declared.BandSection.{BandSection}
-use Rattle.unit.specs.Frame.{sectionFrame}
+use Rattle.bands.proofs.Laws.{Accepts, band-sizes}
 use Rattle.floats.specs.Whole.{float, wholeOf}
 use Rattle.floats.proofs.Quotient.{quotient-roundable, quotient-whole}
 use Rattle.floats.proofs.WholeNumbers.{Whole, of-whole, add-whole, mul-whole}
+use Rattle.floats.proofs.nearest_whole.Reads as nearest-whole-reads
+use Rattle.section.specs.Equation.{sumShift, exactSum, worked}
+use Rattle.section.proofs.Laws.{worked-size}
+use Rattle.levels.specs.Levels.{gainSlope, ramp}
+use Rattle.levels.proofs.Laws.{ramp-size}
+use Rattle.unit.specs.declared.BandSection.{BandSection}
+use Rattle.unit.specs.Frame.{sectionFrame}
 use Rattle.engine.specs.Floats.{largest, Carries, bandIn, bandSectionIn}
 use Rattle.engine.specs.Frame.{turned, raisedBy}
 use Rattle.engine.proofs.Carry.{carries, whole-is, limited-is}
@@ -30,7 +32,6 @@ use Rattle.engine.proofs.turn.Statement.{statement}
 use Rattle.engine.proofs.turn.Tie as tie
 use Rattle.engine.proofs.turn.Reads as reads
 use Rattle.engine.proofs.turn.Lts as lts
-use Rattle.floats.proofs.nearest_whole.Reads as nearest-whole-reads
 use Rattle.engine.proofs.limited.Reads as limited-reads
 use Rattle.engine.proofs.FloatLevel.moved.Reads as moved-reads
 use Rattle.engine.proofs.raised.Reads as raised-reads

@@ -7,8 +7,8 @@ use lib.ListN.{length, set, replicate, length-set, length-replicate, replicate-a
 use lib.Seq.{sets}
 use denote.Ref.{now}
 use borrow.Author.Needs.{needs}
+use Rattle.lists.proofs.Stores.{sets-append}
 use Rattle.fields.specs.Fields.{blank}
-use Rattle.fields.proofs.Stores.{sets-append}
 use Rattle.field_writing.specs.Front.{frontColumns}
 use Rattle.field_writing.proofs.put_blanks.Statement.{statement}
 use Rattle.field_writing.proofs.put_blanks.Tie as tie

@@ -8,8 +8,8 @@ use native.Mathlib.Omega.{arith}
 use lib.ListN.{length, set, length-set}
 use lib.Seq.{sets}
 use borrow.Author.Needs.{needs}
+use Rattle.lists.proofs.Stores.{sets-cons}
 use Rattle.fields.specs.Fields.{lastColumn, column, owedStill, columns}
-use Rattle.fields.proofs.Stores.{sets-cons}
 use Rattle.field_writing.proofs.put_columns.Statement.{statement}
 use Rattle.field_writing.proofs.put_columns.Tie as tie
 

@@ -13,8 +13,8 @@ use mir.Facts.{toZ-ofZ}
 use mir.Syntax.{w32}
 use mir.Val.{toZ, ofZ}
 use borrow.Author.Needs.{needs}
+use Rattle.lists.proofs.Stores.{sets-append, sets-snoc}
 use Rattle.fields.specs.Fields.{lastColumn, blank, digit, column, owedStill, columns, field}
-use Rattle.fields.proofs.Stores.{sets-append, sets-snoc}
 use Rattle.fields.proofs.Columns.{columns-length}
 use Rattle.field_writing.specs.Front.{frontColumns}
 use Rattle.field_writing.proofs.put_field.Statement.{statement}

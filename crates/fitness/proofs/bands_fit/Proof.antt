@@ -3,11 +3,11 @@ use mathlib.Core.Path.{ap, _∙_}
 use Prim.Native.Nat.{_-_}
 use native.Mathlib.Omega.{arith}
 use borrow.Author.Needs.{needs}
+use Rattle.lists.proofs.Loops.{EveryFrom, every-begin, every-fails, every-passes, every-done}
 use Rattle.refusals.specs.Numbers.{isAccepted}
 use Rattle.bands.specs.Bands.{bandCount}
 use Rattle.unit.proofs.PastEnd.{zeroBand}
 use Rattle.unit.specs.Fit.{bandFits}
-use Rattle.unit.proofs.Lists.{EveryFrom, every-begin, every-fails, every-passes, every-done}
 use Rattle.fitness.proofs.bands_fit.Statement.{statement}
 use Rattle.fitness.proofs.bands_fit.Tie as tie
 

@@ -2,10 +2,10 @@
 use Prim.Native.Nat.{_-_}
 use native.Mathlib.Omega.{arith}
 use borrow.Author.Needs.{needs}
+use Rattle.lists.proofs.Loops.{EveryFrom, every-begin, every-fails, every-passes, every-done}
 use Rattle.unit.specs.Sizes.{channelCount}
 use Rattle.unit.proofs.PastEnd.{zeroChannel}
 use Rattle.unit.specs.Fit.{channelFits}
-use Rattle.unit.proofs.Lists.{EveryFrom, every-begin, every-fails, every-passes, every-done}
 use Rattle.fitness.proofs.channels_fit.Statement.{statement}
 use Rattle.fitness.proofs.channels_fit.Tie as tie
 

@@ -6,8 +6,8 @@ use mir.Facts.{toZ-ofZ}
 use borrow.Author.Needs.{needs}
 use borrow.Author.Tests.{not-false}
 use Rattle.integers.proofs.Order.{and-fails}
-use Rattle.bands.specs.Words.{wordSize, isWord}
-use Rattle.bands.proofs.Laws.{word-size, narrow-need, narrow-reads}
+use Rattle.words.specs.Words.{wordSize, isWord}
+use Rattle.words.proofs.Laws.{word-size, narrow-need, narrow-reads}
 use Rattle.unit.specs.Fit.{isInput}
 use Rattle.fitness.proofs.input_fits.Statement.{statement}
 use Rattle.fitness.proofs.input_fits.Tie as tie

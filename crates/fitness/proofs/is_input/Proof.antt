@@ -6,13 +6,13 @@ use mir.Facts.{toZ-ofZ}
 use borrow.Author.Needs.{needs}
 use Rattle.integers.proofs.Order.{and-fails, and-passes}
 use Rattle.rounding.proofs.Rest.{multiple-need, rest-need, rest-reads}
-use Rattle.bands.specs.Words.{isWord}
+use Rattle.words.specs.Words.{isWord}
+use Rattle.words.proofs.is_word.Reads as is-word-reads
 use Rattle.unit.specs.Fit.{isInput}
 use Rattle.fitness.proofs.is_input.Statement.{statement}
 use Rattle.fitness.proofs.is_input.Tie as tie
 use Rattle.fitness.proofs.is_input.Reads as reads
 use Rattle.fitness.proofs.is_input.Lts as lts
-use Rattle.bands.proofs.is_word.Reads as is-word-reads
 
 word-test : (c : lts.After-is-word (is-word-reads.Asked, is-word-reads.Learnt) reads.Pre reads.Post) → c .is-word .result ≡ isWord (c .before .args .v)
 word-test c = c .is-word .ensures ∙ ap isWord (toZ-ofZ (c .before .fits .v))

@@ -1,7 +1,7 @@
 -- `fitness::is_word` meets its contract, by that of the test of a range.
 use mathlib.Core.Path.{ap, _∙_}
 use mir.Facts.{toZ-ofZ}
-use Rattle.bands.specs.Words.{isWord}
+use Rattle.words.specs.Words.{isWord}
 use borrow.Author.Needs.{needs}
 use Rattle.fitness.proofs.is_word.Statement.{statement}
 use Rattle.fitness.proofs.is_word.Tie as tie

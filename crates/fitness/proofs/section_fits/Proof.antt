@@ -3,7 +3,7 @@ use native.Mathlib.Omega.{arith}
 use mir.Syntax.{w64}
 use Rattle.integers.proofs.Machine.{test-back}
 use Rattle.integers.proofs.Order.{and-fails, and-passes}
-use Rattle.bands.specs.Words.{isWord}
+use Rattle.words.specs.Words.{isWord}
 use borrow.Author.Needs.{needs}
 use Rattle.fitness.proofs.section_fits.Statement.{statement}
 use Rattle.fitness.proofs.section_fits.Tie as tie

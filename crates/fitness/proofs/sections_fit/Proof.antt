@@ -2,10 +2,10 @@
 use Prim.Native.Nat.{_-_}
 use native.Mathlib.Omega.{arith}
 use borrow.Author.Needs.{needs}
+use Rattle.lists.proofs.Loops.{EveryFrom, every-begin, every-fails, every-passes, every-done}
 use Rattle.bands.specs.Bands.{bandCount}
 use Rattle.unit.specs.Cleared.{clearedBandSection}
 use Rattle.unit.specs.Fit.{sectionFits}
-use Rattle.unit.proofs.Lists.{EveryFrom, every-begin, every-fails, every-passes, every-done}
 use Rattle.fitness.proofs.sections_fit.Statement.{statement}
 use Rattle.fitness.proofs.sections_fit.Tie as tie
 

@@ -5,7 +5,7 @@ use mir.Syntax.{w64}
 use Rattle.integers.proofs.Machine.{test-back}
 use Rattle.integers.proofs.Order.{and-fails, and-passes}
 use Rattle.rounding.specs.Rounding.{within}
-use Rattle.bands.specs.Words.{wordHigh}
+use Rattle.words.specs.Words.{wordHigh}
 use Rattle.unit.specs.Fit.{isVolume}
 use borrow.Author.Needs.{needs}
 use Rattle.fitness.proofs.volume_fits.Statement.{statement}

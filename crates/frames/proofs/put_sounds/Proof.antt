@@ -15,8 +15,8 @@ use mir.Val.{toZ, ofZ}
 use mir.Facts.{toZ-ofZ}
 use Rattle.rounding.specs.Rounding.{nearest}
 use Rattle.rounding.proofs.Limit.{limit-low, limit-high}
+use Rattle.words.specs.Words.{wordSize}
 use Rattle.floats.specs.Whole.{float, wholeOf}
-use Rattle.bands.specs.Words.{wordSize}
 use Rattle.levels.specs.declared.Level.{Level}
 use Rattle.levels.specs.Levels.{volumeSlope, moved}
 use Rattle.unit.specs.Frame.{sampleLow, sampleHigh, output}
@@ -27,6 +27,9 @@ use Rattle.engine.specs.declared.Sides.{Sides}
 use Rattle.engine.specs.Floats.{Carries, floatAt, floatLevel, levelIn}
 use Rattle.engine.specs.Frame.{LevelCarries, OutputAsks, totalSize}
 use Rattle.engine.proofs.Carry.{carries, level-back, volume-moves}
+use Rattle.engine.proofs.FloatLevel.moved.Reads as moved-reads
+use Rattle.engine.proofs.output.Reads as output-reads
+use Rattle.engine.proofs.sides_at.Reads as sides-at-reads
 use Rattle.frames.specs.Column.{volumePlayed, putSample, columnsStored}
 use Rattle.frames.specs.Run.{firstWords, secondWords, totalHeard}
 use Rattle.frames.proofs.Column.{volume-fit, sample-length, stored-length}
@@ -34,9 +37,6 @@ use Rattle.frames.proofs.put_sounds.Statement.{statement}
 use Rattle.frames.proofs.put_sounds.Tie as tie
 use Rattle.frames.proofs.put_sounds.Reads as reads
 use Rattle.frames.proofs.put_sounds.Lts as lts
-use Rattle.engine.proofs.FloatLevel.moved.Reads as moved-reads
-use Rattle.engine.proofs.output.Reads as output-reads
-use Rattle.engine.proofs.sides_at.Reads as sides-at-reads
 use Rattle.frames.proofs.put_sample.Reads as put-sample-reads
 
 -- after k frames

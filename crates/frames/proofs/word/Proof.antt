@@ -10,10 +10,10 @@ use denote.Ref.{now}
 use mir.Syntax.{w64}
 use mir.Val.{SFits, toZ, ofZ}
 use Rattle.integers.proofs.Machine.{Num, num, literal, below-fits, binary, binary-need}
-use Rattle.bands.specs.Words.{wordSize}
-use Rattle.unit.proofs.Ranges.{input-size}
+use Rattle.words.specs.Words.{wordSize}
 use Rattle.floats.specs.Whole.{float}
 use Rattle.floats.proofs.Casts.{int-in}
+use Rattle.unit.proofs.Ranges.{input-size}
 use Rattle.frames.specs.Bytes.{wordOf, wordAt}
 use Rattle.frames.proofs.Bytes.{word-input}
 use Rattle.frames.proofs.word.Statement.{statement}

@@ -1,35 +1,37 @@
 -- `lending::sheet_read` meets its contract: the numbers of an accepted sheet are those of the unit that it carries.
-use mathlib.Core.Path.{_≡_, refl, sym, ap, _∙_}
-use mathlib.Core.Bool.{Bool, true, false, cond}
-use mathlib.Core.List.{List}
-use Prim.Native.Nat.{ℕ}
-use lib.IntN.{ℤ}
+use mathlib.Core.Path.{sym, _∙_}
 use denote.Ref.{now}
 use borrow.Author.Needs.{needs}
-use Rattle.refusals.specs.Numbers.{numberOf, isAccepted}
-use Rattle.numbers.specs.Layout.{unitOf, numbersOf}
-use Rattle.numbers.proofs.Laws.{numbers-of-unit}
-use Rattle.sheet.specs.Lines.{lines}
-use Rattle.reading.specs.Reading.{numbersIn, sheetVerdict, numbersRead, unitIn, sheetRead}
-use Rattle.reading.proofs.Whole.{numbers-in-length}
+use borrow.Author.Tests.{not-true, not-false}
+use Rattle.lending.proofs.Sheets.{sheet-refused, carried-fits, sheet-stored}
 use Rattle.lending.proofs.sheet_read.Statement.{statement}
 use Rattle.lending.proofs.sheet_read.Tie as tie
 
--- the numbers that a sheet carries are those of its unit, by the test of the sheet
-of-unit : (bytes : List ℕ) (l : List ℤ) (t : Bool) → cond t (numbersIn lines bytes) l ≡ cond t (numbersOf (cond t (unitIn bytes) (unitOf l))) l
-unfolding unitIn
-of-unit bytes l true = sym (numbers-of-unit (numbersIn lines bytes) (numbers-in-length lines bytes))
-of-unit bytes l false = refl
-
 returns : tie.Need-returns
-unfolding numbersRead sheetRead
 returns c =
-    let s = c .before .before .before .before in
-    let bytes = now (s .args .bytes) in
-    record {
-      number-is = c .number .ensures ∙ ap numberOf (c .before .read-numbers .ensures .0);
-      numbers-are = c .before .read-numbers .ensures .1 ∙ of-unit bytes (now (s .args .numbers)) (isAccepted (sheetVerdict bytes));
-    }
+    let s = c .before .before .before .before .before .before in
+    sheet-refused (now (s .args .bytes)) (now (s .args .numbers)) (c .before .before .before .before .cleared .result) (c .before .before .before .read .result) (c .before .before .before .read .ensures)
+    (c .number .ensures) (sym (c .before .before .accepted .ensures) ∙ not-true _ (c .before .if1 .taken))
+
+numbers-of-requires : tie.Need-numbers-of-requires
+numbers-of-requires c κs =
+    carried-fits (now (c .before .before .before .before .before .before .args .bytes)) (now (c .before .before .before .before .before .before .args .numbers)) (c .before .before .before .before .cleared .result) (c .before .before .before .read .result) (c .before .before .before .read .ensures) (sym (c .before .before .accepted .ensures) ∙ not-false _ (c .before .if1 .left))
+
+returns-2 : tie.Need-returns-2
+returns-2 c =
+    let s = c .before .before .before .before .before .before .before .before in
+    sheet-stored (now (s .args .bytes)) (now (s .args .numbers)) (c .before .before .before .before .before .before .cleared .result) (c .before .before .before .before .before .read .result) (c .before .before .before .before .before .read .ensures) (sym (c .before .before .before .before .accepted .ensures) ∙ not-false _ (c .before .before .before .if1 .left))
+    (c .number2 .ensures) (c .before .numbers-of .ensures)
 
 pub sheet-read-spec : {M : Type 1} → statement M
-sheet-read-spec = tie.close (tie.spec (λ c κs. search needs) (λ c κs. search needs) returns)
+sheet-read-spec =
+    tie.close
+    (tie.spec
+    (λ c κs. search needs)
+    (λ c κs. search needs)
+    (λ c κs. search needs)
+    (λ c κs. search needs)
+    returns
+    numbers-of-requires
+    (λ c κs. search needs)
+    returns-2)

@@ -8,9 +8,9 @@ use lib.ListN.{getD, take, drop}
 use denote.Ref.{now}
 use mir.Syntax.{w32}
 use Rattle.integers.proofs.Machine.{test-back}
-use Rattle.bands.specs.Words.{isWord}
+use Rattle.lists.specs.Lists.{every}
+use Rattle.words.specs.Words.{isWord}
 use Rattle.bands.specs.Bands.{bandCount}
-use Rattle.unit.specs.Lists.{every}
 use Rattle.numbers.specs.Layout.{sectionSize}
 use Rattle.lent_fitness.proofs.Laws.{words-next}
 use borrow.Author.Needs.{needs}

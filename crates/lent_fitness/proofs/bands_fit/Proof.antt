@@ -5,20 +5,20 @@ use native.Mathlib.Omega.{arith}
 use lib.ListN.{getD}
 use denote.Ref.{now}
 use borrow.Author.Needs.{needs}
+use Rattle.lists.proofs.Loops.{EveryFrom, every-begin, every-fails, every-passes, every-done}
+use Rattle.lists.proofs.Tabulate.{tabulate-at}
 use Rattle.refusals.specs.Numbers.{isAccepted}
+use Rattle.refusals.proofs.accepted.Reads as accepted-reads
 use Rattle.bands.specs.Bands.{bandCount, bandAt, bandVerdict}
+use Rattle.bands.proofs.band_at.Reads as band-at-reads
+use Rattle.bands.proofs.check_band.Reads as check-band-reads
 use Rattle.unit.specs.Cleared.{bandsOf}
 use Rattle.unit.specs.Fit.{bandFits}
 use Rattle.unit.proofs.PastEnd.{zeroBand}
-use Rattle.unit.proofs.Lists.{EveryFrom, every-begin, every-fails, every-passes, every-done}
-use Rattle.unit.proofs.Tabulate.{tabulate-at}
 use Rattle.lent_fitness.proofs.bands_fit.Statement.{statement}
 use Rattle.lent_fitness.proofs.bands_fit.Tie as tie
 use Rattle.lent_fitness.proofs.bands_fit.Reads as reads
 use Rattle.lent_fitness.proofs.bands_fit.Lts as lts
-use Rattle.bands.proofs.band_at.Reads as band-at-reads
-use Rattle.bands.proofs.check_band.Reads as check-band-reads
-use Rattle.refusals.proofs.accepted.Reads as accepted-reads
 
 abbrev Inv-loop : tie.InvT-loop
 Inv-loop set b₀ b = EveryFrom bandFits (bandsOf set) b

@@ -9,12 +9,12 @@ use lib.Seq.{drop-drop}
 use denote.Ref.{now}
 use mir.Syntax.{w32}
 use Rattle.integers.proofs.Machine.{test-back}
-use Rattle.bands.specs.Words.{isWord}
+use Rattle.lists.specs.Lists.{every}
+use Rattle.lists.proofs.Parts.{behind}
+use Rattle.words.specs.Words.{isWord}
 use Rattle.bands.specs.Bands.{bandCount}
-use Rattle.unit.specs.Lists.{every}
 use Rattle.unit.specs.Fit.{isInput, isFlag}
 use Rattle.numbers.specs.Layout.{headSize, sectionSize}
-use Rattle.numbers.proofs.Put.{behind}
 use Rattle.lent_fitness.proofs.Laws.{in-row, sections-fit}
 use borrow.Author.Needs.{needs}
 use Rattle.lent_fitness.proofs.channel_fits.Statement.{statement}
@@ -29,8 +29,8 @@ returns c =
     let x1 = test-back isInput w32 (getD l start (pos 0)) (omega arith) (c .before .before .before .before .before .is-input .ensures) in
     let x2 = test-back isInput w32 (getD l (start + 1) (pos 0)) (omega arith) (c .before .before .before .is-input2 .ensures) in
     let flag = test-back isFlag w32 (getD l (start + 2) (pos 0)) (omega arith) (c .before .in-range-i32 .ensures) in
-    in-row (x1 ∙ ap isInput (behind l start 0 start (omega arith))) (x2 ∙ ap isInput (behind l start 1 (start + 1) refl))
-    (flag ∙ ap isFlag (behind l start 2 (start + 2) refl))
+    in-row (x1 ∙ ap isInput (behind (pos 0) l start 0 start (omega arith))) (x2 ∙ ap isInput (behind (pos 0) l start 1 (start + 1) refl))
+    (flag ∙ ap isFlag (behind (pos 0) l start 2 (start + 2) refl))
     (c .are-words .ensures
     ∙ ap (λ (m : List ℤ). every isWord (take (sectionSize * bandCount) m)) (sym (drop-drop headSize start l))
     ∙ sections-fit (drop start l) (omega (arith, length-drop start l)))

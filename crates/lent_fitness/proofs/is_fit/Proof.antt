@@ -9,7 +9,7 @@ use lib.ListN.{length, drop, length-drop}
 use lib.Seq.{take-all}
 use denote.Ref.{now}
 use Rattle.integers.proofs.Order.{and-fails, and-passes}
-use Rattle.unit.specs.Lists.{every}
+use Rattle.lists.specs.Lists.{every}
 use Rattle.unit.specs.Cleared.{bandsOf}
 use Rattle.unit.specs.Fit.{bandFits, unitFits}
 use Rattle.numbers.specs.Layout.{bandsPlace, unitOf}

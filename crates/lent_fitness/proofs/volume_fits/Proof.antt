@@ -8,7 +8,7 @@ use denote.Ref.{now}
 use mir.Syntax.{w32}
 use Rattle.integers.proofs.Machine.{test-back}
 use Rattle.rounding.specs.Rounding.{within}
-use Rattle.bands.specs.Words.{wordHigh}
+use Rattle.words.specs.Words.{wordHigh}
 use Rattle.unit.specs.Fit.{isVolume}
 use Rattle.numbers.specs.Layout.{unitOf}
 use borrow.Author.Needs.{needs}

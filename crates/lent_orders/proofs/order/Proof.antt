@@ -6,11 +6,11 @@ use Prim.Native.Nat.{_≤_}
 use lib.IntN.{ℤ, natAbs}
 use denote.Ref.{now}
 use borrow.Author.Tests.{not-true, not-false}
+use Rattle.words.specs.Words.{wordSize, isWord}
+use Rattle.words.proofs.Laws.{word-size, narrow-need, narrow-reads}
 use Rattle.refusals.specs.Numbers.{isAccepted}
 use Rattle.refusals.specs.declared.Verdict.{Verdict}
 use Rattle.refusals.proofs.Laws.{passed, failed}
-use Rattle.bands.specs.Words.{wordSize, isWord}
-use Rattle.bands.proofs.Laws.{word-size, narrow-need, narrow-reads}
 use Rattle.unit.specs.declared.Unit.{Unit}
 use Rattle.unit.specs.Fit.{unitFits}
 use Rattle.unit.specs.Sizes.{channelCount}
@@ -21,15 +21,15 @@ use Rattle.orders.specs.Orders.{aimedUnit, ordered}
 use Rattle.orders.proofs.Laws.{ordered-unfit, ordered-refused, ordered-accepted}
 use Rattle.numbers.specs.Layout.{numbersOf, unitOf, numbersAfter}
 use borrow.Author.Needs.{needs}
+use Rattle.refusals.proofs.accepted.Reads as accepted-reads
+use Rattle.settings.proofs.check_order.Reads as check-order-reads
+use Rattle.settings.proofs.target_of.Reads as target-of-reads
+use Rattle.lent_fitness.proofs.is_fit.Reads as is-fit-reads
 use Rattle.lent_orders.proofs.order.Statement.{statement}
 use Rattle.lent_orders.proofs.order.Tie as tie
 use Rattle.lent_orders.proofs.order.Reads as reads
 use Rattle.lent_orders.proofs.order.Lts as lts
-use Rattle.lent_fitness.proofs.is_fit.Reads as is-fit-reads
 use Rattle.lent_orders.proofs.aim.Reads as aim-reads
-use Rattle.refusals.proofs.accepted.Reads as accepted-reads
-use Rattle.settings.proofs.check_order.Reads as check-order-reads
-use Rattle.settings.proofs.target_of.Reads as target-of-reads
 
 -- the answer of the definition, and what it tells
 module _ (c : lts.After-is-fit (is-fit-reads.Asked, is-fit-reads.Learnt, check-order-reads.Asked, check-order-reads.Learnt, accepted-reads.Asked, accepted-reads.Learnt, target-of-reads.Asked, target-of-reads.Learnt, aim-reads.Asked, aim-reads.Learnt) reads.Pre reads.Post) where

@@ -8,7 +8,7 @@ use denote.Ref.{now}
 use borrow.Author.Needs.{needs}
 use mir.Syntax.{w32}
 use Rattle.integers.proofs.Machine.{reads-back}
-use Rattle.bands.specs.Words.{wordSize}
+use Rattle.words.specs.Words.{wordSize}
 use Rattle.engine.specs.Floats.{Carries, floatAt}
 use Rattle.engine.specs.Layout.{pairFloats}
 use Rattle.lent_packing.proofs.Carry.{pair-carries}

@@ -4,18 +4,18 @@ use Prim.Native.Nat.{ℕ, _+_, _-_}
 use native.Mathlib.Omega.{arith}
 use lib.ListN.{take, drop}
 use denote.Ref.{now}
-use Rattle.bands.specs.Bands.{bandSize, bandVerdict, bandAt}
 use borrow.Author.Needs.{needs}
+use Rattle.bands.specs.Bands.{bandSize, bandVerdict, bandAt}
 use Rattle.line_reading.proofs.check_band_at.Statement.{statement}
 use Rattle.line_reading.proofs.check_band_at.Tie as tie
 
 returns : tie.Need-returns
 returns c =
-    let args = c .before .before .before .before .args in
+    let args = c .before .before .before .args in
     let size : args .place + bandSize - args .place ≡ bandSize = omega arith in
     c .check-band .ensures
     ∙ ap bandVerdict (c .before .band-at .ensures)
-    ∙ ap (λ (n : ℕ). bandVerdict (bandAt (take n (drop (args .place) (now (args .numbers)))) 0)) size
+    ∙ ap (λ (n : ℕ). bandVerdict (bandAt (take n (drop (args .place) (now (args .slots)))) 0)) size
 
 pub check-band-at-spec : {M : Type 1} → statement M
 check-band-at-spec =

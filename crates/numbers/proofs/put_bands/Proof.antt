@@ -4,9 +4,10 @@ use native.Mathlib.Omega.{arith}
 use lib.ListN.{take}
 use denote.Ref.{now}
 use borrow.Author.Needs.{needs}
+use Rattle.lists.specs.Lists.{joined}
 use Rattle.bands.specs.Bands.{bandCount}
 use Rattle.unit.proofs.PastEnd.{zeroBand}
-use Rattle.numbers.specs.Layout.{bandsPlace, leftPlace, joined, bandNumbers, PutGives}
+use Rattle.numbers.specs.Layout.{bandsPlace, leftPlace, bandNumbers, PutGives}
 use Rattle.numbers.proofs.Put.{put-none, put-entry, put-entries}
 use Rattle.numbers.proofs.put_bands.Statement.{statement}
 use Rattle.numbers.proofs.put_bands.Tie as tie

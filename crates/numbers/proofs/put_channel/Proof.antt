@@ -8,9 +8,9 @@ use lib.ListN.{set}
 use denote.Ref.{now}
 use mir.Syntax.{w32, w64}
 use mir.Val.{toZ, ofZ}
+use Rattle.words.proofs.Laws.{narrow-need, narrow-reads}
+use Rattle.words.specs.Words.{wordSize}
 use Rattle.bands.specs.Bands.{bandCount}
-use Rattle.bands.proofs.Laws.{narrow-need, narrow-reads}
-use Rattle.bands.specs.Words.{wordSize}
 use Rattle.unit.proofs.Ranges.{input-size, flag-size}
 use Rattle.numbers.specs.Layout.{headSize, sectionSize, channelSize, channelNumbers, PutGives}
 use Rattle.numbers.proofs.Put.{put-three, put-then}

@@ -5,11 +5,12 @@ use native.Mathlib.Omega.{arith}
 use lib.Dec.{lit≤}
 use lib.IntN.{ℤ}
 use denote.Ref.{now}
+use Rattle.lists.proofs.Tabulate.{each-getD}
+use Rattle.lists.proofs.Joined.{joined-two}
 use Rattle.unit.specs.Fit.{ChannelFit}
 use Rattle.unit.proofs.PastEnd.{zeroChannel}
-use Rattle.unit.proofs.Tabulate.{each-getD}
 use Rattle.numbers.specs.Layout.{unitSize, leftPlace, channelNumbers, PutGives}
-use Rattle.numbers.proofs.Put.{put-then, joined-two}
+use Rattle.numbers.proofs.Put.{put-then}
 use borrow.Author.Needs.{needs}
 use Rattle.numbers.proofs.put_channels.Statement.{statement}
 use Rattle.numbers.proofs.put_channels.Tie as tie

@@ -2,8 +2,8 @@
 use Prim.Native.Nat.{_≤_}
 use lib.IntN.{natAbs}
 use denote.Ref.{now}
-use Rattle.bands.specs.Words.{wordSize}
-use Rattle.bands.proofs.Laws.{word-size, narrow-need, narrow-reads}
+use Rattle.words.specs.Words.{wordSize}
+use Rattle.words.proofs.Laws.{word-size, narrow-need, narrow-reads}
 use Rattle.unit.specs.Fit.{SectionFit}
 use Rattle.numbers.proofs.Put.{put-four}
 use borrow.Author.Needs.{needs}

@@ -8,9 +8,10 @@ use mathlib.Core.List.{[]}
 use Rattle.bands.specs.Bands.{bandCount}
 use Rattle.unit.specs.Fit.{SectionFit}
 use borrow.Author.Needs.{needs}
+use Rattle.lists.proofs.Tabulate.{each-getD}
+use Rattle.lists.specs.Lists.{joined}
 use Rattle.unit.specs.Cleared.{clearedBandSection}
-use Rattle.unit.proofs.Tabulate.{each-getD}
-use Rattle.numbers.specs.Layout.{sectionSize, joined, sectionNumbers, PutGives}
+use Rattle.numbers.specs.Layout.{sectionSize, sectionNumbers, PutGives}
 use Rattle.numbers.proofs.Put.{put-none, put-entry, put-entries}
 use Rattle.numbers.proofs.put_sections.Statement.{statement}
 use Rattle.numbers.proofs.put_sections.Tie as tie

@@ -3,8 +3,8 @@ use Prim.Native.Nat.{_≤_}
 use lib.Dec.{lit≤}
 use lib.IntN.{natAbs}
 use denote.Ref.{now}
-use Rattle.bands.specs.Words.{wordSize}
-use Rattle.bands.proofs.Laws.{narrow-need, narrow-reads}
+use Rattle.words.specs.Words.{wordSize}
+use Rattle.words.proofs.Laws.{narrow-need, narrow-reads}
 use Rattle.unit.proofs.Ranges.{volume-size}
 use Rattle.numbers.proofs.Put.{put-two}
 use borrow.Author.Needs.{needs}

@@ -3,13 +3,13 @@ use mathlib.Core.Path.{_∙_}
 use mathlib.Core.List.{List}
 use Prim.Native.Nat.{ℕ, _+_, _*_}
 use native.Mathlib.Omega.{arith}
-use lib.IntN.{ℤ}
+use lib.IntN.{ℤ, pos}
 use denote.Ref.{now}
 use mir.Syntax.{w64}
 use mir.Facts.{toZ-ofZ}
 use Rattle.numbers.specs.Layout.{place}
-use Rattle.numbers.proofs.Put.{behind}
 use borrow.Author.Needs.{needs}
+use Rattle.lists.proofs.Parts.{behind}
 use Rattle.numbers.proofs.section_at.Statement.{statement}
 use Rattle.numbers.proofs.section_at.Tie as tie
 
@@ -17,12 +17,12 @@ returns : tie.Need-returns
 returns c =
     λ i.
     record {
-      y1 = (toZ-ofZ {w = w64} (record { sfits = c .before .before .before .number-at .ok }) ∙ c .before .before .before .number-at .ensures ∙ behind l start (place b) at (omega arith)) i;
-      y2 = (toZ-ofZ {w = w64} (record { sfits = c .before .before .number-at2 .ok }) ∙ c .before .before .number-at2 .ensures ∙ behind l start (place b + 1) (at + 1) (omega arith)) i;
+      y1 = (toZ-ofZ {w = w64} (record { sfits = c .before .before .before .number-at .ok }) ∙ c .before .before .before .number-at .ensures ∙ behind (pos 0) l start (place b) at (omega arith)) i;
+      y2 = (toZ-ofZ {w = w64} (record { sfits = c .before .before .number-at2 .ok }) ∙ c .before .before .number-at2 .ensures ∙ behind (pos 0) l start (place b + 1) (at + 1) (omega arith)) i;
       gain =
           record {
-            present = (toZ-ofZ {w = w64} (record { sfits = c .before .number-at3 .ok }) ∙ c .before .number-at3 .ensures ∙ behind l start (place b + 2) (at + 2) (omega arith)) i;
-            target = (toZ-ofZ {w = w64} (record { sfits = c .number-at4 .ok }) ∙ c .number-at4 .ensures ∙ behind l start (place b + 3) (at + 3) (omega arith)) i;
+            present = (toZ-ofZ {w = w64} (record { sfits = c .before .number-at3 .ok }) ∙ c .before .number-at3 .ensures ∙ behind (pos 0) l start (place b + 2) (at + 2) (omega arith)) i;
+            target = (toZ-ofZ {w = w64} (record { sfits = c .number-at4 .ok }) ∙ c .number-at4 .ensures ∙ behind (pos 0) l start (place b + 3) (at + 3) (omega arith)) i;
           };
     }
   where

@@ -4,8 +4,8 @@ use Prim.Native.Nat.{_-_}
 use lib.ListN.{drop}
 use native.Mathlib.Omega.{arith}
 use borrow.Author.Needs.{needs}
+use Rattle.lists.proofs.Loops.{Tabulated, tabulated-begin, tabulated-next, tabulated-done}
 use Rattle.bands.specs.Bands.{bandCount}
-use Rattle.unit.proofs.Lists.{Tabulated, tabulated-begin, tabulated-next, tabulated-done}
 use Rattle.numbers.specs.Layout.{sectionAt}
 use Rattle.numbers.proofs.sections_of.Statement.{statement}
 use Rattle.numbers.proofs.sections_of.Tie as tie

@@ -6,7 +6,7 @@ use lib.IntN.{ℤ}
 use mir.Syntax.{w64}
 use mir.Facts.{toZ-ofZ}
 use Rattle.integers.proofs.Machine.{reads-back}
-use Rattle.unit.specs.Lists.{changed}
+use Rattle.lists.specs.Lists.{changed}
 use Rattle.unit.specs.declared.Channel.{Channel}
 use Rattle.orders.specs.Orders.{aimedSection}
 use borrow.Author.Needs.{needs}

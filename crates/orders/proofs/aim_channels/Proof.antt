@@ -6,8 +6,8 @@ use lib.IntN.{ℤ}
 use mir.Syntax.{w64}
 use mir.Val.{toZ, ofZ}
 use mir.Facts.{toZ-ofZ}
-use Rattle.unit.specs.Lists.{changed}
-use Rattle.unit.proofs.Tabulate.{tabulate-all}
+use Rattle.lists.specs.Lists.{changed}
+use Rattle.lists.proofs.Tabulate.{tabulate-all}
 use Rattle.unit.proofs.PastEnd.{zeroChannel}
 use Rattle.settings.specs.Settings.{names}
 use Rattle.orders.specs.Orders.{aimedChannel}

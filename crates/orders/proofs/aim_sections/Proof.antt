@@ -7,10 +7,10 @@ use mir.Syntax.{w64}
 use mir.Val.{toZ, ofZ}
 use mir.Facts.{toZ-ofZ}
 use Rattle.integers.proofs.Machine.{reads-back}
+use Rattle.lists.proofs.Changed.{changed-set}
 use Rattle.levels.specs.Levels.{aimed}
 use Rattle.unit.specs.Cleared.{clearedBandSection}
 use Rattle.unit.specs.declared.BandSection.{BandSection}
-use Rattle.unit.proofs.Changed.{changed-set}
 use Rattle.orders.specs.Orders.{aimedSection}
 use borrow.Author.Needs.{needs}
 use Rattle.orders.proofs.aim_sections.Statement.{statement}

@@ -7,18 +7,18 @@ use denote.Ref.{now}
 use borrow.Author.Needs.{needs}
 use mir.Syntax.{w64}
 use Rattle.integers.proofs.Machine.{reads-back}
+use Rattle.lists.proofs.Loops.{Tabulated, tabulated-begin, tabulated-next, tabulated-done}
 use Rattle.bands.specs.Bands.{bandCount}
-use Rattle.unit.proofs.Lists.{Tabulated, tabulated-begin, tabulated-next, tabulated-done}
 use Rattle.floats.specs.Whole.{wholeOf}
 use Rattle.engine.specs.Floats.{floatAt, bandSectionIn}
 use Rattle.engine.specs.Layout.{sideCount, sectionAtSide}
+use Rattle.engine.proofs.section_at.Reads as section-at-reads
 use Rattle.packing.specs.Packing.{pairSide, SectionOfAsks}
 use Rattle.packing.proofs.Sides.{places, section-asks, section-is, x1-carries, x2-carries, flag-carries}
 use Rattle.packing.proofs.channel_of.Statement.{statement}
 use Rattle.packing.proofs.channel_of.Tie as tie
 use Rattle.packing.proofs.channel_of.Reads as reads
 use Rattle.packing.proofs.channel_of.Lts as lts
-use Rattle.engine.proofs.section_at.Reads as section-at-reads
 use Rattle.packing.proofs.section_of.Reads as section-of-reads
 use Rattle.packing.proofs.whole_of.Reads as whole-of-reads
 

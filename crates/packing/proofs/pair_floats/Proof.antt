@@ -11,7 +11,7 @@ use mir.Syntax.{w64}
 use mir.Val.{toZ, ofZ}
 use mir.Facts.{toZ-ofZ}
 use Rattle.integers.proofs.Machine.{below-fits}
-use Rattle.bands.specs.Words.{wordSize}
+use Rattle.words.specs.Words.{wordSize}
 use Rattle.unit.specs.declared.Channel.{Channel}
 use Rattle.unit.specs.Fit.{ChannelFit}
 use Rattle.unit.proofs.Ranges.{input-size, flag-size}

@@ -7,21 +7,21 @@ use lib.ListN.{length, getD}
 use lib.Ieee.{Float}
 use denote.Ref.{now}
 use borrow.Author.Needs.{needs}
+use Rattle.lists.proofs.Tabulate.{each-getD}
 use Rattle.bands.specs.Bands.{bandCount}
 use Rattle.unit.specs.Cleared.{clearedBandSection}
 use Rattle.unit.specs.Fit.{SectionFit}
-use Rattle.unit.proofs.Tabulate.{each-getD}
 use Rattle.engine.specs.declared.FloatSection.{FloatSection}
 use Rattle.engine.specs.Floats.{floatSection}
 use Rattle.engine.specs.Layout.{sectionFloats, firstSide, secondSide, putSection}
 use Rattle.engine.proofs.Store.{section-length}
 use Rattle.engine.proofs.Read.{sections-read}
+use Rattle.engine.proofs.put_section.Reads as put-section-reads
 use Rattle.packing.proofs.Sections.{Filled, filled-more}
 use Rattle.packing.proofs.put_sections.Statement.{statement}
 use Rattle.packing.proofs.put_sections.Tie as tie
 use Rattle.packing.proofs.put_sections.Reads as reads
 use Rattle.packing.proofs.put_sections.Lts as lts
-use Rattle.engine.proofs.put_section.Reads as put-section-reads
 use Rattle.packing.proofs.section_floats.Reads as section-floats-reads
 
 abbrev Inv-loop : tie.InvT-loop

@@ -5,10 +5,10 @@ use native.Mathlib.Omega.{arith}
 use lib.IntN.{ℤ, natAbs}
 use mir.Syntax.{w64}
 use Rattle.integers.proofs.Machine.{reads-back}
-use Rattle.bands.specs.Words.{wordSize}
-use Rattle.bands.proofs.Laws.{word-size}
-use Rattle.unit.specs.declared.BandSection.{BandSection}
+use Rattle.words.specs.Words.{wordSize}
+use Rattle.words.proofs.Laws.{word-size}
 use Rattle.floats.specs.Whole.{float}
+use Rattle.unit.specs.declared.BandSection.{BandSection}
 use Rattle.packing.proofs.section_floats.Statement.{statement}
 use Rattle.packing.proofs.section_floats.Tie as tie
 

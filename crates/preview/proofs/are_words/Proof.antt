@@ -12,14 +12,14 @@ use borrow.Author.Needs.{needs}
 use borrow.Author.Tests.{not-true, not-false}
 use mir.Syntax.{w32}
 use Rattle.integers.proofs.Machine.{test-back}
-use Rattle.bands.specs.Words.{isWord}
+use Rattle.words.specs.Words.{isWord}
+use Rattle.words.proofs.is_word.Reads as is-word-reads
 use Rattle.preview.specs.Preview.{areWords}
 use Rattle.preview.proofs.Lists.{words-from}
 use Rattle.preview.proofs.are_words.Statement.{statement}
 use Rattle.preview.proofs.are_words.Tie as tie
 use Rattle.preview.proofs.are_words.Reads as reads
 use Rattle.preview.proofs.are_words.Lts as lts
-use Rattle.bands.proofs.is_word.Reads as is-word-reads
 
 abbrev Inv-loop : tie.InvT-loop
 Inv-loop words i₀ i = (i ≤ length words) × (areWords words ≡ areWords (drop i words))

@@ -4,7 +4,7 @@ use mathlib.Core.Bool.{Bool, true, false, cond}
 use lib.IntN.{ℤ}
 use lib.Ieee.{Float, ofBits, ofInt, lt}
 use Rattle.rounding.specs.Rounding.{limit}
-use Rattle.bands.specs.Words.{wordLow, wordHigh}
+use Rattle.words.specs.Words.{wordLow, wordHigh}
 use Rattle.floats.specs.Whole.{float, wholeOf}
 use Rattle.preview.proofs.Results.{chosen}
 use Rattle.preview.proofs.limit_word.Statement.{statement}

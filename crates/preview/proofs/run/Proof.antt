@@ -19,8 +19,8 @@ use mir.Val.{toZ, ofZ}
 use mir.Facts.{toZ-ofZ}
 use Rattle.integers.proofs.Order.{both-true}
 use Rattle.integers.proofs.Machine.{reads-back}
+use Rattle.words.specs.Words.{isWord}
 use Rattle.floats.specs.Whole.{float}
-use Rattle.bands.specs.Words.{isWord}
 use Rattle.section.specs.declared.Section.{Section}
 use Rattle.section.specs.declared.Stepped.{Stepped}
 use Rattle.section.specs.Step.{clearedSection, stepped, answersOver, resultOf, remainderOf}

@@ -10,9 +10,10 @@ use mir.Syntax.{w32}
 use mir.Val.{toZ, ofZ}
 use mir.Facts.{toZ-ofZ}
 use Rattle.rounding.specs.Rounding.{nearest, limit}
-use Rattle.bands.specs.Words.{wordLow, wordHigh}
+use Rattle.words.specs.Words.{wordLow, wordHigh}
 use Rattle.floats.specs.Whole.{float, NearestWholeAsks, wholeOf}
 use Rattle.floats.proofs.Quotient.{whole-back}
+use Rattle.floats.proofs.nearest_whole.Reads as nearest-whole-reads
 use Rattle.section.specs.declared.Section.{Section}
 use Rattle.section.specs.Equation.{exactSum, sumShift, worked}
 use Rattle.section.specs.Asks.{ExactSumAsks, sumSize}
@@ -28,7 +29,6 @@ use Rattle.preview.proofs.step.Tie as tie
 use Rattle.preview.proofs.step.Reads as reads
 use Rattle.preview.proofs.step.Lts as lts
 use Rattle.preview.proofs.limit_word.Reads as limit-word-reads
-use Rattle.floats.proofs.nearest_whole.Reads as nearest-whole-reads
 
 module _ (s : lts.Start (nearest-whole-reads.Asked, nearest-whole-reads.Learnt, limit-word-reads.Asked, limit-word-reads.Learnt) reads.Pre reads.Post) where
   abbrev p : Preview

@@ -1,36 +1,42 @@
--- `reading::read_bands` meets its contract. The loop's invariant: the lines from the ith on are left.
-use mathlib.Core.Path.{_∙_}
+-- `reading::read_bands` meets its contract. The loop's invariant: the lines below the ith are read, and the numbers stand in the set.
+use mathlib.Core.Path.{refl, _∙_}
 use Prim.Native.Nat.{_-_}
 use native.Mathlib.Omega.{arith}
 use borrow.Author.Needs.{needs}
 use Rattle.bands.specs.Bands.{bandCount}
-use Rattle.numbers.specs.Layout.{bandsPlace}
-use Rattle.sheet.specs.declared.Line.the-variants.{Volume, Band}
-use Rattle.sheet.specs.Lines.{lineSize}
-use Rattle.reading.proofs.Repeat.{LinesLeft, lines-begin, lines-done, lines-off, lines-on}
+use Rattle.sheet.specs.Lines.{bandLetter, bandRanges, bandRow, bandOfRow, bandJoint}
+use Rattle.side_reading.proofs.Rows.{RowsRead, rows-begin, rows-done, rows-refused, rows-next}
 use Rattle.reading.proofs.read_bands.Statement.{statement}
 use Rattle.reading.proofs.read_bands.Tie as tie
 
 abbrev Inv-loop : tie.InvT-loop
-Inv-loop bytes numbers₀ i₀ numbers i = LinesLeft Band bandCount bytes (lineSize Volume) numbers₀ bandsPlace i numbers
+Inv-loop bytes at set₀ i₀ set i = RowsRead bandOfRow bandRow bandLetter bandRanges bandJoint bandCount bytes at set₀ set i
 
 abbrev μ-loop : tie.MeasureT-loop
-μ-loop bytes numbers₀ i₀ numbers i = bandCount - i
+μ-loop bytes at set₀ i₀ set i = bandCount - i
 
 read-band-requires : tie.Need-read-band-requires Inv-loop μ-loop
 read-band-requires c κs =
     let s = c .before .before .before .before in
-    (omega (arith, s .pre .0), c .before .before .loop .inv .size ∙ s .pre .1, omega (arith, s .pre .1))
+    (c .before .before .loop .inv .turned .inside, omega (arith, s .pre .1, c .before .before .loop .inv .size-is))
+
+same-length : tie.Need-same-length Inv-loop μ-loop
+same-length c =
+    let o = c .before .before .before in
+    o .read-band .ensures .size-is ∙ o .before .before .before .loop .inv .size-is
 
 returns : tie.Need-returns Inv-loop μ-loop
 returns c =
-    let o = c .before .before in
-    lines-off (o .before .before .before .loop .inv) (omega arith) (o .read-band .ensures) (c .before .accepted .ensures) (c .if1 .taken)
+    let o = c .before .before .before in
+    rows-refused (o .before .before .before .loop .inv) (omega arith) (o .read-band .ensures) (c .before .accepted .ensures) (c .if1 .taken)
 
 loop-again : tie.Need-loop-again Inv-loop μ-loop
 loop-again c =
-    let o = c .before .before in
-    lines-on (o .before .before .before .loop .inv) (omega arith) (o .read-band .ensures) (c .before .accepted .ensures) (c .if1 .left)
+    let o = c .before .before .before in
+    rows-next (o .before .before .before .loop .inv) (omega arith) (o .read-band .ensures) (c .before .accepted .ensures) (λ bytes. refl) (c .if1 .left)
+
+returns-2 : tie.Need-returns-2 Inv-loop μ-loop
+returns-2 c = rows-done (c .before .loop .inv) (omega arith)
 
 pub read-bands-spec : {M : Type 1} → statement M
 read-bands-spec =
@@ -38,15 +44,16 @@ read-bands-spec =
     (tie.spec
     Inv-loop
     μ-loop
-    (λ c. lines-begin)
-    (λ c. search needs)
+    (λ c. rows-begin (search needs))
     (λ c. search needs)
     (λ c. search needs)
     (λ c. search needs)
     read-band-requires
     (λ c κs. search needs)
+    same-length
     returns
     (λ c. search needs)
     (λ c. search needs)
     loop-again
-    (λ c. lines-done (c .before .loop .inv) (omega arith)))
+    (λ c. c .before .loop .inv .size-is)
+    returns-2)

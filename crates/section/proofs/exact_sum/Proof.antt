@@ -3,7 +3,7 @@ use Prim.Native.Nat.{_≤_}
 use lib.IntN.{ℤ, natAbs}
 use mir.Syntax.{w64}
 use Rattle.integers.proofs.Machine.{Bounded, num, below-fits, sum, difference, product, result, result-need}
-use Rattle.bands.specs.Words.{wordSize}
+use Rattle.words.specs.Words.{wordSize}
 use Rattle.section.specs.Equation.{exactSum}
 use Rattle.section.proofs.exact_sum.Statement.{statement}
 use Rattle.section.proofs.exact_sum.Tie as tie

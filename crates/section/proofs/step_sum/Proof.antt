@@ -6,8 +6,8 @@ use mir.Syntax.{w32, w64}
 use mir.Val.{SFits}
 use mir.Facts.{toZ-ofZ}
 use Rattle.integers.proofs.Machine.{Num, below-fits, widened, widen-need}
+use Rattle.words.specs.Words.{wordSize}
 use Rattle.bands.specs.Bands.{bandOf}
-use Rattle.bands.specs.Words.{wordSize}
 use Rattle.section.specs.Equation.{exactSum}
 use Rattle.section.proofs.step_sum.Statement.{statement}
 use Rattle.section.proofs.step_sum.Tie as tie

@@ -3,8 +3,8 @@ use mathlib.Core.Path.{refl}
 use Prim.Native.Nat.{_-_}
 use native.Mathlib.Omega.{arith}
 use borrow.Author.Needs.{needs}
+use Rattle.lists.proofs.Loops.{Tabulated, tabulated-begin, tabulated-next, tabulated-done}
 use Rattle.bands.specs.Bands.{bandCount, bandAt}
-use Rattle.unit.proofs.Lists.{Tabulated, tabulated-begin, tabulated-next, tabulated-done}
 use Rattle.unit.proofs.bands_of.Statement.{statement}
 use Rattle.unit.proofs.bands_of.Tie as tie
 

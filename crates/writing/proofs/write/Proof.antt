@@ -7,6 +7,7 @@ use lib.ListN.{length, take, length-take}
 use denote.Ref.{now}
 use borrow.Author.Needs.{needs}
 use Rattle.unit.specs.declared.Unit.{Unit}
+use Rattle.sheet.specs.Sheet.{sideLetters}
 use Rattle.writing.specs.Written.{filledPart}
 use Rattle.writing.proofs.Filled.{part-filled}
 use Rattle.writing.proofs.write.Statement.{statement}
@@ -26,8 +27,8 @@ module _ (c : lts.After-fill (fill-reads.Asked, fill-reads.Learnt) reads.Pre rea
   abbrev after : List ℕ
   after = c .fill .last .1 .0
 
-  part : (c .fill .result ≤ length after) × (take (c .fill .result) after ≡ filledPart unit (length out))
-  part = part-filled unit out (c .fill .ensures .0) (c .fill .ensures .1) (omega arith)
+  part : (c .fill .result ≤ length after) × (take (c .fill .result) after ≡ filledPart sideLetters unit (length out))
+  part = part-filled sideLetters unit out (c .fill .ensures .0) (c .fill .ensures .1) (omega arith)
 
 slice-aggregate-result : tie.Need-slice-aggregate-result
 slice-aggregate-result c = simp length-take (omega (arith, part (c .before .before .before) .0))

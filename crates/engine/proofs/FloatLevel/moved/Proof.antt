@@ -13,10 +13,10 @@ use Rattle.integers.proofs.Parts.{linear, var, ⊝_}
 use Rattle.integers.proofs.Abs.{abs-neg, abs-le}
 use Rattle.rounding.specs.Rounding.{limit}
 use Rattle.rounding.proofs.Limit.{limit-low, limit-high}
-use Rattle.bands.specs.Words.{wordSize}
-use Rattle.levels.specs.Levels.{ramp}
+use Rattle.words.specs.Words.{wordSize}
 use Rattle.floats.specs.Whole.{float, wholeOf}
 use Rattle.floats.proofs.WholeNumbers.{of-whole, add-whole, sub-whole}
+use Rattle.levels.specs.Levels.{ramp}
 use Rattle.engine.specs.Floats.{largest}
 use Rattle.engine.specs.Frame.{limitedFloat}
 use Rattle.engine.proofs.Carry.{carries-whole, limited-is}

@@ -1,0 +1,2 @@
+-- Bytes stored right behind others.
+pub mod Runs

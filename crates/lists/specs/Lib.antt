@@ -1,0 +1,2 @@
+-- Lists by their entries.
+pub mod Lists

@@ -1,0 +1,27 @@
+-- Sections as a row of numbers: they are the sections of that row.
+use mathlib.Core.Path.{_≡_, refl, ap, _∙_}
+use mathlib.Core.List.{List, [], _∷_}
+use Prim.Native.Nat.{ℕ, zero, suc, _*_, _<_}
+use native.Mathlib.Omega.{arith}
+use lib.ListN.{length, getD, drop}
+use Rattle.lists.specs.Lists.{joined}
+use Rattle.lists.proofs.Tabulate.{tabulate-cong, tabulate-all}
+use Rattle.bands.specs.Bands.{bandCount}
+use Rattle.unit.specs.declared.BandSection.{BandSection}
+use Rattle.unit.specs.Cleared.{clearedBandSection}
+use Rattle.sheet.specs.Lines.{sectionRow, sectionOfRow}
+use Rattle.side_reading.specs.Side.{sectionInRows, sectionsInRows}
+
+-- section k
+section-there : (sections : List BandSection) (k : ℕ) → k < length sections → sectionInRows (joined sectionRow sections) k ≡ getD sections k clearedBandSection
+section-there [] k h = absurd (omega arith)
+section-there (s ∷ sections) zero h = refl
+section-there (s ∷ sections) (suc k) h = ap (λ (n : ℕ). sectionOfRow (drop n (joined sectionRow (s ∷ sections)))) four ∙ section-there sections k (omega arith)
+  where
+    four : 4 * suc k ≡ suc (suc (suc (suc (4 * k))))
+    four = omega arith
+
+-- all of them
+pub sections-there : (sections : List BandSection) → length sections ≡ bandCount → sectionsInRows (joined sectionRow sections) ≡ sections
+sections-there sections e =
+    tabulate-cong bandCount (λ k h. section-there sections k (omega (arith, e))) ∙ tabulate-all sections clearedBandSection bandCount e

@@ -1,0 +1,2 @@
+-- Reading a side of the strip sheet.
+pub mod Side

@@ -1,0 +1,2 @@
+-- Words.
+pub mod Words
