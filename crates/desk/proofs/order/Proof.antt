@@ -5,6 +5,7 @@ use denote.Ref.{now}
 use borrow.Author.Tests.{not-false}
 use borrow.Author.Needs.{needs}
 use Rattle.refusals.specs.Numbers.{isAccepted}
+use Rattle.sheet.specs.Sheet.{sideLetters, sheetSize}
 use Rattle.order_lists.specs.Lists.{ordersIn}
 use Rattle.decisions.proofs.Orders.{hands-out}
 use Rattle.desk.proofs.order.Statement.{statement}
@@ -17,7 +18,7 @@ hand-out-requires c κs =
     let s = o .before .before .before .before in
     hands-out (now (s .args .bytes)) (ordersIn (now (s .args .numbers)))
     (ap isAccepted (sym (o .order .ensures .0)) ∙ sym (t .accepted .ensures) ∙ not-false (t .accepted .result) (c .before .if1 .left))
-    (replicate 1128 0) (o .order .last .1 .1 .0) refl (o .order .ensures .1)
+    (replicate (sheetSize sideLetters) 0) (o .order .last .1 .1 .0) refl (o .order .ensures .1)
 
 pub order-spec : {M : Type 1} → statement M
 order-spec =

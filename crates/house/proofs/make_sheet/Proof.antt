@@ -10,7 +10,7 @@ use Rattle.unit.proofs.Fitness.{test-of-fit}
 use Rattle.loading.specs.declared.Loaded.{Loaded}
 use Rattle.loading.specs.Loading.{loaded}
 use Rattle.loading.proofs.Laws.{loaded-fit}
-use Rattle.sheet.specs.Sheet.{sideLetters}
+use Rattle.sheet.specs.Sheet.{sideLetters, sheetSize}
 use Rattle.writing.specs.Written.{filledPart}
 use Rattle.roundtrip.proofs.Holds.{part-is-sheet}
 use Rattle.house.proofs.make_sheet.Statement.{statement}
@@ -19,9 +19,9 @@ use Rattle.house.proofs.make_sheet.Tie as tie
 hand-out-requires : tie.Need-hand-out-requires
 hand-out-requires c κs =
     c .before .write .ensures .0
-    ∙ ap (λ (u : Unit). filledPart sideLetters u 1128)
+    ∙ ap (λ (u : Unit). filledPart sideLetters u (sheetSize sideLetters))
     (ap (λ (l : Loaded). l .unit) (c .before .before .before .before .load .ensures) ∙ ap (λ (set : List ℤ). loaded set .unit) (c .before .before .before .before .before .before .house-set .ensures))
-    ∙ part-is-sheet sideLetters (loaded houseSet .unit) 1128 (test-of-fit (loaded houseSet .unit) (loaded-fit houseSet)) (lit≤ tt)
+    ∙ part-is-sheet sideLetters (loaded houseSet .unit) (sheetSize sideLetters) (test-of-fit (loaded houseSet .unit) (loaded-fit houseSet)) (lit≤ tt)
 
 pub make-sheet-spec : {M : Type 1} → statement M
 make-sheet-spec =

@@ -2,6 +2,7 @@
 use lib.Dec.{lit≤}
 use denote.Ref.{now}
 use borrow.Author.Needs.{needs}
+use Rattle.sheet.specs.Sheet.{sideLetters, sheetSize}
 use Rattle.saving.specs.Saved.{IsSheet}
 use Rattle.saving.proofs.Sheets.{part-sheet}
 use Rattle.saving.proofs.save.Statement.{statement}
@@ -15,7 +16,7 @@ use Rattle.writing.proofs.write.Reads as write-reads
 
 -- what the writer hands back is the unit's sheet
 part : (w : lts.After-write (write-reads.Asked, write-reads.Learnt, store-reads.Asked, store-reads.Learnt, unlink-reads.Asked, unlink-reads.Learnt, show-reads.Asked, show-reads.Learnt) reads.Pre reads.Post) → IsSheet (w .before .before .args .unit) (now (w .write .result))
-part w = part-sheet (w .before .before .args .unit) 1128 _ (w .before .before .pre) (lit≤ tt) (w .write .ensures .0)
+part w = part-sheet (w .before .before .args .unit) (sheetSize sideLetters) _ (w .before .before .pre) (lit≤ tt) (w .write .ensures .0)
 
 store-requires : tie.Need-store-requires
 store-requires c κs = part (c .before)
