@@ -75,3 +75,7 @@ tabulate-take l d (suc n) h = ap (λ m. m ++ (getD l n d ∷ [])) (tabulate-take
 
 pub tabulate-all : {A : Type 0} (l : List A) (d : A) (n : ℕ) → length l ≡ n → tabulate n (λ k. getD l k d) ≡ l
 tabulate-all l d n h = tabulate-take l d n (omega arith) ∙ take-all n l (omega arith)
+
+-- a list is tabulated by a function that gives each of the entries
+pub tabulate-is : {A : Type 0} (l : List A) (d : A) (n : ℕ) (f : ℕ → A) → length l ≡ n → ((k : ℕ) → k < n → f k ≡ getD l k d) → tabulate n f ≡ l
+tabulate-is l d n f e h = tabulate-cong n h ∙ tabulate-all l d n e

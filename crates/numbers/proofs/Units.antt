@@ -6,9 +6,9 @@ use native.Mathlib.Omega.{arith}
 use lib.IntN.{ℤ, pos}
 use lib.ListN.{length, getD, drop, length-append}
 use lib.Seq.{drop-at, drop-drop}
-use Rattle.lists.specs.Lists.{tabulate, Each, joined}
-use Rattle.lists.proofs.Tabulate.{tabulate-cong, tabulate-all}
-use Rattle.bands.specs.Bands.{bandCount, bandAt, setSize}
+use Rattle.lists.specs.Lists.{Each, joined}
+use Rattle.lists.proofs.Tabulate.{tabulate-is}
+use Rattle.bands.specs.Bands.{bandCount, setSize}
 use Rattle.bands.specs.declared.Band.{Band}
 use Rattle.unit.specs.Sizes.{channelCount}
 use Rattle.unit.specs.declared.BandSection.{BandSection}
@@ -16,7 +16,7 @@ use Rattle.unit.specs.declared.Channel.{Channel}
 use Rattle.unit.specs.declared.Unit.{Unit}
 use Rattle.unit.specs.Cleared.{bandsOf, clearedBandSection}
 use Rattle.unit.specs.Shaped.{TenSections, Shaped}
-use Rattle.unit.proofs.PastEnd.{zeroBand}
+use Rattle.unit.proofs.Sets.{set-bands}
 use Rattle.numbers.specs.Layout.{channelSize, unitSize, bandNumbers, sectionNumbers, channelNumbers, numbersOf, place, sectionAt, channelOf, unitOf}
 
 -- ---- how many numbers
@@ -55,38 +55,6 @@ numbers-length u s =
 pub unit-shaped : (l : List ℤ) → Shaped channelCount (unitOf l)
 unfolding unitOf
 unit-shaped l = record { bands = refl; channels = refl; sections = (refl, (refl, tt)) }
-
--- ---- the entries that the numbers stand for
-
--- entry k of every list of n entries
-all-of : {A : Type 0} (l : List A) (d : A) (n : ℕ) (f : ℕ → A) → length l ≡ n → ((k : ℕ) → k < n → f k ≡ getD l k d) → tabulate n f ≡ l
-all-of l d n f e h = tabulate-cong n h ∙ tabulate-all l d n e
-
--- ---- a band
-
--- behind the numbers of one band
-past-band : (a b g : ℤ) (m : List ℤ) (i j : ℕ) → i ≡ j + 3 → getD (a ∷ b ∷ g ∷ m) i (pos 0) ≡ getD m j (pos 0)
-past-band a b g m i j e = ap (λ (n : ℕ). getD (a ∷ b ∷ g ∷ m) n (pos 0)) three
-  where
-    three : i ≡ suc (suc (suc j))
-    three = omega arith
-
-band-of : (bands : List Band) (m : List ℤ) (k : ℕ) → k < length bands → bandAt (joined bandNumbers bands ++ m) k ≡ getD bands k zeroBand
-band-of [] m k h = absurd (omega arith)
-band-of (b ∷ bands) m zero h = refl
-band-of (b ∷ bands) m (suc k) h = next ∙ band-of bands m k (omega arith)
-  where
-    past : (i j : ℕ) → i ≡ j + 3 → getD (joined bandNumbers (b ∷ bands) ++ m) i (pos 0) ≡ getD (joined bandNumbers bands ++ m) j (pos 0)
-    past i j e = past-band (b .alpha) (b .beta) (b .gamma) (joined bandNumbers bands ++ m) i j e
-
-    next : bandAt (joined bandNumbers (b ∷ bands) ++ m) (suc k) ≡ bandAt (joined bandNumbers bands ++ m) k
-    next =
-        λ i.
-        record {
-          alpha = past (3 * suc k) (3 * k) (omega arith) i;
-          beta = past (3 * suc k + 1) (3 * k + 1) (omega arith) i;
-          gamma = past (3 * suc k + 2) (3 * k + 2) (omega arith) i;
-        }
 
 -- ---- a section, behind the three numbers that are ahead of the sections
 
@@ -131,7 +99,7 @@ channel-of c m e =
       x2 = c .x2;
       flag = c .flag;
       sections =
-          all-of (c .sections) clearedBandSection bandCount (sectionAt (channelNumbers c ++ m)) e
+          tabulate-is (c .sections) clearedBandSection bandCount (sectionAt (channelNumbers c ++ m)) e
           (λ k h. section-of (c .x1) (c .x2) (c .flag) (c .sections) m k (omega arith)) i;
     }
 
@@ -157,9 +125,7 @@ module _ (u : Unit) (s : Shaped channelCount u) where
   second = joined channelNumbers (u .channels)
 
   bands-of : bandsOf (first ++ second) ≡ u .bands
-  bands-of =
-      all-of (u .bands) zeroBand bandCount (bandAt (first ++ second)) (s .bands)
-      (λ k h. band-of (u .bands) second k (omega (arith, s .bands)))
+  bands-of = set-bands (u .bands) second (s .bands)
 
   behind-bands : drop setSize (first ++ second) ≡ second
   behind-bands = drop-at first second setSize (omega (arith, bands-length (u .bands), s .bands))

@@ -1,7 +1,7 @@
 -- The V line and ten C lines, read one behind the other.
 use mathlib.Core.Path.{_≡_, refl, sym, ap, ap₂, _∙_}
 use mathlib.Core.Bool.{true, false}
-use mathlib.Core.List.{List}
+use mathlib.Core.List.{List, [], append-nil}
 use Prim.Native.Nat.{ℕ, _≤_}
 use lib.IntN.{ℤ}
 use lib.ListN.{length, drop}
@@ -11,14 +11,15 @@ use Rattle.refusals.specs.Numbers.{isAccepted, firstOf}
 use Rattle.refusals.specs.declared.Verdict.{Verdict}
 use Rattle.refusals.proofs.Laws.{first-accepted, first-refused, never}
 use Rattle.bands.specs.Bands.{setSize}
+use Rattle.bands.specs.declared.Band.{Band}
 use Rattle.unit.specs.Cleared.{bandsOf}
+use Rattle.unit.proofs.Sets.{set-bands}
 use Rattle.forms.specs.Line.{lineSize, lineForm, alone}
 use Rattle.forms.proofs.Line.{line-room}
 use Rattle.sheet.specs.Lines.{volumeLetter, volumeRanges, volumeOfRow, volumeForm, bandRow}
 use Rattle.sheet.specs.Sheet.{bandsForm}
 use Rattle.line_reading.specs.Gives.{FormGives, LineGives}
 use Rattle.reading.specs.Parts.{FrontRows}
-use Rattle.reading.proofs.Bands.{bands-there}
 
 -- how many bytes the V line has
 abbrev size : ℕ
@@ -55,5 +56,12 @@ module _ (bytes : List ℕ) {slots volume : List ℤ} {v : Verdict} (first : Lin
               ap₂ (λ (l m : List ℤ). (volumeOfRow l, bandsOf m))
               (first .numbers-are e ∙ stored-whole (lineForm volumeLetter volumeRanges alone .value bytes) slots (sym two))
               (rest .numbers-are q ∙ stored-whole (joined bandRow (bandsForm .value (drop size bytes))) before (sym long))
-              ∙ (λ i. (volumeForm .value bytes, bands-there (bandsForm .value (drop size bytes)) refl i));
+              ∙ (λ i. (volumeForm .value bytes, bands-there i));
         }
+      where
+        bands : List Band
+        bands = bandsForm .value (drop size bytes)
+
+        -- the bands of the numbers are those of the C lines
+        bands-there : bandsOf (joined bandRow bands) ≡ bands
+        bands-there = ap bandsOf (sym (append-nil (joined bandRow bands))) ∙ set-bands bands [] refl

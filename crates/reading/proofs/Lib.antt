@@ -1,10 +1,8 @@
 -- The laws of reading the strip sheet.
---     Bands    the bands of a set that C lines are read into
 --     Front    the V line, and the C lines behind it
 --     Sides    the sides, read by a loop from a running place
 --     Lines    the lines of a sheet, by what they are read in
 --     Laws     the answer where a sheet is accepted and where it is refused
-pub mod Bands
 pub mod Front
 pub mod Sides
 pub mod Lines

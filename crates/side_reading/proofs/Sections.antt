@@ -5,7 +5,7 @@ use Prim.Native.Nat.{ℕ, zero, suc, _*_, _<_}
 use native.Mathlib.Omega.{arith}
 use lib.ListN.{length, getD, drop}
 use Rattle.lists.specs.Lists.{joined}
-use Rattle.lists.proofs.Tabulate.{tabulate-cong, tabulate-all}
+use Rattle.lists.proofs.Tabulate.{tabulate-is}
 use Rattle.bands.specs.Bands.{bandCount}
 use Rattle.unit.specs.declared.BandSection.{BandSection}
 use Rattle.unit.specs.Cleared.{clearedBandSection}
@@ -24,4 +24,4 @@ section-there (s ∷ sections) (suc k) h = ap (λ (n : ℕ). sectionOfRow (drop 
 -- all of them
 pub sections-there : (sections : List BandSection) → length sections ≡ bandCount → sectionsInRows (joined sectionRow sections) ≡ sections
 sections-there sections e =
-    tabulate-cong bandCount (λ k h. section-there sections k (omega (arith, e))) ∙ tabulate-all sections clearedBandSection bandCount e
+    tabulate-is sections clearedBandSection bandCount (sectionInRows (joined sectionRow sections)) e (λ k h. section-there sections k (omega (arith, e)))

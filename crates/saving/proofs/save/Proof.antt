@@ -3,6 +3,8 @@ use lib.Dec.{lit≤}
 use denote.Ref.{now}
 use borrow.Author.Needs.{needs}
 use Rattle.sheet.specs.Sheet.{sideLetters, sheetSize}
+use Rattle.writing.proofs.write.Reads as write-reads
+use Rattle.os.proofs.unlink.Reads as unlink-reads
 use Rattle.saving.specs.Saved.{IsSheet}
 use Rattle.saving.proofs.Sheets.{part-sheet}
 use Rattle.saving.proofs.save.Statement.{statement}
@@ -11,8 +13,6 @@ use Rattle.saving.proofs.save.Reads as reads
 use Rattle.saving.proofs.save.Lts as lts
 use Rattle.saving.proofs.show.Reads as show-reads
 use Rattle.saving.proofs.store.Reads as store-reads
-use Rattle.os.proofs.unlink.Reads as unlink-reads
-use Rattle.writing.proofs.write.Reads as write-reads
 
 -- what the writer hands back is the unit's sheet
 part : (w : lts.After-write (write-reads.Asked, write-reads.Learnt, store-reads.Asked, store-reads.Learnt, unlink-reads.Asked, unlink-reads.Learnt, show-reads.Asked, show-reads.Learnt) reads.Pre reads.Post) → IsSheet (w .before .before .args .unit) (now (w .write .result))
