@@ -17,13 +17,16 @@ Inv-loop sections i₀ i = EveryFrom isPlain sections feedbackCount i
 abbrev μ-loop : tie.MeasureT-loop
 μ-loop sections i₀ i = bandCount - i
 
+loop-holds : tie.Need-loop-holds Inv-loop μ-loop
+loop-holds c = every-begin
+
 pub are-plain-spec : {M : Type 1} → statement M
 are-plain-spec =
     tie.close
     (tie.spec
     Inv-loop
     μ-loop
-    (λ c. every-begin)
+    loop-holds
     (λ c. search needs)
     (λ c. search needs)
     (λ c κs. search needs)
