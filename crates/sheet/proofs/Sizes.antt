@@ -1,24 +1,25 @@
 -- How many bytes the C lines, the S lines, a side and a sheet have.
 use mathlib.Core.Path.{_≡_, refl, _∙_}
-use mathlib.Core.Bool.{Bool, true, false}
+use mathlib.Core.Bool.{Bool, true, false, _&&_}
 use mathlib.Core.List.{List, [], _∷_}
-use Prim.Native.Nat.{ℕ, _+_, _*_, _-_, _≤_}
+use Prim.Native.Nat.{ℕ, _+_, _*_, _≤_, _<_}
 use native.Mathlib.Nat.{mul-suc}
 use native.Mathlib.Omega.{arith}
-use lib.ListN.{length, take, replicate, length-append}
+use lib.ListN.{length, getD, take, replicate, length-append}
 use Rattle.lists.specs.Lists.{Each}
+use Rattle.lists.proofs.Tabulate.{tabulate-at}
 use Rattle.bands.specs.Bands.{bandCount}
 use Rattle.bands.specs.declared.Band.{Band}
 use Rattle.unit.specs.declared.BandSection.{BandSection}
 use Rattle.unit.specs.declared.Channel.{Channel}
 use Rattle.unit.specs.declared.Unit.{Unit}
-use Rattle.unit.specs.Frame.{feedbackCount}
+use Rattle.unit.specs.Frame.{feedsBack}
 use Rattle.unit.specs.Shaped.{TenSections, Shaped}
 use Rattle.forms.specs.Line.{lineSize}
 use Rattle.forms.proofs.Line.{text-length}
 use Rattle.forms.proofs.Texts.{sizeOf, texts-length}
 use Rattle.sheet.specs.Lines.{volumeLetter, volumeRow, volumeForm, bandLetter, bandRanges, bandRow, bandForm, headRow, headForm, sectionLetter, sectionRanges, sectionRow, sectionForm, rowSize}
-use Rattle.sheet.specs.Sheet.{bandsForm, sectionKinds, sectionsForm, sideForm, frontForm, sidesForm, unitForm, frontSize, sideSize, sheetSize, shortSize, sheetOf, shortSheetOf}
+use Rattle.sheet.specs.Sheet.{bandsForm, sectionKinds, sectionsForm, sideForm, frontForm, sidesForm, unitForm, frontSize, sectionsSize, sideSize, sheetSize, shortSize, sheetOf, shortSheetOf}
 
 -- ten C lines
 pub bands-length : (bands : List Band) → length bands ≡ bandCount → length (bandsForm .text bands) ≡ lineSize (length bandRanges) * bandCount
@@ -39,10 +40,18 @@ pub row-front : (fifth : Bool) (s : BandSection) → take (length (sectionRanges
 row-front true s = refl
 row-front false s = refl
 
--- ten S lines, in the longer sheet and in the short one
-abbrev pub sectionsSize : Bool → ℕ
-sectionsSize long = lineSize (length (sectionRanges long)) * feedbackCount + lineSize (length (sectionRanges false)) * (bandCount - feedbackCount)
+-- the kind of the S line of band i, and in the longer sheet
+pub kind-at : (long : Bool) (i : ℕ) → i < bandCount → getD (sectionKinds long) i false ≡ feedsBack i && long
+kind-at long i h = tabulate-at bandCount (λ (place : ℕ). feedsBack place && long) false i h
 
+pub long-kind-at : (i : ℕ) → i < bandCount → getD (sectionKinds true) i false ≡ feedsBack i
+long-kind-at i h = kind-at true i h ∙ alone-true (feedsBack i)
+  where
+    alone-true : (t : Bool) → t && true ≡ t
+    alone-true true = refl
+    alone-true false = refl
+
+-- ten S lines, in the longer sheet and in the short one
 kinds-size : (long : Bool) → sizeOf (λ (fifth : Bool). lineSize (length (sectionRanges fifth))) (sectionKinds long) ≡ sectionsSize long
 kinds-size true = refl
 kinds-size false = refl

@@ -1,5 +1,5 @@
 -- The lines of the strip sheet, each as a form: "V (volume, target)", "C (A, B, G)", "L (x1, x2, flag)", "R as L" and "S (y1, y2, gain, target)",
--- in some S lines with the remainder behind. Definitions only, by docs/SPECIFICATION.md, The strip sheet.
+-- "a fifth field at the end, the remainder". Definitions only, by docs/SPECIFICATION.md, The strip sheet.
 use mathlib.Core.Bool.{Bool, true, cond}
 use mathlib.Core.List.{List, [], _∷_}
 use Prim.Native.Nat.{ℕ}
@@ -72,7 +72,7 @@ headRow c = c .x1 ∷ c .x2 ∷ c .flag ∷ []
 abbrev pub headForm : ℕ → Form (List ℤ)
 headForm letter = lineForm letter headRanges alone
 
--- ---- "S (y1, y2, gain, target)", and where the line has "a fifth field at the end", the remainder
+-- ---- "S (y1, y2, gain, target)", and where the line has "a fifth field at the end, the remainder"
 
 abbrev pub sectionLetter : ℕ
 sectionLetter = 83

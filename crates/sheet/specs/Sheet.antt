@@ -1,7 +1,7 @@
 -- The strip sheet of a unit, over the letters of its sides: one form for its text, its verdict and its unit. Definitions only, by
 -- docs/SPECIFICATION.md, The strip sheet.
--- "In order: V (volume, target); ten C (A, B, G); L (x1, x2, flag); ten S (y1, y2, gain, target); R as L; ten S." "The S lines of these bands gain a
--- fifth field at the end", in the longer sheet; "A sheet of 1,128 bytes is still read, with remainders 0, and the longer one is always written."
+-- "In order: V (volume, target); ten C (A, B, G); L (x1, x2, flag); ten S (y1, y2, gain, target); R as L; ten S. The S lines of bands 0 to 3 have a fifth
+-- field at the end, the remainder." "A sheet of 1,128 bytes is still read, with remainders 0." "The longer one is always written."
 use mathlib.Core.Bool.{Bool, true, false, _&&_, _||_}
 use mathlib.Core.List.{List, [], _∷_}
 use Prim.Native.Nat.{ℕ, _+_, _*_, _-_}
@@ -83,9 +83,11 @@ unitForm long letters = seenAs unitOfLines unitLines (both frontForm (sidesForm 
 abbrev pub frontSize : ℕ
 frontSize = lineSize (length volumeRanges) + lineSize (length bandRanges) * bandCount
 
+abbrev pub sectionsSize : Bool → ℕ
+sectionsSize long = lineSize (length (sectionRanges long)) * feedbackCount + lineSize (length (sectionRanges false)) * (bandCount - feedbackCount)
+
 abbrev pub sideSize : Bool → ℕ
-sideSize long =
-    lineSize (length headRanges) + (lineSize (length (sectionRanges long)) * feedbackCount + lineSize (length (sectionRanges false)) * (bandCount - feedbackCount))
+sideSize long = lineSize (length headRanges) + sectionsSize long
 
 -- of the longer sheet, and of the short one
 abbrev pub sheetSize : List ℕ → ℕ
@@ -106,7 +108,7 @@ linesVerdict long letters bytes = firstOf (unitForm long letters .verdict bytes)
 abbrev pub isLong : List ℕ → List ℕ → Bool
 isLong letters bytes = eqb (length bytes) (sheetSize letters)
 
--- "Test 11 allows both lengths"; "then from the first byte on"
+-- "11 neither 1,128 nor 1,200 bytes; then from the first byte on"
 unfoldable pub sheetVerdict : List ℕ → List ℕ → Verdict
 sheetVerdict letters bytes =
     unless (isLong letters bytes || eqb (length bytes) (shortSize letters)) SheetLength (linesVerdict (isLong letters bytes) letters bytes)
@@ -115,7 +117,7 @@ sheetVerdict letters bytes =
 unfoldable pub carriedUnit : List ℕ → List ℕ → Unit
 carriedUnit letters bytes = unitForm (isLong letters bytes) letters .value bytes
 
--- the sheet of a unit: "the longer one is always written"
+-- the sheet of a unit: "The longer one is always written"
 unfoldable pub sheetOf : List ℕ → Unit → List ℕ
 sheetOf letters u = unitForm true letters .text u
 
