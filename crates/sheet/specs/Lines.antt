@@ -77,8 +77,11 @@ headForm letter = lineForm letter headRanges alone
 abbrev pub sectionLetter : ℕ
 sectionLetter = 83
 
+abbrev pub fifthRange : Bool → List (ℤ → Bool)
+fifthRange fifth = cond fifth (isRemainder ∷ []) []
+
 abbrev pub sectionRanges : Bool → List (ℤ → Bool)
-sectionRanges fifth = isWord ∷ isWord ∷ isWord ∷ isWord ∷ cond fifth (isRemainder ∷ []) []
+sectionRanges fifth = isWord ∷ isWord ∷ isWord ∷ isWord ∷ fifthRange fifth
 
 abbrev pub sectionRow : Bool → BandSection → List ℤ
 sectionRow fifth s = s .y1 ∷ s .y2 ∷ s .gain .present ∷ s .gain .target ∷ cond fifth (s .remainder ∷ []) []
