@@ -66,6 +66,16 @@ side-length long letter c ten =
     length-append (headForm letter .text (headRow c)) (sectionsForm long .text (c .sections))
     ∙ omega (arith, text-length letter (headRow c), sections-length long (c .sections) ten)
 
+-- so many bytes are read of it
+pub side-takes : (long : Bool) (letter : ℕ) (bytes : List ℕ) → sideForm long letter .size bytes ≡ sideSize long
+side-takes true letter bytes = refl
+side-takes false letter bytes = refl
+
+-- no side has more than one of the longer sheet
+pub few-lines : (long : Bool) → sideSize long ≤ sideSize true
+few-lines true = omega arith
+few-lines false = omega arith
+
 -- a side for each letter
 sides-length : (long : Bool) (letters : List ℕ) (cs : List Channel) → length cs ≡ length letters → Each TenSections cs → length (sidesForm long letters .text cs) ≡ sideSize long * length letters
 sides-length long [] [] e s = omega arith
