@@ -104,6 +104,10 @@ takenVerdict bytes next = unless (eqb (length bytes) next) LineMark Accepted
 unfoldable pub linesVerdict : Bool → List ℕ → List ℕ → Verdict
 linesVerdict long letters bytes = firstOf (unitForm long letters .verdict bytes) (takenVerdict bytes (unitForm long letters .size bytes))
 
+-- the unit that the lines carry
+unfoldable pub linesUnit : Bool → List ℕ → List ℕ → Unit
+linesUnit long letters bytes = unitForm long letters .value bytes
+
 -- the longer sheet, by its length
 abbrev pub isLong : List ℕ → List ℕ → Bool
 isLong letters bytes = eqb (length bytes) (sheetSize letters)
@@ -115,7 +119,7 @@ sheetVerdict letters bytes =
 
 -- the unit that a sheet carries
 unfoldable pub carriedUnit : List ℕ → List ℕ → Unit
-carriedUnit letters bytes = unitForm (isLong letters bytes) letters .value bytes
+carriedUnit letters bytes = linesUnit (isLong letters bytes) letters bytes
 
 -- the sheet of a unit: "The longer one is always written"
 unfoldable pub sheetOf : List ℕ → Unit → List ℕ
