@@ -1,8 +1,10 @@
 // Whether a unit is fit: each of its numbers is one that the strip sheet can carry.
 ghost use mathlib.Core.Path.{_≡_};
+ghost use lib.ListN.{drop};
 ghost use Rattle.lists.specs.Lists.{every};
 ghost use Rattle.words.specs.Words.{isWord};
-ghost use Rattle.unit.specs.Fit.{isInput, volumeFits, bandFits, sectionFits, channelFits, unitFits};
+ghost use Rattle.unit.specs.Frame.{feedbackCount};
+ghost use Rattle.unit.specs.Fit.{isInput, isPlain, volumeFits, bandFits, sectionFits, sectionsFit, channelFits, unitFits};
 use bands::Band;
 use levels::Level;
 use unit::BandSection;
@@ -103,8 +105,40 @@ pub fn is_input(v: i32) -> bool
     v - 256 * (v >> 8) <= 0
 }
 
-// Whether every section is fit.
+// Whether every section is fit, and plain where the band does not feed back.
 fn sections_fit(sections: [BandSection; bands::BAND_COUNT]) -> bool
+    ensures { λ r. ⌜ r ≡ sectionsFit sections ⌝ }
+{
+    if !each_fits(sections) {
+        return false;
+    }
+    are_plain(sections)
+}
+
+// Whether the sections of the bands that don't feed back have the remainder 0.
+fn are_plain(sections: [BandSection; bands::BAND_COUNT]) -> bool
+    ensures { λ r. ⌜ r ≡ every isPlain (drop feedbackCount sections) ⌝ }
+{
+    let mut i = unit::FEEDBACK_COUNT;
+    while i < bands::BAND_COUNT {
+        let section = sections[i];
+        if !is_plain(section) {
+            return false;
+        }
+        i += 1;
+    }
+    true
+}
+
+// Whether the section's remainder is 0.
+fn is_plain(section: BandSection) -> bool
+    ensures { λ r. ⌜ r ≡ isPlain section ⌝ }
+{
+    rounding::in_range(0, 0, section.remainder)
+}
+
+// Whether every section is fit, whatever its band.
+fn each_fits(sections: [BandSection; bands::BAND_COUNT]) -> bool
     ensures { λ r. ⌜ r ≡ every sectionFits sections ⌝ }
 {
     let mut i = 0;
@@ -118,7 +152,7 @@ fn sections_fit(sections: [BandSection; bands::BAND_COUNT]) -> bool
     true
 }
 
-// Whether a section's results, its gain and the gain's target are words.
+// Whether a section's results, its gain and the gain's target are words, and its remainder is at most half of 2^22 in size.
 fn section_fits(section: BandSection) -> bool
     ensures { λ r. ⌜ r ≡ sectionFits section ⌝ }
 {
@@ -132,7 +166,10 @@ fn section_fits(section: BandSection) -> bool
     if !is_word(gain.present) {
         return false;
     }
-    is_word(gain.target)
+    if !is_word(gain.target) {
+        return false;
+    }
+    rounding::in_range(unit::REMAINDER_LOW, unit::REMAINDER_HIGH, section.remainder)
 }
 
 // Whether v is a word.

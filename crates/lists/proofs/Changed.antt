@@ -6,7 +6,7 @@ use Prim.Native.Nat.{ℕ, zero, suc, _<_}
 use native.Mathlib.Omega.{arith}
 use lib.Dec.{eqb}
 use borrow.Author.Tests.{eqb-true, eqb-false}
-use lib.ListN.{length, getD, set, length-set}
+use lib.ListN.{length, getD, drop, set, length-set}
 use lib.Seq.{ext-getD, getD-set-same, getD-set-other}
 use Rattle.lists.specs.Lists.{tabulate, changed, Each}
 use Rattle.lists.proofs.Tabulate.{tabulate-cong, tabulate-length, tabulate-at, tabulate-all}
@@ -53,3 +53,9 @@ changed-each P test f (a ∷ l) keeps h =
     go : (t : Bool) → P (cond t (f a) a)
     go true = keeps a (h .0)
     go false = h .0
+
+-- so it does of every entry from place k on
+pub changed-drop : {A : Type 0} (P : A → Type 0) (k : ℕ) (test : ℕ → Bool) (f : A → A) (l : List A) → ((a : A) → P a → P (f a)) → Each P (drop k l) → Each P (drop k (changed test f l))
+changed-drop P zero test f l keeps h = changed-each P test f l keeps h
+changed-drop P (suc k) test f [] keeps h = tt
+changed-drop P (suc k) test f (a ∷ l) keeps h = changed-drop P k (λ (place : ℕ). test (suc place)) f l keeps h

@@ -23,27 +23,30 @@ module _ {A B : Type 0} (of : List A → B) (l : List A) (i : ℕ) (e : of l ≡
 
 -- ---- a test of every entry
 
--- the test of every entry is that of the entries from i on
-pub record EveryFrom {A : Type 0} (test : A → Bool) (l : List A) (i : ℕ) : Type 0 where
-  pub left : every test l ≡ every test (drop i l)
+-- the test of every entry from place `first` on is that of the entries from i on
+pub record EveryFrom {A : Type 0} (test : A → Bool) (l : List A) (first i : ℕ) : Type 0 where
+  pub left : every test (drop first l) ≡ every test (drop i l)
 
-pub every-begin : {A : Type 0} {test : A → Bool} {l : List A} → EveryFrom test l 0
+pub every-begin : {A : Type 0} {test : A → Bool} {l : List A} {first : ℕ} → EveryFrom test l first first
 every-begin = record { left = refl }
 
-module _ {A : Type 0} {test : A → Bool} {l : List A} {i : ℕ} (from : EveryFrom test l i) where
+module _ {A : Type 0} {test : A → Bool} {l : List A} {first i : ℕ} (from : EveryFrom test l first i) where
   -- past the last entry
-  pub every-done : length l ≤ i → true ≡ every test l
-  every-done h = sym (told-done (every test) l i (from .left) h)
+  pub every-done : length l ≤ i → true ≡ every test (drop first l)
+  every-done h = sym (from .left ∙ ap (every test) (drop-of-length-le l h))
 
   -- entry i is tested
   module _ (d : A) {t : Bool} (h : i < length l) (tested : t ≡ test (getD l i d)) where
+    next : every test (drop first l) ≡ every test (getD l i d ∷ drop (i + 1) l)
+    next = from .left ∙ rw (add-one, drop-cons l i d)
+
     -- and fails
-    pub every-fails : not t ≡ true → false ≡ every test l
-    every-fails f = sym (told-next (every test) l i (from .left) d h ∙ simp (sym tested ∙ not-true t f))
+    pub every-fails : not t ≡ true → false ≡ every test (drop first l)
+    every-fails f = sym (next ∙ simp (sym tested ∙ not-true t f))
 
     -- and passes
-    pub every-passes : not t ≡ false → EveryFrom test l (i + 1)
-    every-passes p = record { left = told-next (every test) l i (from .left) d h ∙ simp (sym tested ∙ not-false t p) }
+    pub every-passes : not t ≡ false → EveryFrom test l first (i + 1)
+    every-passes p = record { left = next ∙ simp (sym tested ∙ not-false t p) }
 
 -- ---- a list of n entries that is filled from the front with f 0, f 1 and so on
 

@@ -5,12 +5,13 @@ use Prim.Native.Nat.{ℕ}
 use lib.Dec.{eqb}
 use lib.IntN.{ℤ}
 use borrow.Author.Tests.{eqb-true}
-use Rattle.lists.proofs.Changed.{changed-length, changed-each}
+use Rattle.lists.proofs.Changed.{changed-length, changed-each, changed-drop}
 use Rattle.words.specs.Words.{isWord}
 use Rattle.refusals.specs.Numbers.{isAccepted}
 use Rattle.refusals.specs.declared.Verdict.the-variants.{Unfit}
 use Rattle.refusals.proofs.Laws.{unless-accepted}
-use Rattle.unit.specs.Fit.{isVolume, SectionFit, ChannelFit, Fit, unitFits}
+use Rattle.unit.specs.Frame.{feedbackCount}
+use Rattle.unit.specs.Fit.{isVolume, isPlain, SectionFit, Plain, ChannelFit, Fit, unitFits}
 use Rattle.unit.specs.Shaped.{TenSections, Shaped}
 use Rattle.unit.specs.declared.BandSection.{BandSection}
 use Rattle.unit.specs.declared.Channel.{Channel}
@@ -26,7 +27,11 @@ use Rattle.orders.specs.Orders.{orderVerdict, aimedSection, aimedChannel
 -- a word as the target keeps a section fit, its channel, and the unit
 module _ (band : ℕ) (target : ℤ) (word : isWord target ≡ true) where
   aimed-section-fit : (s : BandSection) → SectionFit s → SectionFit (aimedSection target s)
-  aimed-section-fit s f = record { y1 = f .y1; y2 = f .y2; present = f .present; target = word }
+  aimed-section-fit s f = record { y1 = f .y1; y2 = f .y2; present = f .present; target = word; remainder = f .remainder }
+
+  aimed-section-plain : (s : BandSection) → Plain s → Plain (aimedSection target s)
+  unfolding isPlain
+  aimed-section-plain s p = p
 
   aimed-channel-fit : (c : Channel) → ChannelFit c → ChannelFit (aimedChannel band target c)
   aimed-channel-fit c f =
@@ -35,6 +40,7 @@ module _ (band : ℕ) (target : ℤ) (word : isWord target ≡ true) where
         x2 = f .x2;
         flag = f .flag;
         sections = changed-each SectionFit (eqb band) (aimedSection target) (c .sections) aimed-section-fit (f .sections);
+        plain = changed-drop Plain feedbackCount (eqb band) (aimedSection target) (c .sections) aimed-section-plain (f .plain);
       }
 
   aimed-band-fit : (side : ℕ) (u : Unit) → Fit u → Fit (aimedBand side band target u)

@@ -23,7 +23,7 @@ orderVerdict channels u side band setting = unless (unitFits u) Unfit (orderArgu
 -- ---- what an order sets: nothing but the target of each level that it names
 
 abbrev pub aimedSection : ℤ → BandSection → BandSection
-aimedSection target s = record { y1 = s .y1; y2 = s .y2; gain = aimed target (s .gain) }
+aimedSection target s = record { y1 = s .y1; y2 = s .y2; gain = aimed target (s .gain); remainder = s .remainder }
 
 abbrev pub aimedChannel : ℕ → ℤ → Channel → Channel
 aimedChannel band target c =

@@ -131,6 +131,7 @@ fn aim_sections(
         y1: section.y1,
         y2: section.y2,
         gain: aimed,
+        remainder: section.remainder,
     };
     after
 }

@@ -12,7 +12,7 @@ use Rattle.fitness.proofs.bands_fit.Statement.{statement}
 use Rattle.fitness.proofs.bands_fit.Tie as tie
 
 abbrev Inv-loop : tie.InvT-loop
-Inv-loop bands i₀ i = EveryFrom bandFits bands i
+Inv-loop bands i₀ i = EveryFrom bandFits bands 0 i
 
 abbrev μ-loop : tie.MeasureT-loop
 μ-loop bands i₀ i = bandCount - i

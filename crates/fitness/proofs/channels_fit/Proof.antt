@@ -10,7 +10,7 @@ use Rattle.fitness.proofs.channels_fit.Statement.{statement}
 use Rattle.fitness.proofs.channels_fit.Tie as tie
 
 abbrev Inv-loop : tie.InvT-loop
-Inv-loop channels i₀ i = EveryFrom channelFits channels i
+Inv-loop channels i₀ i = EveryFrom channelFits channels 0 i
 
 abbrev μ-loop : tie.MeasureT-loop
 μ-loop channels i₀ i = channelCount - i

@@ -1,32 +1,21 @@
--- `fitness::sections_fit` meets its contract. The loop's invariant: the test of every section is that of the sections from i on.
-use Prim.Native.Nat.{_-_}
-use native.Mathlib.Omega.{arith}
+-- `fitness::sections_fit` meets its contract: its two tests are those of the definition, in that order.
+use mathlib.Core.Path.{_≡_}
+use Rattle.integers.proofs.Order.{and-fails, and-passes}
 use borrow.Author.Needs.{needs}
-use Rattle.lists.proofs.Loops.{EveryFrom, every-begin, every-fails, every-passes, every-done}
-use Rattle.bands.specs.Bands.{bandCount}
-use Rattle.unit.specs.Cleared.{clearedBandSection}
-use Rattle.unit.specs.Fit.{sectionFits}
 use Rattle.fitness.proofs.sections_fit.Statement.{statement}
 use Rattle.fitness.proofs.sections_fit.Tie as tie
 
-abbrev Inv-loop : tie.InvT-loop
-Inv-loop sections i₀ i = EveryFrom sectionFits sections i
+returns : tie.Need-returns
+returns c = and-fails (c .before .each-fits .ensures) _ (c .if1 .taken)
 
-abbrev μ-loop : tie.MeasureT-loop
-μ-loop sections i₀ i = bandCount - i
+returns-2 : tie.Need-returns-2
+returns-2 c = and-passes (c .before .before .each-fits .ensures) (c .before .if1 .left) (c .are-plain .ensures)
 
 pub sections-fit-spec : {M : Type 1} → statement M
 sections-fit-spec =
     tie.close
     (tie.spec
-    Inv-loop
-    μ-loop
-    (λ c. every-begin)
-    (λ c. search needs)
-    (λ c. search needs)
     (λ c κs. search needs)
-    (λ c. every-fails (c .before .before .before .before .loop .inv) clearedBandSection (omega arith) (c .before .section-fits .ensures) (c .if1 .taken))
-    (λ c. search needs)
-    (λ c. search needs)
-    (λ c. every-passes (c .before .before .before .before .loop .inv) clearedBandSection (omega arith) (c .before .section-fits .ensures) (c .if1 .left))
-    (λ c. every-done (c .before .loop .inv) (omega arith)))
+    returns
+    (λ c κs. search needs)
+    returns-2)

@@ -21,7 +21,7 @@ use Rattle.lent_fitness.proofs.bands_fit.Reads as reads
 use Rattle.lent_fitness.proofs.bands_fit.Lts as lts
 
 abbrev Inv-loop : tie.InvT-loop
-Inv-loop set b₀ b = EveryFrom bandFits (bandsOf set) b
+Inv-loop set b₀ b = EveryFrom bandFits (bandsOf set) 0 b
 
 abbrev μ-loop : tie.MeasureT-loop
 μ-loop set b₀ b = bandCount - b

@@ -26,12 +26,13 @@ module _ (c : lts.After-struct-told (aim-reads.Asked, aim-reads.Learnt) reads.Pr
   abbrev section : BandSection
   section = getD (s .args .sections) (s .args .band) clearedBandSection
 
-  stored : _≡_ {A = BandSection} (record { y1 = toZ w64 (ofZ w64 (section .y1)); y2 = toZ w64 (ofZ w64 (section .y2)); gain = c .before .aim .result }) (aimedSection (s .args .target) section)
+  stored : _≡_ {A = BandSection} (record { y1 = toZ w64 (ofZ w64 (section .y1)); y2 = toZ w64 (ofZ w64 (section .y2)); gain = c .before .aim .result; remainder = toZ w64 (ofZ w64 (section .remainder)) }) (aimedSection (s .args .target) section)
   stored i =
       record {
         y1 = reads-back w64 (section .y1) (omega arith) i;
         y2 = reads-back w64 (section .y2) (omega arith) i;
         gain = (c .before .aim .ensures ∙ ap (λ (t : ℤ). aimed t (section .gain)) (toZ-ofZ {w = w64} (s .fits .target))) i;
+        remainder = reads-back w64 (section .remainder) (omega arith) i;
       }
 
 returns : tie.Need-returns
