@@ -21,9 +21,8 @@ use Rattle.unit.specs.Sizes.{remainderSize}
 use Rattle.unit.specs.Frame.{carriedOn}
 use Rattle.engine.specs.Frame.{increasedBy, carriedBy}
 
-abbrev pub floatSum : Bool → Float → Float → Float → Float → Float → Float → Float → Float
-floatSum feeds alpha beta gamma d y1 y2 remainder =
-    add binary64 (increasedBy feeds (sub binary64 (mul binary64 alpha d) (mul binary64 beta y2)) remainder) (mul binary64 gamma y1)
+abbrev pub floatSum : Float → Float → Float → Float → Float → Float → Float
+floatSum alpha beta gamma d y1 y2 = add binary64 (sub binary64 (mul binary64 alpha d) (mul binary64 beta y2)) (mul binary64 gamma y1)
 
 pub record Sizes (band : Band) (d y1 y2 remainder : ℤ) : Type 0 where
   pub alpha-size : natAbs (band .alpha) ≤ wordSize
@@ -35,15 +34,21 @@ pub record Sizes (band : Band) (d y1 y2 remainder : ℤ) : Type 0 where
   pub small-remainder : natAbs remainder ≤ remainderSize
 
 module _ (band : Band) (d y1 y2 remainder : ℤ) where
-  -- S with what is fed back, the float that is worked for it, and what rounding takes from that
+  -- S, and S with what is fed back; the floats that are worked for these, and what rounding takes
+  abbrev S : ℤ
+  S = exactSum band d (pos 0) y1 y2
+
   abbrev pub fedSum : Bool → ℤ
-  fedSum feeds = exactSum band d (pos 0) y1 y2 +ℤ cond feeds remainder (pos 0)
+  fedSum feeds = S +ℤ cond feeds remainder (pos 0)
 
   abbrev pub rounded : Bool → ℤ
   rounded feeds = nearest (fedSum feeds) sumShift
 
+  abbrev pub plainOn : Float
+  plainOn = floatSum (float (band .alpha)) (float (band .beta)) (float (band .gamma)) (float d) (float y1) (float y2)
+
   abbrev pub sumOn : Bool → Float
-  sumOn feeds = floatSum feeds (float (band .alpha)) (float (band .beta)) (float (band .gamma)) (float d) (float y1) (float y2) (float remainder)
+  sumOn feeds = increasedBy feeds plainOn (float remainder)
 
   abbrev pub took : Bool → Float
   took feeds = sub binary64 (sumOn feeds) (mul binary64 (float (pos (2 ^ sumShift))) (float (rounded feeds)))
@@ -70,60 +75,48 @@ module _ (band : Band) (d y1 y2 remainder : ℤ) where
     part-size : natAbs (forward -ℤ back2) ≤ wordSize * (2 * wordSize) + wordSize * wordSize
     part-size = difference-sized forward back2 forward-size back2-size
 
-    fed-size : natAbs (remainder +ℤ (forward -ℤ back2)) ≤ remainderSize + (wordSize * (2 * wordSize) + wordSize * wordSize)
-    fed-size = sum-sized remainder (forward -ℤ back2) (z .small-remainder) part-size
-
-    -- S, and S with the remainder
     whole-size : natAbs (forward -ℤ back2 +ℤ back1) ≤ wordSize * (2 * wordSize) + wordSize * wordSize + wordSize * wordSize
     whole-size = sum-sized (forward -ℤ back2) back1 part-size back1-size
 
-    fed-whole-size : natAbs (remainder +ℤ (forward -ℤ back2) +ℤ back1) ≤ remainderSize + (wordSize * (2 * wordSize) + wordSize * wordSize) + wordSize * wordSize
-    fed-whole-size = sum-sized (remainder +ℤ (forward -ℤ back2)) back1 fed-size back1-size
-
-    reordered : forward -ℤ back2 +ℤ back1 ≡ exactSum band d (pos 0) y1 y2
+    reordered : forward -ℤ back2 +ℤ back1 ≡ S
     unfolding exactSum
     reordered =
         terms-eq (var forward ⊖ var back2 ⊕ var back1) (var forward ⊕ var back1 ⊖ var back2) (omega arith)
         ∙ ap (λ (e : ℤ). band .alpha *ℤ e +ℤ back1 -ℤ back2) (terms-eq (var d) (var d ⊖ var (pos 0)) (omega arith))
 
-    plain-reordered : forward -ℤ back2 +ℤ back1 ≡ fedSum false
-    plain-reordered = reordered ∙ terms-eq (var (exactSum band d (pos 0) y1 y2)) (var (exactSum band d (pos 0) y1 y2) ⊕ var (pos 0)) (omega arith)
+    plain-size : natAbs S ≤ wordSize * (2 * wordSize) + wordSize * wordSize + wordSize * wordSize
+    plain-size = subst (λ (s : ℤ). natAbs s ≤ wordSize * (2 * wordSize) + wordSize * wordSize + wordSize * wordSize) reordered whole-size
 
-    fed-reordered : remainder +ℤ (forward -ℤ back2) +ℤ back1 ≡ fedSum true
-    fed-reordered =
-        terms-eq (var remainder ⊕ (var forward ⊖ var back2) ⊕ var back1) (var forward ⊖ var back2 ⊕ var back1 ⊕ var remainder) (omega arith)
-        ∙ ap (λ (s : ℤ). s +ℤ remainder) reordered
+    added-size : (feeds : Bool) → natAbs (cond feeds remainder (pos 0)) ≤ remainderSize
+    added-size true = z .small-remainder
+    added-size false = lit≤ tt
 
     pub sum-size : (feeds : Bool) → natAbs (fedSum feeds) < 2 ^ prec binary64
-    sum-size true = subst (λ (s : ℤ). natAbs s < 2 ^ prec binary64) fed-reordered (lt-of-le-of-lt fed-whole-size (lit< tt))
-    sum-size false = subst (λ (s : ℤ). natAbs s < 2 ^ prec binary64) plain-reordered (lt-of-le-of-lt whole-size (lit< tt))
+    sum-size feeds = lt-of-le-of-lt (sum-sized S (cond feeds remainder (pos 0)) plain-size (added-size feeds)) (lit< tt)
 
     word : (v : ℤ) → natAbs v ≤ wordSize → Whole (float v) v
     word v h = of-whole binary64 v (le-trans h (lit≤ tt))
 
-    abbrev part : Float
-    part = sub binary64 (mul binary64 (float (band .alpha)) (float d)) (mul binary64 (float (band .beta)) (float y2))
-
-    part-whole : Whole part (forward -ℤ back2)
-    part-whole =
-        sub-both binary64
+    plain-whole : Whole plainOn S
+    plain-whole =
+        subst (λ (s : ℤ). Whole plainOn s) reordered
+        (add-both binary64
+        (sub-both binary64
         (mul-whole binary64 (word (band .alpha) (z .alpha-size)) (of-whole binary64 d (le-trans (z .d-size) (lit≤ tt))) (le-trans forward-size (lit≤ tt)))
         (mul-whole binary64 (word (band .beta) (z .beta-size)) (word y2 (z .y2-size)) (le-trans back2-size (lit≤ tt)))
-        (le-trans part-size (lit≤ tt))
-
-    back1-whole : Whole (mul binary64 (float (band .gamma)) (float y1)) back1
-    back1-whole = mul-whole binary64 (word (band .gamma) (z .gamma-size)) (word y1 (z .y1-size)) (le-trans back1-size (lit≤ tt))
+        (le-trans part-size (lit≤ tt)))
+        (mul-whole binary64 (word (band .gamma) (z .gamma-size)) (word y1 (z .y1-size)) (le-trans back1-size (lit≤ tt)))
+        (le-trans whole-size (lit≤ tt)))
 
     -- a sum that begins with the remainder is no minus zero
     fed-is : sumOn true ≡ float (fedSum true)
     fed-is =
-        ap (λ (s : Float). add binary64 s (mul binary64 (float (band .gamma)) (float y1))) (add-whole binary64 remainder (le-trans (z .small-remainder) (lit≤ tt)) part-whole)
-        ∙ add-whole binary64 (remainder +ℤ (forward -ℤ back2)) (le-trans fed-size (lit≤ tt)) back1-whole
-        ∙ ap float fed-reordered
+        add-whole binary64 remainder (le-trans (z .small-remainder) (lit≤ tt)) plain-whole
+        ∙ ap float (terms-eq (var remainder ⊕ var S) (var S ⊕ var remainder) (omega arith))
 
     pub sum-whole : (feeds : Bool) → Whole (sumOn feeds) (fedSum feeds)
     sum-whole true = subst (λ (s : Float). Whole s (fedSum true)) (sym fed-is) (of-whole binary64 (fedSum true) (le-of-lt (sum-size true)))
-    sum-whole false = subst (λ (s : ℤ). Whole (sumOn false) s) plain-reordered (add-both binary64 part-whole back1-whole (le-trans whole-size (lit≤ tt)))
+    sum-whole false = subst (λ (s : ℤ). Whole plainOn s) (terms-eq (var S) (var S ⊕ var (pos 0)) (omega arith)) plain-whole
 
     -- what rounding took is whole, and carried on
     rounded-size : natAbs (rounded true) ≤ 2 ^ 31

@@ -52,9 +52,9 @@ unlessLimited z kept other = cond (not (isWord z)) other kept
 
 -- ---- the remainder, where a band feeds it back
 
--- a part of S, with the remainder that is added to it
+-- S, with the remainder that is added to it
 abbrev pub increasedBy : Bool → Float → Float → Float
-increasedBy feeds part remainder = cond feeds (add binary64 remainder part) part
+increasedBy feeds sum remainder = cond feeds (add binary64 remainder sum) sum
 
 -- what is carried on, of what rounding took
 abbrev pub carriedBy : Bool → ℤ → Float → Float

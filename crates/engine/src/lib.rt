@@ -147,14 +147,14 @@ fn unless_limited(kept: f64, other: f64, rounded: f64, y: f64) -> f64
     other
 }
 
-// A part of S, with the remainder where the band feeds it back. A sum that begins with the remainder is never minus zero.
-fn increased(feeds: bool, part: f64, remainder: f64) -> f64
-    ensures { λ r. ⌜ r ≡ increasedBy feeds part remainder ⌝ }
+// S, increased by the remainder where the band feeds it back. A sum that begins with the remainder is never minus zero.
+fn increased(feeds: bool, sum: f64, remainder: f64) -> f64
+    ensures { λ r. ⌜ r ≡ increasedBy feeds sum remainder ⌝ }
 {
     if feeds {
-        return remainder + part;
+        return remainder + sum;
     }
-    part
+    sum
 }
 
 // The remainder that is carried on, of what rounding took: zero where the section limits, or does not feed it back.
@@ -175,8 +175,8 @@ fn turn(feeds: bool, band: FloatBand, section: FloatSection, d: f64, tally: Tall
     ensures { λ r. ⌜ r ≡ turned feeds band section d tally ⌝ }
 {
     let y1 = section.y1;
-    let part = band.alpha * d - band.beta * section.y2;
-    let sum = increased(feeds, part, section.remainder) + band.gamma * y1;
+    let plain = band.alpha * d - band.beta * section.y2 + band.gamma * y1;
+    let sum = increased(feeds, plain, section.remainder);
     let rounded = floats::nearest_whole(sum / SUM_SCALE);
     let y = limited(WORD_LOW, WORD_HIGH, rounded);
     let level = section.gain;

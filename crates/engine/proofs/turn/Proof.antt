@@ -28,7 +28,7 @@ use Rattle.unit.specs.declared.BandSection.{BandSection}
 use Rattle.unit.specs.Frame.{carriedOn, sectionFrame}
 use Rattle.unit.proofs.Ranges.{remainder-size}
 use Rattle.engine.specs.Floats.{largest, Carries, bandIn, bandSectionIn}
-use Rattle.engine.specs.Frame.{LimitAsks, unlessLimited, carriedBy, turned}
+use Rattle.engine.specs.Frame.{LimitAsks, unlessLimited, increasedBy, carriedBy, turned}
 use Rattle.engine.proofs.Carry.{carries, whole-is, limited-is}
 use Rattle.engine.proofs.Sum.{floatSum, Sizes, fedSum, sumOn, sum-size, sum-whole, carried-is}
 use Rattle.engine.proofs.turn.Statement.{statement}
@@ -70,7 +70,7 @@ Increased = lts.After-increased (increased-reads.Asked, increased-reads.Learnt, 
 
 module _ (a : Increased) where
   abbrev s : lts.Start (increased-reads.Asked, increased-reads.Learnt, nearest-whole-reads.Asked, nearest-whole-reads.Learnt, limited-reads.Asked, limited-reads.Learnt, moved-reads.Asked, moved-reads.Learnt, carried-reads.Asked, carried-reads.Learnt, unless-limited-reads.Asked, unless-limited-reads.Learnt) reads.Pre reads.Post
-  s = a .before .before .before .before
+  s = a .before .before .before .before .before
 
   abbrev feeds : Bool
   feeds = s .args .feeds
@@ -107,18 +107,13 @@ module _ (a : Increased) where
   small = sum-size band d (section .y1) (section .y2) (section .remainder) sizes feeds
 
   abbrev sum : Float
-  sum = add binary64 (a .increased .result) (mul binary64 (s .args .band .gamma) (s .args .section .y1))
+  sum = a .increased .result
 
   sum-float : sum ≡ sumOn band d (section .y1) (section .y2) (section .remainder) feeds
   sum-float =
-      ap (λ (x : Float). add binary64 x (mul binary64 (s .args .band .gamma) (s .args .section .y1))) (a .increased .ensures)
-      ∙ (λ i. floatSum feeds
-      (s .pre .band-carries i .alpha)
-      (s .pre .band-carries i .beta)
-      (s .pre .band-carries i .gamma)
-      (s .pre .d-carries .whole i)
-      (s .pre .section-carries i .y1)
-      (s .pre .section-carries i .y2)
+      a .increased .ensures
+      ∙ (λ i. increasedBy feeds
+      (floatSum (s .pre .band-carries i .alpha) (s .pre .band-carries i .beta) (s .pre .band-carries i .gamma) (s .pre .d-carries .whole i) (s .pre .section-carries i .y1) (s .pre .section-carries i .y2))
       (s .pre .section-carries i .remainder))
 
   sum-is : Whole sum S
@@ -144,10 +139,7 @@ module _ (a : Increased) where
 
 nearest-whole-requires : tie.Need-nearest-whole-requires
 unfolding ofBits
-nearest-whole-requires c κs = quotient-roundable sumShift (sum a) (S a) (lit≤ tt) (lit≤ tt) (sum-is a) (small a)
-  where
-    a : Increased
-    a = c .before
+nearest-whole-requires c κs = quotient-roundable sumShift (sum c) (S c) (lit≤ tt) (lit≤ tt) (sum-is c) (small c)
 
 -- ---- rounded
 
@@ -156,7 +148,7 @@ Rounded = lts.After-nearest-whole (increased-reads.Asked, increased-reads.Learnt
 
 module _ (c : Rounded) where
   abbrev a : Increased
-  a = c .before .before
+  a = c .before
 
   rounded-is : c .nearest-whole .result ≡ float (r a)
   unfolding ofBits
