@@ -2,7 +2,7 @@
 -- Definitions only.
 use mathlib.Core.Bool.{true, false}
 use mathlib.Core.List.{List, [], _∷_}
-use Prim.Native.Nat.{ℕ, _^_}
+use Prim.Native.Nat.{ℕ, zero, suc, _+_, _^_}
 use lib.IntN.{ℤ, pos, negsuc, negℤ, _+ℤ_, _*ℤ_}
 use lib.Ieee.{fin}
 use lib.ListN.{getD}
@@ -10,9 +10,10 @@ use Rattle.bands.specs.Bands.{bandAt}
 use Rattle.bands.specs.House.{houseSet}
 use Rattle.section.specs.Equation.{sumShift, flag, worked}
 use Rattle.section.specs.Step.{clearedSection, resultsOver, remaindersOver}
+use Rattle.unit.specs.declared.BandSection.{BandSection}
 use Rattle.unit.specs.declared.Unit.{Unit}
-use Rattle.unit.specs.Cleared.{clearedChannel, bandsOf}
-use Rattle.unit.specs.Frame.{unitFrame, heard}
+use Rattle.unit.specs.Cleared.{clearedBandSection, clearedChannel, bandsOf}
+use Rattle.unit.specs.Frame.{feedsBack, sectionFrame, unitFrame, heard}
 use Rattle.settings.specs.declared.Setting.the-variants.{Factor}
 use Rattle.settings.specs.Settings.{targetOf}
 
@@ -45,6 +46,15 @@ result n = getD (resultsOver (clearedSection (bandAt houseSet 0)) inputs) n (pos
 
 abbrev remainder : ℕ → ℤ
 remainder n = getD (remaindersOver (clearedSection (bandAt houseSet 0)) inputs) n (pos 0)
+
+-- the 31 Hz section as band b of a cleared unit, after n frames with x = 256, 256, 0: x2 stands two places ahead of x
+abbrev quietInputs : List ℤ
+quietInputs = pos 0 ∷ pos 0 ∷ pos 256 ∷ pos 256 ∷ pos 0 ∷ []
+
+abbrev quietAfter : ℕ → ℕ → BandSection
+quietAfter b zero = clearedBandSection
+quietAfter b (suc n) =
+    sectionFrame (feedsBack b) (bandAt houseSet 0) (getD quietInputs (n + 2) (pos 0)) (getD quietInputs n (pos 0)) (quietAfter b n)
 
 -- a cleared unit of one channel with the house set, its volume at v
 abbrev unitAt : ℤ → Unit
@@ -86,6 +96,20 @@ starred =
     ∷ (remainder 0 is pos 831488)
     ∷ (remainder 1 is negℤ (pos 331287))
     ∷ (remainder 2 is pos 1017513)
+    -- "31 Hz as band 0 of a cleared unit, x = 256, 256, 0: y = 0, 1, 1; the remainders are 1,691,136, -812,032, 1,677,843"
+    ∷ (quietAfter 0 1 .y1 is pos 0)
+    ∷ (quietAfter 0 2 .y1 is pos 1)
+    ∷ (quietAfter 0 3 .y1 is pos 1)
+    ∷ (quietAfter 0 1 .remainder is pos 1691136)
+    ∷ (quietAfter 0 2 .remainder is negℤ (pos 812032))
+    ∷ (quietAfter 0 3 .remainder is pos 1677843)
+    -- "As band 4: y = 0, 0, 0; the remainders are 0, 0, 0"
+    ∷ (quietAfter 4 1 .y1 is pos 0)
+    ∷ (quietAfter 4 2 .y1 is pos 0)
+    ∷ (quietAfter 4 3 .y1 is pos 0)
+    ∷ (quietAfter 4 1 .remainder is pos 0)
+    ∷ (quietAfter 4 2 .remainder is pos 0)
+    ∷ (quietAfter 4 3 .remainder is pos 0)
     -- "Factor 1 - 2^-24: target 8,388,607. Factor -1: -8,388,608". The first is 16,777,215 × 2^-24
     ∷ (targetOf 0 (Factor (fin false 16777215 (negsuc 23))) is pos 8388607)
     ∷ (targetOf 0 (Factor (fin true 1 (pos 0))) is negℤ (pos 8388608))
