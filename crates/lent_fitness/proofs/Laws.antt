@@ -36,8 +36,12 @@ regroup true true true false w r ws rs h = refl
 regroup true true true true w false ws rs h = and-false (w && ws)
 regroup true true true true w true ws rs h = rw (h refl)
 
+-- the test of a section's remainder
+abbrev pub remainderFits : BandSection → Bool
+remainderFits s = isRemainder (s .remainder)
+
 -- all sections
-words-and-remainders : (ss : List BandSection) → every isWord (joined sectionNumbers ss) && every (λ (s : BandSection). isRemainder (s .remainder)) ss ≡ every sectionFits ss
+words-and-remainders : (ss : List BandSection) → every isWord (joined sectionNumbers ss) && every remainderFits ss ≡ every sectionFits ss
 words-and-remainders [] = refl
 words-and-remainders (s ∷ ss) =
     regroup (isWord (s .y1)) (isWord (s .y2)) (isWord (s .gain .present)) (isWord (s .gain .target)) (isWord (s .remainder))
@@ -45,7 +49,7 @@ words-and-remainders (s ∷ ss) =
     ∙ ap (λ (t : Bool). sectionFits s && t) (words-and-remainders ss)
 
 -- ten sections of a channel's numbers
-pub sections-fit : (l : List ℤ) → channelSize ≤ length l → every isWord (take (sectionSize * bandCount) (drop headSize l)) && every (λ (s : BandSection). isRemainder (s .remainder)) (channelOf l .sections) ≡ every sectionFits (channelOf l .sections)
+pub sections-fit : (l : List ℤ) → channelSize ≤ length l → every isWord (take (sectionSize * bandCount) (drop headSize l)) && every remainderFits (channelOf l .sections) ≡ every sectionFits (channelOf l .sections)
 sections-fit l h =
-    ap (λ (m : List ℤ). every isWord m && every (λ (s : BandSection). isRemainder (s .remainder)) (channelOf l .sections)) (sym (sections-numbers l bandCount h))
+    ap (λ (m : List ℤ). every isWord m && every remainderFits (channelOf l .sections)) (sym (sections-numbers l bandCount h))
     ∙ words-and-remainders (channelOf l .sections)

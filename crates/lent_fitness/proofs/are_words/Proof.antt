@@ -35,10 +35,11 @@ loop-again c =
     let at = c .before .before .before in
     let args = at .before .args in
     let l = now (args .numbers) in
-    let size = tested-size l (args .start) (omega arith) in
+    let start = args .start in
+    let size = tested-size l start (omega arith) in
     found-next (at .loop .inv) (pos 0) (omega arith)
-    (test-back isWord w32 (getD l (args .start + at .loop .i) (pos 0)) (omega arith) (c .is-word .ensures)
-    ∙ ap isWord (sym (getD-take (sectionSize * bandCount) (drop (args .start) l) (at .loop .i) (pos 0) (omega arith) ∙ getD-drop (args .start) l (at .loop .i) (pos 0))))
+    (test-back isWord w32 (getD l (start + at .loop .i) (pos 0)) (omega arith) (c .is-word .ensures)
+    ∙ ap isWord (sym (getD-take (sectionSize * bandCount) (drop start l) (at .loop .i) (pos 0) (omega arith) ∙ getD-drop start l (at .loop .i) (pos 0))))
 
 returns : tie.Need-returns Inv-loop μ-loop
 returns c =

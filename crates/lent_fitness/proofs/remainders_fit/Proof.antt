@@ -45,8 +45,9 @@ loop-again c =
 returns : tie.Need-returns Inv-loop μ-loop
 returns c =
     let s = c .before .before in
+    let sections = channelOf (drop (s .args .start) (now (s .args .numbers))) .sections in
     found-done (c .before .loop .inv) (omega arith)
-    ∙ (λ i. every (remainderWithin (toZ-ofZ {w = w32} (s .fits .least) i) (toZ-ofZ {w = w32} (s .fits .most) i)) (drop (s .args .first) (channelOf (drop (s .args .start) (now (s .args .numbers))) .sections)))
+    ∙ (λ i. every (remainderWithin (toZ-ofZ {w = w32} (s .fits .least) i) (toZ-ofZ {w = w32} (s .fits .most) i)) (drop (s .args .first) sections))
 
 pub remainders-fit-spec : {M : Type 1} → statement M
 remainders-fit-spec =

@@ -11,11 +11,10 @@ use denote.Ref.{now}
 use Rattle.lists.specs.Lists.{every}
 use Rattle.words.specs.Words.{isWord}
 use Rattle.bands.specs.Bands.{bandCount}
-use Rattle.unit.specs.declared.BandSection.{BandSection}
 use Rattle.unit.specs.Frame.{feedbackCount}
 use Rattle.unit.specs.Fit.{isRemainder, isPlain}
 use Rattle.numbers.specs.Layout.{headSize, sectionSize, channelOf}
-use Rattle.lent_fitness.proofs.Laws.{sections-fit}
+use Rattle.lent_fitness.proofs.Laws.{remainderFits, sections-fit}
 use borrow.Author.Needs.{needs}
 use Rattle.lent_fitness.proofs.sections_fit.Statement.{statement}
 use Rattle.lent_fitness.proofs.sections_fit.Tie as tie
@@ -37,7 +36,7 @@ module _ (c : lts.After-remainders-fit2 (are-words-reads.Asked, are-words-reads.
       c .before .before .are-words .ensures
       ∙ ap (λ (m : List ℤ). every isWord (take (sectionSize * bandCount) m)) (sym (drop-drop headSize (s .args .start) (now (s .args .numbers))))
 
-  remainders-test : c .before .remainders-fit .result ≡ every (λ (e : BandSection). isRemainder (e .remainder)) (channelOf l .sections)
+  remainders-test : c .before .remainders-fit .result ≡ every remainderFits (channelOf l .sections)
   unfolding isRemainder
   remainders-test = c .before .remainders-fit .ensures
 

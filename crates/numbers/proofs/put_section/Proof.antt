@@ -50,7 +50,9 @@ cast-present : tie.Need-cast-present
 cast-present c = narrow-need (c .before .before .before .before .before .before .args .section .gain .present) (present-size (c .before .before .before .before .before .before))
 
 cast-target : tie.Need-cast-target
-cast-target c = narrow-need (c .before .before .before .before .before .before .before .before .args .section .gain .target) (target-size (c .before .before .before .before .before .before .before .before))
+cast-target c =
+    let s = c .before .before .before .before .before .before .before .before in
+    narrow-need (s .args .section .gain .target) (target-size s)
 
 cast-remainder : tie.Need-cast-remainder
 cast-remainder c = narrow-need (start c .args .section .remainder) (the-remainder-size (start c))
