@@ -6,7 +6,7 @@ use Prim.Native.Nat.{ℕ, zero, suc, _+_, _*_, _-_, _^_, _≤_, _<_}
 use native.Mathlib.Omega.{arith}
 use native.Mathlib.Nat.{le-trans}
 use lib.Dec.{eqb, lit≤}
-use lib.IntN.{ℤ, pos, _+ℤ_, _*ℤ_}
+use lib.IntN.{pos, _+ℤ_, _*ℤ_}
 use lib.ListN.{length}
 use lib.Ieee.{Float, binary64, ofBits, ofInt, add, mul}
 use borrow.Author.Tests.{eqb-true, eqb-false}
@@ -148,17 +148,15 @@ module _ (bands l : List Float) (x : Sides) (asks : FrameAsks bands l x) where
 
   -- ---- turns of bands in a row, which either all feed back, or none does
 
-  module _ (feeds : Bool) (from to : ℕ) (in-order : from ≤ to) (most : to ≤ bandCount) (same : (b : ℕ) → from ≤ b → b < to → feedsBack b ≡ feeds) (s : Between) (p : Turning bands l x from (s .pair) (s .tallies)) where
+  module _ (feeds : Bool) (from to : ℕ) (in-order : from ≤ to) (most : to ≤ bandCount) (alike : (b : ℕ) → from ≤ b → b < to → feedsBack b ≡ feeds) (s : Between) (p : Turning bands l x from (s .pair) (s .tallies)) where
     abbrev then : ℕ → Between
-    then n = afterTurns feeds bands (ways bands l x) from n s
+    then n = afterTurns bands (ways bands l x) from n s
 
     turning : (n : ℕ) → from + n ≤ to → Turning bands l x (from + n) (then n .pair) (then n .tallies)
     turning zero h = subst (λ (b : ℕ). Turning bands l x b (s .pair) (s .tallies)) (omega arith) p
     turning (suc n) h =
         subst (λ (b : ℕ). Turning bands l x b (then (suc n) .pair) (then (suc n) .tallies)) (omega arith)
-        (subst (λ (t : Bool). Turning bands l x (suc (from + n)) (pairAfter t bands (then n .pair) (from + n) (ways bands l x) (then n .tallies)) (talliesAfter t bands (then n .pair) (from + n) (ways bands l x) (then n .tallies)))
-        (same (from + n) (omega arith) (omega arith))
-        (next (from + n) (then n .pair) (then n .tallies) (omega arith) (turning n (omega arith))))
+        (next (from + n) (then n .pair) (then n .tallies) (omega arith) (turning n (omega arith)))
 
     module _ (d : Sides) (ways-are : d ≡ ways bands l x) where
       pub bands-may-turn : TurnBandsAsks feeds bands d from to s
@@ -167,12 +165,13 @@ module _ (bands l : List Float) (x : Sides) (asks : FrameAsks bands l x) where
           (record {
             in-order = in-order;
             most = most;
+            alike = alike;
             each = λ n h. pair-may-turn (from + n) (then n .pair) (then n .tallies) (omega arith) (turning n (omega arith));
           })
 
-      pub bands-turned : (m : Between) → m ≡ afterTurns feeds bands d from (to - from) s → Turning bands l x to (m .pair) (m .tallies)
+      pub bands-turned : (m : Between) → m ≡ afterTurns bands d from (to - from) s → Turning bands l x to (m .pair) (m .tallies)
       bands-turned m is =
-          subst (λ (t : Between). Turning bands l x to (t .pair) (t .tallies)) (sym (is ∙ ap (λ (e : Sides). afterTurns feeds bands e from (to - from) s) ways-are))
+          subst (λ (t : Between). Turning bands l x to (t .pair) (t .tallies)) (sym (is ∙ ap (λ (e : Sides). afterTurns bands e from (to - from) s) ways-are))
           (subst (λ (b : ℕ). Turning bands l x b (then (to - from) .pair) (then (to - from) .tallies)) (omega arith) (turning (to - from) (omega arith)))
 
   -- ---- after ten turns

@@ -34,113 +34,114 @@ pub record Sizes (band : Band) (d y1 y2 remainder : ℤ) : Type 0 where
   pub y2-size : natAbs y2 ≤ wordSize
   pub small-remainder : natAbs remainder ≤ remainderSize
 
-module _ (band : Band) (d y1 y2 remainder : ℤ) (z : Sizes band d y1 y2 remainder) where
-  abbrev forward : ℤ
-  forward = band .alpha *ℤ d
-
-  abbrev back1 : ℤ
-  back1 = band .gamma *ℤ y1
-
-  abbrev back2 : ℤ
-  back2 = band .beta *ℤ y2
-
-  forward-size : natAbs forward ≤ wordSize * (2 * wordSize)
-  forward-size = product-sized (band .alpha) d (z .alpha-size) (z .d-size)
-
-  back1-size : natAbs back1 ≤ wordSize * wordSize
-  back1-size = product-sized (band .gamma) y1 (z .gamma-size) (z .y1-size)
-
-  back2-size : natAbs back2 ≤ wordSize * wordSize
-  back2-size = product-sized (band .beta) y2 (z .beta-size) (z .y2-size)
-
-  part-size : natAbs (forward -ℤ back2) ≤ wordSize * (2 * wordSize) + wordSize * wordSize
-  part-size = difference-sized forward back2 forward-size back2-size
-
-  fed-size : natAbs (remainder +ℤ (forward -ℤ back2)) ≤ remainderSize + (wordSize * (2 * wordSize) + wordSize * wordSize)
-  fed-size = sum-sized remainder (forward -ℤ back2) (z .small-remainder) part-size
-
-  -- S, and S with the remainder
-  whole-size : natAbs (forward -ℤ back2 +ℤ back1) ≤ wordSize * (2 * wordSize) + wordSize * wordSize + wordSize * wordSize
-  whole-size = sum-sized (forward -ℤ back2) back1 part-size back1-size
-
-  fed-whole-size : natAbs (remainder +ℤ (forward -ℤ back2) +ℤ back1) ≤ remainderSize + (wordSize * (2 * wordSize) + wordSize * wordSize) + wordSize * wordSize
-  fed-whole-size = sum-sized (remainder +ℤ (forward -ℤ back2)) back1 fed-size back1-size
-
-  reordered : forward -ℤ back2 +ℤ back1 ≡ exactSum band d (pos 0) y1 y2
-  unfolding exactSum
-  reordered =
-      terms-eq (var forward ⊖ var back2 ⊕ var back1) (var forward ⊕ var back1 ⊖ var back2) (omega arith)
-      ∙ ap (λ (e : ℤ). band .alpha *ℤ e +ℤ back1 -ℤ back2) (terms-eq (var d) (var d ⊖ var (pos 0)) (omega arith))
-
-  -- S with what is fed back
+module _ (band : Band) (d y1 y2 remainder : ℤ) where
+  -- S with what is fed back, the float that is worked for it, and what rounding takes from that
   abbrev pub fedSum : Bool → ℤ
   fedSum feeds = exactSum band d (pos 0) y1 y2 +ℤ cond feeds remainder (pos 0)
 
-  plain-reordered : forward -ℤ back2 +ℤ back1 ≡ fedSum false
-  plain-reordered = reordered ∙ terms-eq (var (exactSum band d (pos 0) y1 y2)) (var (exactSum band d (pos 0) y1 y2) ⊕ var (pos 0)) (omega arith)
-
-  fed-reordered : remainder +ℤ (forward -ℤ back2) +ℤ back1 ≡ fedSum true
-  fed-reordered =
-      terms-eq (var remainder ⊕ (var forward ⊖ var back2) ⊕ var back1) (var forward ⊖ var back2 ⊕ var back1 ⊕ var remainder) (omega arith)
-      ∙ ap (λ (s : ℤ). s +ℤ remainder) reordered
-
-  pub sum-size : (feeds : Bool) → natAbs (fedSum feeds) < 2 ^ prec binary64
-  sum-size true = subst (λ (s : ℤ). natAbs s < 2 ^ prec binary64) fed-reordered (lt-of-le-of-lt fed-whole-size (lit< tt))
-  sum-size false = subst (λ (s : ℤ). natAbs s < 2 ^ prec binary64) plain-reordered (lt-of-le-of-lt whole-size (lit< tt))
-
-  word : (v : ℤ) → natAbs v ≤ wordSize → Whole (float v) v
-  word v h = of-whole binary64 v (le-trans h (lit≤ tt))
-
-  abbrev part : Float
-  part = sub binary64 (mul binary64 (float (band .alpha)) (float d)) (mul binary64 (float (band .beta)) (float y2))
-
-  part-whole : Whole part (forward -ℤ back2)
-  part-whole =
-      sub-both binary64
-      (mul-whole binary64 (word (band .alpha) (z .alpha-size)) (of-whole binary64 d (le-trans (z .d-size) (lit≤ tt))) (le-trans forward-size (lit≤ tt)))
-      (mul-whole binary64 (word (band .beta) (z .beta-size)) (word y2 (z .y2-size)) (le-trans back2-size (lit≤ tt)))
-      (le-trans part-size (lit≤ tt))
-
-  back1-whole : Whole (mul binary64 (float (band .gamma)) (float y1)) back1
-  back1-whole = mul-whole binary64 (word (band .gamma) (z .gamma-size)) (word y1 (z .y1-size)) (le-trans back1-size (lit≤ tt))
+  abbrev pub rounded : Bool → ℤ
+  rounded feeds = nearest (fedSum feeds) sumShift
 
   abbrev pub sumOn : Bool → Float
   sumOn feeds = floatSum feeds (float (band .alpha)) (float (band .beta)) (float (band .gamma)) (float d) (float y1) (float y2) (float remainder)
 
-  -- a sum that begins with the remainder is no minus zero
-  fed-is : sumOn true ≡ float (fedSum true)
-  fed-is =
-      ap (λ (s : Float). add binary64 s (mul binary64 (float (band .gamma)) (float y1))) (add-whole binary64 remainder (le-trans (z .small-remainder) (lit≤ tt)) part-whole)
-      ∙ add-whole binary64 (remainder +ℤ (forward -ℤ back2)) (le-trans fed-size (lit≤ tt)) back1-whole
-      ∙ ap float fed-reordered
-
-  pub sum-whole : (feeds : Bool) → Whole (sumOn feeds) (fedSum feeds)
-  sum-whole true = subst (λ (s : Float). Whole s (fedSum true)) (sym fed-is) (of-whole binary64 (fedSum true) (le-of-lt (sum-size true)))
-  sum-whole false = subst (λ (s : ℤ). Whole (sumOn false) s) plain-reordered (add-both binary64 part-whole back1-whole (le-trans whole-size (lit≤ tt)))
-
-  -- what rounding takes from it is whole, and carried on
-  abbrev rounded : Bool → ℤ
-  rounded feeds = nearest (fedSum feeds) sumShift
-
-  rounded-size : natAbs (rounded true) ≤ 2 ^ 31
-  rounded-size = nearest-size (fedSum true) sumShift (2 ^ 31) (le-trans (le-of-lt (sum-size true)) (lit≤ tt))
-
   abbrev pub took : Bool → Float
-  took feeds = sub binary64 (sumOn feeds) (mul binary64 (float (pos (2 ^ sumShift))) (float (nearest (fedSum feeds) sumShift)))
+  took feeds = sub binary64 (sumOn feeds) (mul binary64 (float (pos (2 ^ sumShift))) (float (rounded feeds)))
 
-  took-is : took true ≡ float (worked (fedSum true) .remainder)
-  unfolding worked taken
-  took-is =
-      ap (λ (s : Float). sub binary64 s (mul binary64 (float (pos (2 ^ sumShift))) (float (rounded true)))) fed-is
-      ∙ sub-whole binary64 (fedSum true) (le-of-lt (sum-size true))
-      (mul-whole binary64 (of-whole binary64 (pos (2 ^ sumShift)) (lit≤ tt)) (of-whole binary64 (rounded true) (le-trans rounded-size (lit≤ tt)))
-      (le-trans (product-sized (pos (2 ^ sumShift)) (rounded true) {m = 2 ^ sumShift} {n = 2 ^ 31} (lit≤ tt) rounded-size) (lit≤ tt)))
+  module _ (z : Sizes band d y1 y2 remainder) where
+    abbrev forward : ℤ
+    forward = band .alpha *ℤ d
 
-  pub carried-is : (feeds : Bool) → carriedBy feeds (nearest (fedSum feeds) sumShift) (took feeds) ≡ float (carriedOn feeds (worked (fedSum feeds)))
-  unfolding worked
-  carried-is true = go (not (isWord (rounded true)))
-    where
-      go : (t : Bool) → cond t (float (pos 0)) (took true) ≡ float (cond t (pos 0) (worked (fedSum true) .remainder))
-      go true = refl
-      go false = took-is
-  carried-is false = refl
+    abbrev back1 : ℤ
+    back1 = band .gamma *ℤ y1
+
+    abbrev back2 : ℤ
+    back2 = band .beta *ℤ y2
+
+    forward-size : natAbs forward ≤ wordSize * (2 * wordSize)
+    forward-size = product-sized (band .alpha) d (z .alpha-size) (z .d-size)
+
+    back1-size : natAbs back1 ≤ wordSize * wordSize
+    back1-size = product-sized (band .gamma) y1 (z .gamma-size) (z .y1-size)
+
+    back2-size : natAbs back2 ≤ wordSize * wordSize
+    back2-size = product-sized (band .beta) y2 (z .beta-size) (z .y2-size)
+
+    part-size : natAbs (forward -ℤ back2) ≤ wordSize * (2 * wordSize) + wordSize * wordSize
+    part-size = difference-sized forward back2 forward-size back2-size
+
+    fed-size : natAbs (remainder +ℤ (forward -ℤ back2)) ≤ remainderSize + (wordSize * (2 * wordSize) + wordSize * wordSize)
+    fed-size = sum-sized remainder (forward -ℤ back2) (z .small-remainder) part-size
+
+    -- S, and S with the remainder
+    whole-size : natAbs (forward -ℤ back2 +ℤ back1) ≤ wordSize * (2 * wordSize) + wordSize * wordSize + wordSize * wordSize
+    whole-size = sum-sized (forward -ℤ back2) back1 part-size back1-size
+
+    fed-whole-size : natAbs (remainder +ℤ (forward -ℤ back2) +ℤ back1) ≤ remainderSize + (wordSize * (2 * wordSize) + wordSize * wordSize) + wordSize * wordSize
+    fed-whole-size = sum-sized (remainder +ℤ (forward -ℤ back2)) back1 fed-size back1-size
+
+    reordered : forward -ℤ back2 +ℤ back1 ≡ exactSum band d (pos 0) y1 y2
+    unfolding exactSum
+    reordered =
+        terms-eq (var forward ⊖ var back2 ⊕ var back1) (var forward ⊕ var back1 ⊖ var back2) (omega arith)
+        ∙ ap (λ (e : ℤ). band .alpha *ℤ e +ℤ back1 -ℤ back2) (terms-eq (var d) (var d ⊖ var (pos 0)) (omega arith))
+
+    plain-reordered : forward -ℤ back2 +ℤ back1 ≡ fedSum false
+    plain-reordered = reordered ∙ terms-eq (var (exactSum band d (pos 0) y1 y2)) (var (exactSum band d (pos 0) y1 y2) ⊕ var (pos 0)) (omega arith)
+
+    fed-reordered : remainder +ℤ (forward -ℤ back2) +ℤ back1 ≡ fedSum true
+    fed-reordered =
+        terms-eq (var remainder ⊕ (var forward ⊖ var back2) ⊕ var back1) (var forward ⊖ var back2 ⊕ var back1 ⊕ var remainder) (omega arith)
+        ∙ ap (λ (s : ℤ). s +ℤ remainder) reordered
+
+    pub sum-size : (feeds : Bool) → natAbs (fedSum feeds) < 2 ^ prec binary64
+    sum-size true = subst (λ (s : ℤ). natAbs s < 2 ^ prec binary64) fed-reordered (lt-of-le-of-lt fed-whole-size (lit< tt))
+    sum-size false = subst (λ (s : ℤ). natAbs s < 2 ^ prec binary64) plain-reordered (lt-of-le-of-lt whole-size (lit< tt))
+
+    word : (v : ℤ) → natAbs v ≤ wordSize → Whole (float v) v
+    word v h = of-whole binary64 v (le-trans h (lit≤ tt))
+
+    abbrev part : Float
+    part = sub binary64 (mul binary64 (float (band .alpha)) (float d)) (mul binary64 (float (band .beta)) (float y2))
+
+    part-whole : Whole part (forward -ℤ back2)
+    part-whole =
+        sub-both binary64
+        (mul-whole binary64 (word (band .alpha) (z .alpha-size)) (of-whole binary64 d (le-trans (z .d-size) (lit≤ tt))) (le-trans forward-size (lit≤ tt)))
+        (mul-whole binary64 (word (band .beta) (z .beta-size)) (word y2 (z .y2-size)) (le-trans back2-size (lit≤ tt)))
+        (le-trans part-size (lit≤ tt))
+
+    back1-whole : Whole (mul binary64 (float (band .gamma)) (float y1)) back1
+    back1-whole = mul-whole binary64 (word (band .gamma) (z .gamma-size)) (word y1 (z .y1-size)) (le-trans back1-size (lit≤ tt))
+
+    -- a sum that begins with the remainder is no minus zero
+    fed-is : sumOn true ≡ float (fedSum true)
+    fed-is =
+        ap (λ (s : Float). add binary64 s (mul binary64 (float (band .gamma)) (float y1))) (add-whole binary64 remainder (le-trans (z .small-remainder) (lit≤ tt)) part-whole)
+        ∙ add-whole binary64 (remainder +ℤ (forward -ℤ back2)) (le-trans fed-size (lit≤ tt)) back1-whole
+        ∙ ap float fed-reordered
+
+    pub sum-whole : (feeds : Bool) → Whole (sumOn feeds) (fedSum feeds)
+    sum-whole true = subst (λ (s : Float). Whole s (fedSum true)) (sym fed-is) (of-whole binary64 (fedSum true) (le-of-lt (sum-size true)))
+    sum-whole false = subst (λ (s : ℤ). Whole (sumOn false) s) plain-reordered (add-both binary64 part-whole back1-whole (le-trans whole-size (lit≤ tt)))
+
+    -- what rounding took is whole, and carried on
+    rounded-size : natAbs (rounded true) ≤ 2 ^ 31
+    rounded-size = nearest-size (fedSum true) sumShift (2 ^ 31) (le-trans (le-of-lt (sum-size true)) (lit≤ tt))
+
+    took-is : took true ≡ float (worked (fedSum true) .remainder)
+    unfolding worked taken
+    took-is =
+        ap (λ (s : Float). sub binary64 s (mul binary64 (float (pos (2 ^ sumShift))) (float (rounded true)))) fed-is
+        ∙ sub-whole binary64 (fedSum true) (le-of-lt (sum-size true))
+        (mul-whole binary64 (of-whole binary64 (pos (2 ^ sumShift)) (lit≤ tt)) (of-whole binary64 (rounded true) (le-trans rounded-size (lit≤ tt)))
+        (le-trans (product-sized (pos (2 ^ sumShift)) (rounded true) {m = 2 ^ sumShift} {n = 2 ^ 31} (lit≤ tt) rounded-size) (lit≤ tt)))
+
+    pub carried-is : (feeds : Bool) → carriedBy feeds (rounded feeds) (took feeds) ≡ float (carriedOn feeds (worked (fedSum feeds)))
+    unfolding worked
+    carried-is true = go (not (isWord (rounded true)))
+      where
+        go : (t : Bool) → cond t (float (pos 0)) (took true) ≡ float (cond t (pos 0) (worked (fedSum true) .remainder))
+        go true = refl
+        go false = took-is
+    carried-is false = refl

@@ -12,7 +12,7 @@ use Rattle.words.specs.Words.{wordSize, wordLow, wordHigh, isWord}
 use Rattle.bands.specs.Bands.{bandCount}
 use Rattle.floats.specs.Whole.{float, wholeOf}
 use Rattle.unit.specs.declared.BandSection.{BandSection}
-use Rattle.unit.specs.Frame.{sectionWork, sectionFrame, share, channelFrame, exactMix}
+use Rattle.unit.specs.Frame.{feedsBack, sectionWork, sectionFrame, share, channelFrame, exactMix}
 use Rattle.unit.specs.Fit.{BandFit, SectionFit, ChannelFit}
 use Rattle.engine.specs.declared.FloatBand.{FloatBand}
 use Rattle.engine.specs.declared.FloatLevel.{FloatLevel}
@@ -46,9 +46,9 @@ pub record LimitAsks (rounded y : Float) : Type 0 where
   pub rounded-carries : Carries rounded largest
   pub y-is : y ≡ float (limit wordLow wordHigh (wholeOf rounded))
 
--- the flag after a section rounded to z: "1 from the first time one of its sections limits"
-abbrev pub raisedBy : ℤ → Float → Float
-raisedBy z flag = cond (not (isWord z)) (float (pos 1)) flag
+-- a number that is kept, or another one where the section limits: z is what it rounded to
+abbrev pub unlessLimited : ℤ → Float → Float → Float
+unlessLimited z kept other = cond (not (isWord z)) other kept
 
 -- ---- the remainder, where a band feeds it back
 
@@ -56,13 +56,9 @@ raisedBy z flag = cond (not (isWord z)) (float (pos 1)) flag
 abbrev pub increasedBy : Bool → Float → Float → Float
 increasedBy feeds part remainder = cond feeds (add binary64 remainder part) part
 
--- what rounding took, or zero where the section rounded to no word
-abbrev pub keptBy : ℤ → Float → Float
-keptBy z taken = cond (not (isWord z)) (float (pos 0)) taken
-
--- the remainder for the next turn
+-- what is carried on, of what rounding took
 abbrev pub carriedBy : Bool → ℤ → Float → Float
-carriedBy feeds z taken = cond feeds (keptBy z taken) (float (pos 0))
+carriedBy feeds z taken = cond feeds (unlessLimited z taken (float (pos 0))) (float (pos 0))
 
 -- ---- a section's turn, on d = x - x2
 
@@ -123,20 +119,21 @@ pub record Between : Type 0 where
 abbrev pub between : List Float → Tallies → Between
 between l tallies = record { pair = l; tallies = tallies }
 
-module _ (feeds : Bool) (bands : List Float) (d : Sides) (from : ℕ) where
+module _ (bands : List Float) (d : Sides) (from : ℕ) where
   -- after the turns of n bands
   abbrev pub afterTurns : ℕ → Between → Between
   afterTurns zero s = s
   afterTurns (suc n) s =
       between
-      (pairAfter feeds bands (afterTurns n s .pair) (from + n) d (afterTurns n s .tallies))
-      (talliesAfter feeds bands (afterTurns n s .pair) (from + n) d (afterTurns n s .tallies))
+      (pairAfter (feedsBack (from + n)) bands (afterTurns n s .pair) (from + n) d (afterTurns n s .tallies))
+      (talliesAfter (feedsBack (from + n)) bands (afterTurns n s .pair) (from + n) d (afterTurns n s .tallies))
 
-  -- what the turns of bands up to a place ask: each has what it asks
-  pub record TurnBandsAsks (to : ℕ) (s : Between) : Type 0 where
-    pub in-order : from ≤ to
-    pub most : to ≤ bandCount
-    pub each : (n : ℕ) → from + n < to → TurnPairAsks bands (afterTurns n s .pair) (from + n) d (afterTurns n s .tallies)
+-- what the turns up to another place ask: these bands all feed back, or none does, and each turn has what it asks
+pub record TurnBandsAsks (feeds : Bool) (bands : List Float) (d : Sides) (from to : ℕ) (s : Between) : Type 0 where
+  pub in-order : from ≤ to
+  pub most : to ≤ bandCount
+  pub alike : (b : ℕ) → from ≤ b → b < to → feedsBack b ≡ feeds
+  pub each : (n : ℕ) → from + n < to → TurnPairAsks bands (afterTurns bands d from n s .pair) (from + n) d (afterTurns bands d from n s .tallies)
 
 -- ---- a frame of both sides, on their input words
 

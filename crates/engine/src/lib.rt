@@ -10,7 +10,7 @@ ghost use Rattle.levels.specs.Levels.{moved};
 ghost use Rattle.unit.specs.Frame.{output};
 ghost use Rattle.engine.specs.Floats.{levelIn, floatLevel};
 ghost use Rattle.engine.specs.Layout.{setFloats, floatBandAt, floatSectionAt, putSection, sidesAt, putSides};
-ghost use Rattle.engine.specs.Frame.{lesser, greater, limitedFloat, LevelCarries, LimitAsks, raisedBy, increasedBy, keptBy, carriedBy, turned, TurnAsks, talliesAfter, pairAfter, TurnPairAsks, between, afterTurns, TurnBandsAsks, FrameAsks, FrameGives, OutputAsks};
+ghost use Rattle.engine.specs.Frame.{lesser, greater, limitedFloat, LevelCarries, LimitAsks, unlessLimited, increasedBy, carriedBy, turned, TurnAsks, talliesAfter, pairAfter, TurnPairAsks, between, afterTurns, TurnBandsAsks, FrameAsks, FrameGives, OutputAsks};
 
 // The sides of a pair.
 pub const SIDE_COUNT: usize = 2;
@@ -136,15 +136,15 @@ impl FloatLevel {
     }
 }
 
-// The flag, raised where the rounded number was no word.
-fn raised(flag: f64, rounded: f64, y: f64) -> f64
+// A number that is kept, or another one where the rounded number was no word.
+fn unless_limited(kept: f64, other: f64, rounded: f64, y: f64) -> f64
     requires { ⌜ LimitAsks rounded y ⌝ }
-    ensures { λ r. ⌜ r ≡ raisedBy (wholeOf rounded) flag ⌝ }
+    ensures { λ r. ⌜ r ≡ unlessLimited (wholeOf rounded) kept other ⌝ }
 {
     if rounded == y {
-        return flag;
+        return kept;
     }
-    1.0
+    other
 }
 
 // A part of S, with the remainder where the band feeds it back. A sum that begins with the remainder is never minus zero.
@@ -157,29 +157,19 @@ fn increased(feeds: bool, part: f64, remainder: f64) -> f64
     part
 }
 
-// The remainder that is carried on, of what rounding took: zero where the band does not feed it back.
+// The remainder that is carried on, of what rounding took: zero where the section limits, or does not feed it back.
 fn carried(feeds: bool, taken: f64, rounded: f64, y: f64) -> f64
     requires { ⌜ LimitAsks rounded y ⌝ }
     ensures { λ r. ⌜ r ≡ carriedBy feeds (wholeOf rounded) taken ⌝ }
 {
     if feeds {
-        return kept(taken, rounded, y);
+        return unless_limited(taken, 0.0, rounded, y);
     }
     0.0
 }
 
-// What rounding took, or zero where the rounded number was no word.
-fn kept(taken: f64, rounded: f64, y: f64) -> f64
-    requires { ⌜ LimitAsks rounded y ⌝ }
-    ensures { λ r. ⌜ r ≡ keptBy (wholeOf rounded) taken ⌝ }
-{
-    if rounded == y {
-        return taken;
-    }
-    0.0
-}
-
-// One side's turn of a section on d = x - x2: the gain moves, equation (8) is worked, rounded and limited, the results move on, and g × y joins T.
+// One side's turn of a section on d = x - x2: the gain moves, equation (8) is worked, rounded and limited, the results and the remainder move on,
+// and g × y joins T.
 fn turn(feeds: bool, band: FloatBand, section: FloatSection, d: f64, tally: Tally) -> Turned
     requires { ⌜ TurnAsks band section d tally ⌝ }
     ensures { λ r. ⌜ r ≡ turned feeds band section d tally ⌝ }
@@ -201,7 +191,7 @@ fn turn(feeds: bool, band: FloatBand, section: FloatSection, d: f64, tally: Tall
         },
         tally: Tally {
             total: tally.total + present * y,
-            flag: raised(tally.flag, rounded, y),
+            flag: unless_limited(tally.flag, 1.0, rounded, y),
         },
     }
 }
@@ -316,7 +306,7 @@ fn turn_pair(
     }
 }
 
-// The turns of both sides, from band `from` up to `to`: those bands either all feed back, or none does.
+// The turns of both sides, from band `from` up to `to`. These bands either all feed back, or none does: the compiler makes a loop of each kind.
 fn turn_bands(
     feeds: bool,
     bands: &[f64; SET_FLOATS],
@@ -327,7 +317,7 @@ fn turn_bands(
     before: Tallies,
 ) -> Tallies
     requires { ⌜ TurnBandsAsks feeds (now bands) d from to (between (now pair) before) ⌝ }
-    ensures { λ r. ⌜ between (now (pair .exit)) r ≡ afterTurns feeds (now (bands .entry)) d from (to - from) (between (now (pair .entry)) before) ⌝ }
+    ensures { λ r. ⌜ between (now (pair .exit)) r ≡ afterTurns (now (bands .entry)) d from (to - from) (between (now (pair .entry)) before) ⌝ }
 {
     let mut tallies = before;
     let mut b = from;

@@ -1,4 +1,4 @@
--- `engine::carried` meets its contract: what `kept` gives, where the band feeds it back.
+-- `engine::carried` meets its contract: what rounding took or zero, where the band feeds it back, else zero.
 use mathlib.Core.Path.{sym, ap, _∙_}
 use mathlib.Core.Bool.{Bool}
 use lib.Ieee.{ofBits, ofInt}
@@ -9,8 +9,9 @@ use Rattle.engine.proofs.carried.Statement.{statement}
 use Rattle.engine.proofs.carried.Tie as tie
 
 returns : tie.Need-returns
+unfolding ofBits ofInt
 returns c =
-    c .kept .ensures ∙ sym (ap (λ (t : Bool). carriedBy t (wholeOf (c .before .before .args .rounded)) (c .before .before .args .taken)) (c .before .if1 .taken))
+    c .unless-limited .ensures ∙ sym (ap (λ (t : Bool). carriedBy t (wholeOf (c .before .before .args .rounded)) (c .before .before .args .taken)) (c .before .if1 .taken))
 
 returns-2 : tie.Need-returns-2
 unfolding ofBits ofInt

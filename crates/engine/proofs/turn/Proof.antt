@@ -28,9 +28,9 @@ use Rattle.unit.specs.declared.BandSection.{BandSection}
 use Rattle.unit.specs.Frame.{carriedOn, sectionFrame}
 use Rattle.unit.proofs.Ranges.{remainder-size}
 use Rattle.engine.specs.Floats.{largest, Carries, bandIn, bandSectionIn}
-use Rattle.engine.specs.Frame.{LimitAsks, raisedBy, carriedBy, turned}
+use Rattle.engine.specs.Frame.{LimitAsks, unlessLimited, carriedBy, turned}
 use Rattle.engine.proofs.Carry.{carries, whole-is, limited-is}
-use Rattle.engine.proofs.Sum.{floatSum, Sizes, fedSum, sum-size, sum-whole, carried-is}
+use Rattle.engine.proofs.Sum.{floatSum, Sizes, fedSum, sumOn, sum-size, sum-whole, carried-is}
 use Rattle.engine.proofs.turn.Statement.{statement}
 use Rattle.engine.proofs.turn.Tie as tie
 use Rattle.engine.proofs.turn.Reads as reads
@@ -39,7 +39,7 @@ use Rattle.engine.proofs.carried.Reads as carried-reads
 use Rattle.engine.proofs.increased.Reads as increased-reads
 use Rattle.engine.proofs.limited.Reads as limited-reads
 use Rattle.engine.proofs.FloatLevel.moved.Reads as moved-reads
-use Rattle.engine.proofs.raised.Reads as raised-reads
+use Rattle.engine.proofs.unless_limited.Reads as unless-limited-reads
 
 -- the ends of a word, and 2^22
 abbrev lowest : Float
@@ -66,10 +66,10 @@ scale-is = refl
 -- ---- S
 
 abbrev Increased : Type 0
-Increased = lts.After-increased (increased-reads.Asked, increased-reads.Learnt, nearest-whole-reads.Asked, nearest-whole-reads.Learnt, limited-reads.Asked, limited-reads.Learnt, moved-reads.Asked, moved-reads.Learnt, carried-reads.Asked, carried-reads.Learnt, raised-reads.Asked, raised-reads.Learnt) reads.Pre reads.Post
+Increased = lts.After-increased (increased-reads.Asked, increased-reads.Learnt, nearest-whole-reads.Asked, nearest-whole-reads.Learnt, limited-reads.Asked, limited-reads.Learnt, moved-reads.Asked, moved-reads.Learnt, carried-reads.Asked, carried-reads.Learnt, unless-limited-reads.Asked, unless-limited-reads.Learnt) reads.Pre reads.Post
 
 module _ (a : Increased) where
-  abbrev s : lts.Start (increased-reads.Asked, increased-reads.Learnt, nearest-whole-reads.Asked, nearest-whole-reads.Learnt, limited-reads.Asked, limited-reads.Learnt, moved-reads.Asked, moved-reads.Learnt, carried-reads.Asked, carried-reads.Learnt, raised-reads.Asked, raised-reads.Learnt) reads.Pre reads.Post
+  abbrev s : lts.Start (increased-reads.Asked, increased-reads.Learnt, nearest-whole-reads.Asked, nearest-whole-reads.Learnt, limited-reads.Asked, limited-reads.Learnt, moved-reads.Asked, moved-reads.Learnt, carried-reads.Asked, carried-reads.Learnt, unless-limited-reads.Asked, unless-limited-reads.Learnt) reads.Pre reads.Post
   s = a .before .before .before .before
 
   abbrev feeds : Bool
@@ -101,7 +101,7 @@ module _ (a : Increased) where
 
   -- S with what is fed back
   abbrev S : ℤ
-  S = fedSum band d (section .y1) (section .y2) (section .remainder) sizes feeds
+  S = fedSum band d (section .y1) (section .y2) (section .remainder) feeds
 
   small : natAbs S < 2 ^ prec binary64
   small = sum-size band d (section .y1) (section .y2) (section .remainder) sizes feeds
@@ -109,7 +109,7 @@ module _ (a : Increased) where
   abbrev sum : Float
   sum = add binary64 (a .increased .result) (mul binary64 (s .args .band .gamma) (s .args .section .y1))
 
-  sum-float : sum ≡ floatSum feeds (float (band .alpha)) (float (band .beta)) (float (band .gamma)) (float d) (float (section .y1)) (float (section .y2)) (float (section .remainder))
+  sum-float : sum ≡ sumOn band d (section .y1) (section .y2) (section .remainder) feeds
   sum-float =
       ap (λ (x : Float). add binary64 x (mul binary64 (s .args .band .gamma) (s .args .section .y1))) (a .increased .ensures)
       ∙ (λ i. floatSum feeds
@@ -152,7 +152,7 @@ nearest-whole-requires c κs = quotient-roundable sumShift (sum a) (S a) (lit≤
 -- ---- rounded
 
 abbrev Rounded : Type 0
-Rounded = lts.After-nearest-whole (increased-reads.Asked, increased-reads.Learnt, nearest-whole-reads.Asked, nearest-whole-reads.Learnt, limited-reads.Asked, limited-reads.Learnt, moved-reads.Asked, moved-reads.Learnt, carried-reads.Asked, carried-reads.Learnt, raised-reads.Asked, raised-reads.Learnt) reads.Pre reads.Post
+Rounded = lts.After-nearest-whole (increased-reads.Asked, increased-reads.Learnt, nearest-whole-reads.Asked, nearest-whole-reads.Learnt, limited-reads.Asked, limited-reads.Learnt, moved-reads.Asked, moved-reads.Learnt, carried-reads.Asked, carried-reads.Learnt, unless-limited-reads.Asked, unless-limited-reads.Learnt) reads.Pre reads.Post
 
 module _ (c : Rounded) where
   abbrev a : Increased
@@ -177,7 +177,7 @@ module _ (c : Rounded) where
 -- ---- limited
 
 abbrev Limited : Type 0
-Limited = lts.After-limited (increased-reads.Asked, increased-reads.Learnt, nearest-whole-reads.Asked, nearest-whole-reads.Learnt, limited-reads.Asked, limited-reads.Learnt, moved-reads.Asked, moved-reads.Learnt, carried-reads.Asked, carried-reads.Learnt, raised-reads.Asked, raised-reads.Learnt) reads.Pre reads.Post
+Limited = lts.After-limited (increased-reads.Asked, increased-reads.Learnt, nearest-whole-reads.Asked, nearest-whole-reads.Learnt, limited-reads.Asked, limited-reads.Learnt, moved-reads.Asked, moved-reads.Learnt, carried-reads.Asked, carried-reads.Learnt, unless-limited-reads.Asked, unless-limited-reads.Learnt) reads.Pre reads.Post
 
 module _ (c : Limited) where
   y-whole : c .limited .result ≡ float (limit wordLow wordHigh (r (a (c .before))))
@@ -209,11 +209,11 @@ moved-requires c κs =
 carried-requires : tie.Need-carried-requires
 carried-requires c κs = limit-asks (c .before .before)
 
-raised-requires : tie.Need-raised-requires
-raised-requires c κs = limit-asks (c .before .before .before .before)
+unless-limited-requires : tie.Need-unless-limited-requires
+unless-limited-requires c κs = limit-asks (c .before .before .before .before)
 
 returns : tie.Need-returns
-unfolding turned sectionFrame worked
+unfolding turned sectionFrame worked ofBits ofInt
 returns c =
     λ i.
     record {
@@ -227,7 +227,7 @@ returns c =
       tally =
           record {
             total = total-is i;
-            flag = (c .raised .ensures ∙ ap (λ (z : ℤ). raisedBy z (s n .args .tally .flag)) (rounded-whole (l .before))) i;
+            flag = (c .unless-limited .ensures ∙ ap (λ (z : ℤ). unlessLimited z (s n .args .tally .flag) (float (pos 1))) (rounded-whole (l .before))) i;
           };
     }
   where
@@ -248,4 +248,4 @@ returns c =
         (le-trans (product-sized (gain n) y (gain-size n) (worked-size (S n))) (lit≤ tt)))
 
 pub turn-spec : {M : Type 1} → statement M
-turn-spec = tie.close (tie.spec (λ c κs. search needs) nearest-whole-requires (λ c κs. search needs) moved-requires carried-requires raised-requires returns)
+turn-spec = tie.close (tie.spec (λ c κs. search needs) nearest-whole-requires (λ c κs. search needs) moved-requires carried-requires unless-limited-requires returns)

@@ -1,16 +1,14 @@
 -- `engine::turn_bands` meets its contract. The loop's invariant: the bands from `from` to below b have had their turns.
 use mathlib.Core.Path.{_≡_, refl, sym, ap, _∙_, subst}
-use mathlib.Core.Bool.{Bool}
 use mathlib.Core.List.{List}
-use Prim.Native.Nat.{ℕ, zero, suc, _+_, _*_, _-_, _≤_, _<_}
+use Prim.Native.Nat.{ℕ, zero, suc, _+_, _-_, _≤_, _<_}
 use native.Mathlib.Omega.{arith}
 use lib.ListN.{length}
 use lib.Ieee.{Float}
 use denote.Ref.{now}
+use Rattle.unit.specs.Frame.{feedsBack}
 use Rattle.engine.specs.declared.Sides.{Sides}
-use Rattle.engine.specs.declared.Tallies.{Tallies}
-use Rattle.engine.specs.Layout.{sectionFloats, putSection}
-use Rattle.engine.specs.Frame.{firstTurned, secondTurned, talliesAfter, pairAfter, TurnPairAsks, Between, between, afterTurns, TurnBandsAsks}
+use Rattle.engine.specs.Frame.{talliesAfter, pairAfter, TurnPairAsks, Between, between, afterTurns}
 use Rattle.engine.proofs.Store.{section-length}
 use Rattle.engine.proofs.turn_bands.Statement.{statement}
 use Rattle.engine.proofs.turn_bands.Tie as tie
@@ -18,30 +16,21 @@ use Rattle.engine.proofs.turn_bands.Reads as reads
 use Rattle.engine.proofs.turn_bands.Lts as lts
 use Rattle.engine.proofs.turn_pair.Reads as turn-pair-reads
 
-module _ (feeds : Bool) (bands : List Float) (d : Sides) (from : ℕ) (s : Between) where
+module _ (bands : List Float) (d : Sides) (from : ℕ) (s : Between) where
   -- a turn leaves the number of floats
-  length-after : (n : ℕ) → length (afterTurns feeds bands d from n s .pair) ≡ length (s .pair)
+  length-after : (n : ℕ) → length (afterTurns bands d from n s .pair) ≡ length (s .pair)
   length-after zero = refl
-  length-after (suc n) =
-      section-length (putSection m (sectionFloats * (from + n)) (firstTurned feeds bands m (from + n) d t .section)) (sectionFloats * (from + n) + 1) (secondTurned feeds bands m (from + n) d t .section)
-      ∙ section-length m (sectionFloats * (from + n)) (firstTurned feeds bands m (from + n) d t .section)
-      ∙ length-after n
-    where
-      m : List Float
-      m = afterTurns feeds bands d from n s .pair
-
-      t : Tallies
-      t = afterTurns feeds bands d from n s .tallies
+  length-after (suc n) = simp section-length (length-after n)
 
   -- so many turns led to m and place b
   pub record Reached (to b : ℕ) (m : Between) : Type 0 where
     pub turns : ℕ
     pub most : from + turns ≤ to
     pub place : b ≡ from + turns
-    pub is : m ≡ afterTurns feeds bands d from turns s
+    pub is : m ≡ afterTurns bands d from turns s
 
 abbrev Inv-loop : tie.InvT-loop
-Inv-loop feeds bands pair₀ from to d tallies₀ b₀ pair tallies b = Reached feeds bands d from (between pair₀ tallies₀) to b (between pair tallies)
+Inv-loop feeds bands pair₀ from to d tallies₀ b₀ pair tallies b = Reached bands d from (between pair₀ tallies₀) to b (between pair tallies)
 
 abbrev μ-loop : tie.MeasureT-loop
 μ-loop feeds bands pair₀ from to d tallies₀ b₀ pair tallies b = to - b
@@ -61,7 +50,7 @@ module _ (c : lts.In-loop (turn-pair-reads.Asked, turn-pair-reads.Learnt) reads.
   abbrev here : Between
   here = between (c .before .loop .pair) (c .before .loop .tallies)
 
-  inv : Reached (s .args .feeds) (now (s .args .bands)) (s .args .d) (s .args .from) start (s .args .to) (c .before .loop .b) here
+  inv : Reached (now (s .args .bands)) (s .args .d) (s .args .from) start (s .args .to) (c .before .loop .b) here
   inv = c .before .loop .inv
 
   below : s .args .from + inv .turns < s .args .to
@@ -91,12 +80,15 @@ loop-again c =
       is =
           (λ i. between (c .before .before .turn-pair .ensures .1 i) (c .before .before .turn-pair .ensures .0 i))
           ∙ (λ i. between
-          (pairAfter (s k .args .feeds) (now (s k .args .bands)) (inv k .is i .pair) (inv k .place i) (s k .args .d) (inv k .is i .tallies))
-          (talliesAfter (s k .args .feeds) (now (s k .args .bands)) (inv k .is i .pair) (inv k .place i) (s k .args .d) (inv k .is i .tallies)));
+          (pairAfter (feeds-are i) (now (s k .args .bands)) (inv k .is i .pair) (inv k .place i) (s k .args .d) (inv k .is i .tallies))
+          (talliesAfter (feeds-are i) (now (s k .args .bands)) (inv k .is i .pair) (inv k .place i) (s k .args .d) (inv k .is i .tallies)));
     }
   where
     k : lts.In-loop (turn-pair-reads.Asked, turn-pair-reads.Learnt) reads.Pre reads.Post Inv-loop μ-loop
     k = c .before .before .before .before
+
+    feeds-are : s k .args .feeds ≡ feedsBack (s k .args .from + inv k .turns)
+    feeds-are = sym (s k .pre .alike (s k .args .from + inv k .turns) (omega arith) (below k))
 
 -- ---- after the last turn
 
@@ -104,10 +96,10 @@ module _ (c : lts.After-loop (turn-pair-reads.Asked, turn-pair-reads.Learnt) rea
   abbrev e : lts.Start (turn-pair-reads.Asked, turn-pair-reads.Learnt) reads.Pre reads.Post Inv-loop μ-loop
   e = c .before .before .before
 
-  all : between (c .before .loop .pair) (c .before .loop .tallies) ≡ afterTurns (e .args .feeds) (now (e .args .bands)) (e .args .d) (e .args .from) (e .args .to - e .args .from) (between (now (e .args .pair)) (e .args .before))
+  all : between (c .before .loop .pair) (c .before .loop .tallies) ≡ afterTurns (now (e .args .bands)) (e .args .d) (e .args .from) (e .args .to - e .args .from) (between (now (e .args .pair)) (e .args .before))
   all =
       c .before .loop .inv .is
-      ∙ ap (λ (n : ℕ). afterTurns (e .args .feeds) (now (e .args .bands)) (e .args .d) (e .args .from) n (between (now (e .args .pair)) (e .args .before)))
+      ∙ ap (λ (n : ℕ). afterTurns (now (e .args .bands)) (e .args .d) (e .args .from) n (between (now (e .args .pair)) (e .args .before)))
       count
     where
       count : c .before .loop .inv .turns ≡ e .args .to - e .args .from
@@ -116,7 +108,7 @@ module _ (c : lts.After-loop (turn-pair-reads.Asked, turn-pair-reads.Learnt) rea
 same-length : tie.Need-same-length Inv-loop μ-loop
 same-length c =
     ap (λ (m : Between). length (m .pair)) (all c)
-    ∙ length-after (e c .args .feeds) (now (e c .args .bands)) (e c .args .d) (e c .args .from) (between (now (e c .args .pair)) (e c .args .before)) (e c .args .to - e c .args .from)
+    ∙ length-after (now (e c .args .bands)) (e c .args .d) (e c .args .from) (between (now (e c .args .pair)) (e c .args .before)) (e c .args .to - e c .args .from)
 
 returns : tie.Need-returns Inv-loop μ-loop
 returns c = all c
