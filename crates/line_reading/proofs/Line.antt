@@ -17,8 +17,8 @@ use Rattle.refusals.specs.declared.Verdict.the-variants.{Accepted, LineMark}
 use Rattle.refusals.proofs.Laws.{first-accepted, first-refused}
 use Rattle.fields.specs.Fields.{fieldSize}
 use Rattle.forms.specs.Line.{lineFeed, lineSize, fieldsVerdict, fieldNumbers, letterVerdict, endVerdict, lineVerdict, lineForm}
-use Rattle.forms.proofs.Line.{letter-room, field-numbers-length}
-use Rattle.line_reading.specs.Gives.{FieldsGive, LineGives}
+use Rattle.forms.proofs.Line.{letter-room}
+use Rattle.line_reading.specs.Gives.{ReadGives, FormGives}
 use Rattle.line_reading.proofs.Field.{refusal}
 
 -- ---- the letter and the line end
@@ -67,9 +67,9 @@ pub room-from : (letter n : ℕ) (bytes : List ℕ) (at : ℕ) → at ≤ length
 room-from letter n bytes at h e f =
     omega (arith, length-drop at bytes, letter-room letter n (drop at bytes) (ap isAccepted (sym e) ∙ f))
 
--- ---- what is read of a line of so many fields
+-- ---- what is read of a line of so many fields, and what is stored of its numbers
 
-module _ (letter : ℕ) (ranges : List (ℤ → Bool)) (joint : List ℤ → Verdict) (n : ℕ) (long : length ranges ≡ n) (bytes : List ℕ) (at : ℕ) (before : List ℤ) (place : ℕ) {u : Verdict} (front : u ≡ letterVerdict letter n (drop at bytes)) where
+module _ (letter : ℕ) (ranges : List (ℤ → Bool)) (joint : List ℤ → Verdict) (of : List ℤ → List ℤ) (n : ℕ) (long : length ranges ≡ n) (bytes : List ℕ) (at : ℕ) (before : List ℤ) (place : ℕ) {u : Verdict} (front : u ≡ letterVerdict letter n (drop at bytes)) where
   abbrev numbers : List ℤ
   numbers = fieldNumbers (length ranges) (drop 1 (drop at bytes))
 
@@ -87,10 +87,10 @@ module _ (letter : ℕ) (ranges : List (ℤ → Bool)) (joint : List ℤ → Ver
       (ap (λ (k : ℕ). letterVerdict letter k (drop at bytes)) long ∙ sym front)
 
   -- the letter is refused
-  pub letter-refused : isAccepted u ≡ false → LineGives (lineForm letter ranges joint) (drop at bytes) before place u before
+  pub letter-refused : isAccepted u ≡ false → FormGives (lineForm letter ranges joint) of (drop at bytes) before place u before
   letter-refused f = refusal (sym (line-is ∙ first-refused u (firstOf fields (firstOf (joint numbers) end)) f)) refl f
 
-  module _ (e : isAccepted u ≡ true) {v : Verdict} {m : List ℤ} (s : FieldsGive ranges (drop (at + 1) bytes) before place v m) where
+  module _ (e : isAccepted u ≡ true) {v : Verdict} {m : List ℤ} (s : ReadGives (fieldsVerdict ranges (drop (at + 1) bytes)) (of (fieldNumbers (length ranges) (drop (at + 1) bytes))) before place v m) where
     -- the bytes behind the letter
     past : drop (at + 1) bytes ≡ drop 1 (drop at bytes)
     past = sym (drop-drop 1 at bytes)
@@ -102,22 +102,20 @@ module _ (letter : ℕ) (ranges : List (ℤ → Bool)) (joint : List ℤ → Ver
         ∙ ap (λ (w : Verdict). firstOf w (firstOf (joint numbers) end)) (ap (fieldsVerdict ranges) (sym past) ∙ sym (s .verdict-is))
 
     -- one of the fields is refused
-    pub fields-refused : isAccepted v ≡ false → LineGives (lineForm letter ranges joint) (drop at bytes) before place v m
+    pub fields-refused : isAccepted v ≡ false → FormGives (lineForm letter ranges joint) of (drop at bytes) before place v m
     fields-refused f = refusal (sym (fields-is ∙ first-refused v (firstOf (joint numbers) end) f)) (s .size-is) f
 
     module _ (q : isAccepted v ≡ true) where
       -- the fields are accepted: the numbers are stored
-      stored : m ≡ sets before place numbers
-      stored = s .numbers-are q ∙ ap (λ (l : List ℕ). sets before place (fieldNumbers (length ranges) l)) past
+      stored : m ≡ sets before place (of numbers)
+      stored = s .numbers-are q ∙ ap (λ (l : List ℕ). sets before place (of (fieldNumbers (length ranges) l))) past
 
       -- and stand at the place
-      pub numbers-there : place + n ≤ length before → take n (drop place m) ≡ numbers
-      numbers-there h =
-          ap (λ (l : List ℤ). take n (drop place l)) stored
-          ∙ stored-part numbers before place n (field-numbers-length (length ranges) (drop 1 (drop at bytes)) ∙ long) h
+      pub numbers-there : (k : ℕ) → length (of numbers) ≡ k → place + k ≤ length before → take k (drop place m) ≡ of numbers
+      numbers-there k e h = ap (λ (l : List ℤ). take k (drop place l)) stored ∙ stored-part (of numbers) before place k e h
 
       -- what stands behind them is left
-      pub line-ended : {x : Verdict} → x ≡ firstOf (joint numbers) (endVerdict n (drop at bytes)) → LineGives (lineForm letter ranges joint) (drop at bytes) before place x m
+      pub line-ended : {x : Verdict} → x ≡ firstOf (joint numbers) (endVerdict n (drop at bytes)) → FormGives (lineForm letter ranges joint) of (drop at bytes) before place x m
       line-ended h =
           record {
             verdict-is =

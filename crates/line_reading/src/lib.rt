@@ -1,6 +1,7 @@
 // Reading a line of the strip sheet into lent slots. Each routine stops at the first refusal; the slots of a refused line then hold nothing of
 // use.
 ghost use mathlib.Core.Path.{_≡_};
+ghost use mathlib.Core.Bool.{true};
 ghost use Prim.Native.Nat.{_+_, _*_, _≤_};
 ghost use lib.ListN.{length, take, drop, replicate};
 ghost use Rattle.rounding.specs.Rounding.{within};
@@ -9,8 +10,8 @@ ghost use Rattle.bands.specs.Bands.{bandSize, bandVerdict, bandAt};
 ghost use Rattle.unit.specs.Fit.{isInput};
 ghost use Rattle.fields.specs.Fields.{fieldSize, fieldAt};
 ghost use Rattle.forms.specs.Line.{lineSize, letterVerdict, endVerdict, lineForm, alone};
-ghost use Rattle.sheet.specs.Lines.{volumeLetter, volumeRanges, bandLetter, bandRanges, bandJoint, headRanges, headForm, sectionLetter, sectionRanges, rowSize};
-ghost use Rattle.line_reading.specs.Gives.{FieldGives, FieldsGive, LineGives};
+ghost use Rattle.sheet.specs.Lines.{volumeLetter, volumeRanges, bandLetter, bandRanges, bandJoint, headRanges, headForm, fifthRange, sectionRanges, sectionRow, sectionForm, rowSize};
+ghost use Rattle.line_reading.specs.Gives.{FieldGives, FieldsGive, FormGives, LineGives, FifthGives, SectionGives};
 use refusals::Verdict;
 
 // The numbers of nine digits: a number of a C line has no range by itself.
@@ -23,63 +24,78 @@ const FLAG: usize = sheet::HEAD_FIELDS - 1;
 
 const FLAG_AT: usize = fields::FIELD_SIZE * FLAG;
 
+// Where the field of the remainder stands behind the first field of an S line.
+const REMAINDER_AT: usize = fields::FIELD_SIZE * sheet::PLAIN_FIELDS;
+
 // Reads the V line from place at on: two numbers from 0 to the largest word.
 pub fn read_volume(bytes: &[u8], at: usize, slots: &mut [i32]) -> Verdict
     requires { ⌜ (at ≤ length (now bytes)) × (length (now slots) ≡ length volumeRanges) ⌝ }
     ensures { λ r. ⌜ LineGives (lineForm volumeLetter volumeRanges alone) (drop at (now (bytes .entry))) (now (slots .entry)) 0 r (now (slots .exit)) ⌝ }
 {
-    read_line(
-        bytes,
-        at,
-        sheet::VOLUME_LETTER,
-        sheet::VOLUME_FIELDS,
-        0,
-        words::WORD_MOST,
-        slots,
-        0,
-    )
-}
-
-// Reads an S line from place at on: four words.
-pub fn read_section(bytes: &[u8], at: usize, slots: &mut [i32], place: usize) -> Verdict
-    requires { ⌜ (at ≤ length (now bytes)) × (place + length sectionRanges ≤ length (now slots)) ⌝ }
-    ensures { λ r. ⌜ LineGives (lineForm sectionLetter sectionRanges alone) (drop at (now (bytes .entry))) (now (slots .entry)) place r (now (slots .exit)) ⌝ }
-{
-    read_line(
-        bytes,
-        at,
-        sheet::SECTION_LETTER,
-        sheet::SECTION_FIELDS,
-        words::WORD_LEAST,
-        words::WORD_MOST,
-        slots,
-        place,
-    )
-}
-
-// Reads a line from place at on: a letter, so many fields of one range, a line feed.
-fn read_line(
-    bytes: &[u8],
-    at: usize,
-    letter: u8,
-    count: usize,
-    low: i32,
-    high: i32,
-    slots: &mut [i32],
-    place: usize,
-) -> Verdict
-    requires { ⌜ (at ≤ length (now bytes)) × (count ≤ rowSize) × (place + count ≤ length (now slots)) ⌝ }
-    ensures { λ r. ⌜ LineGives (lineForm letter (replicate count (within low high)) alone) (drop at (now (bytes .entry))) (now (slots .entry)) place r (now (slots .exit)) ⌝ }
-{
-    let front = check_letter(bytes, at, letter, count);
+    let front = check_letter(bytes, at, sheet::VOLUME_LETTER, sheet::VOLUME_FIELDS);
     if !refusals::accepted(front) {
         return front;
     }
-    let middle = read_fields(bytes, at + 1, count, low, high, slots, place);
+    let middle = read_fields(bytes, at + 1, sheet::VOLUME_FIELDS, 0, words::WORD_MOST, slots, 0);
+    if !refusals::accepted(middle) {
+        return middle;
+    }
+    check_end(bytes, at, sheet::VOLUME_FIELDS)
+}
+
+// Reads an S line from place at on, with the remainder or without it, into five slots.
+pub fn read_section(bytes: &[u8], at: usize, fifth: bool, slots: &mut [i32], place: usize) -> Verdict
+    requires { ⌜ (at ≤ length (now bytes)) × (place + rowSize ≤ length (now slots)) ⌝ }
+    ensures { λ r. ⌜ FormGives (sectionForm fifth) (sectionRow true) (drop at (now (bytes .entry))) (now (slots .entry)) place r (now (slots .exit)) ⌝ }
+{
+    let count = sheet::section_fields(fifth);
+    let front = check_letter(bytes, at, sheet::SECTION_LETTER, count);
+    if !refusals::accepted(front) {
+        return front;
+    }
+    let middle = read_section_fields(bytes, at + 1, fifth, slots, place);
     if !refusals::accepted(middle) {
         return middle;
     }
     check_end(bytes, at, count)
+}
+
+// Reads the fields of an S line from place at on: four words, and the remainder.
+fn read_section_fields(
+    bytes: &[u8],
+    at: usize,
+    fifth: bool,
+    slots: &mut [i32],
+    place: usize,
+) -> Verdict
+    requires { ⌜ (at + fieldSize * length (sectionRanges fifth) ≤ length (now bytes)) × (place + rowSize ≤ length (now slots)) ⌝ }
+    ensures { λ r. ⌜ SectionGives fifth (drop at (now (bytes .entry))) (now (slots .entry)) place r (now (slots .exit)) ⌝ }
+{
+    let first = read_fields(
+        bytes,
+        at,
+        sheet::PLAIN_FIELDS,
+        words::WORD_LEAST,
+        words::WORD_MOST,
+        slots,
+        place,
+    );
+    if !refusals::accepted(first) {
+        return first;
+    }
+    read_remainder(bytes, at + REMAINDER_AT, fifth, slots, place + sheet::PLAIN_FIELDS)
+}
+
+// Reads the field of the remainder from place at on. Where the line has none, the remainder is 0.
+fn read_remainder(bytes: &[u8], at: usize, fifth: bool, slots: &mut [i32], place: usize) -> Verdict
+    requires { ⌜ (at + fieldSize * length (fifthRange fifth) ≤ length (now bytes)) × (place + 1 ≤ length (now slots)) ⌝ }
+    ensures { λ r. ⌜ FifthGives fifth (drop at (now (bytes .entry))) (now (slots .entry)) place r (now (slots .exit)) ⌝ }
+{
+    if !fifth {
+        slots[place] = 0;
+        return Verdict::Accepted;
+    }
+    read_fields(bytes, at, 1, unit::REMAINDER_LEAST, unit::REMAINDER_MOST, slots, place)
 }
 
 // Reads a C line from place at on: 8 to 10 stand behind its fields and ahead of its line end.

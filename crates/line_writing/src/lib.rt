@@ -8,7 +8,7 @@ ghost use Rattle.lists.specs.Lists.{joined};
 ghost use Rattle.unit.specs.Fit.{VolumeFit, SectionFit};
 ghost use Rattle.fields.specs.Fields.{fieldSize, field};
 ghost use Rattle.forms.specs.Line.{lineSize, lineText};
-ghost use Rattle.sheet.specs.Lines.{volumeRanges, volumeForm, bandLetter, bandRanges, bandForm, headRanges, headForm, sectionLetter, sectionRanges, sectionForm};
+ghost use Rattle.sheet.specs.Lines.{volumeRanges, volumeForm, bandLetter, bandRanges, bandForm, headRanges, headForm, sectionRanges, sectionForm};
 use bands::Band;
 use levels::Level;
 use unit::BandSection;
@@ -45,17 +45,20 @@ pub fn put_head(out: &mut [u8], at: usize, letter: u8, x1: i32, x2: i32, flag: i
     put_line(out, at, letter, &row);
 }
 
-// Writes the S line of a fit section from place at on.
-pub fn put_section(out: &mut [u8], at: usize, section: BandSection)
-    requires { ⌜ (at + lineSize (length sectionRanges) ≤ length (now out)) × SectionFit section ⌝ }
-    ensures { λ r. ⌜ now (out .exit) ≡ sets (now (out .entry)) at (sectionForm sectionLetter .text section) ⌝ }
+// Writes the S line of a fit section from place at on, with the remainder or without it, and gives the place behind the line.
+pub fn put_section(out: &mut [u8], at: usize, fifth: bool, section: BandSection) -> usize
+    requires { ⌜ (at + lineSize (length (sectionRanges fifth)) ≤ length (now out)) × SectionFit section ⌝ }
+    ensures { λ r. ⌜ (now (out .exit) ≡ sets (now (out .entry)) at (sectionForm fifth .text section)) × (r ≡ at + lineSize (length (sectionRanges fifth))) ⌝ }
 {
     let y1 = section.y1 as i32;
     let y2 = section.y2 as i32;
     let present = section.gain.present as i32;
     let target = section.gain.target as i32;
-    let row = [y1, y2, present, target];
-    put_line(out, at, sheet::SECTION_LETTER, &row);
+    let remainder = section.remainder as i32;
+    let row = [y1, y2, present, target, remainder];
+    let count = sheet::section_fields(fifth);
+    put_line(out, at, sheet::SECTION_LETTER, &row[..count]);
+    at + sheet::section_line(fifth)
 }
 
 // Writes a line from place at on: a letter, a field for each number, and a line feed.

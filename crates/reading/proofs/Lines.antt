@@ -1,6 +1,6 @@
 -- The lines of a sheet, by what they are read in: the V line and the C lines, and then the sides and the end of the bytes.
 use mathlib.Core.Path.{_≡_, sym, ap, ap₂, _∙_}
-use mathlib.Core.Bool.{true, false, cond}
+use mathlib.Core.Bool.{Bool, true, false, cond}
 use mathlib.Core.List.{List}
 use Prim.Native.Nat.{ℕ, _+_, _≤_}
 use lib.IntN.{ℤ}
@@ -12,20 +12,20 @@ use Rattle.unit.specs.declared.Channel.{Channel}
 use Rattle.unit.specs.declared.Unit.{Unit}
 use Rattle.unit.specs.Cleared.{bandsOf}
 use Rattle.sheet.specs.Lines.{volumeOfRow}
-use Rattle.sheet.specs.Sheet.{FrontLines, frontForm, sidesForm, unitOfLines, frontSize, takenVerdict, linesVerdict, carriedUnit}
+use Rattle.sheet.specs.Sheet.{FrontLines, frontForm, sidesForm, unitOfLines, frontSize, takenVerdict, linesVerdict, linesUnit}
 use Rattle.sheet.proofs.Sides.{front-sound}
 use Rattle.side_reading.specs.Side.{FormRead}
 use Rattle.reading.specs.Parts.{FrontRows, restVerdict, RestRead}
 
 -- ---- the sides and the end of the bytes
 
-module _ (letters bytes : List ℕ) (at : ℕ) {v : Verdict} {cs : List Channel} {next : ℕ} (sides : FormRead (sidesForm letters) bytes at v cs next) where
+module _ (long : Bool) (letters bytes : List ℕ) (at : ℕ) {v : Verdict} {cs : List Channel} {next : ℕ} (sides : FormRead (sidesForm long letters) bytes at v cs next) where
   -- what follows the sides
   abbrev taken : Verdict
-  taken = takenVerdict bytes (at + sidesForm letters .size (drop at bytes))
+  taken = takenVerdict bytes (at + sidesForm long letters .size (drop at bytes))
 
   -- a side is refused
-  pub rest-refused : isAccepted v ≡ false → RestRead letters bytes at v cs
+  pub rest-refused : isAccepted v ≡ false → RestRead long letters bytes at v cs
   rest-refused f =
       record {
         verdict-is = sym (ap (λ (u : Verdict). firstOf u taken) (sym (sides .verdict-is)) ∙ first-refused v taken f);
@@ -33,13 +33,13 @@ module _ (letters bytes : List ℕ) (at : ℕ) {v : Verdict} {cs : List Channel}
       }
 
   -- all are accepted
-  pub rest-read : {w : Verdict} → isAccepted v ≡ true → w ≡ takenVerdict bytes next → RestRead letters bytes at w cs
+  pub rest-read : {w : Verdict} → isAccepted v ≡ true → w ≡ takenVerdict bytes next → RestRead long letters bytes at w cs
   rest-read e end =
       record {
         verdict-is =
             end
             ∙ ap (takenVerdict bytes) (sides .next-is e)
-            ∙ sym (first-accepted (sidesForm letters .verdict (drop at bytes)) taken (ap isAccepted (sym (sides .verdict-is)) ∙ e));
+            ∙ sym (first-accepted (sidesForm long letters .verdict (drop at bytes)) taken (ap isAccepted (sym (sides .verdict-is)) ∙ e));
         value-is = λ q. sides .value-is e;
       }
 
@@ -49,23 +49,23 @@ module _ (letters bytes : List ℕ) (at : ℕ) {v : Verdict} {cs : List Channel}
 pub front-room : (bytes : List ℕ) → isAccepted (frontForm .verdict bytes) ≡ true → frontSize ≤ length bytes
 front-room bytes e = front-sound .told bytes e .room
 
-module _ (letters bytes : List ℕ) where
+module _ (long : Bool) (letters bytes : List ℕ) where
   -- the verdict by the two parts
-  lines-apart : linesVerdict letters bytes ≡ firstOf (frontForm .verdict bytes) (restVerdict letters bytes frontSize)
+  lines-apart : linesVerdict long letters bytes ≡ firstOf (frontForm .verdict bytes) (restVerdict long letters bytes frontSize)
   unfolding linesVerdict
   lines-apart =
-      first-assoc (frontForm .verdict bytes) (sidesForm letters .verdict (drop frontSize bytes)) (takenVerdict bytes (frontSize + sidesForm letters .size (drop frontSize bytes)))
+      first-assoc (frontForm .verdict bytes) (sidesForm long letters .verdict (drop frontSize bytes)) (takenVerdict bytes (frontSize + sidesForm long letters .size (drop frontSize bytes)))
 
   module _ (given : Unit) where
     -- the lines read: the verdict, and the unit that belongs to it
     abbrev pub LinesAnswer : Verdict → Unit → Type 0
     LinesAnswer v u =
-        (v ≡ linesVerdict letters bytes) × (u ≡ cond (isAccepted (linesVerdict letters bytes)) (carriedUnit letters bytes) given)
+        (v ≡ linesVerdict long letters bytes) × (u ≡ cond (isAccepted (linesVerdict long letters bytes)) (linesUnit long letters bytes) given)
 
     -- refused
-    answer-refused : {v : Verdict} → v ≡ linesVerdict letters bytes → isAccepted v ≡ false → LinesAnswer v given
+    answer-refused : {v : Verdict} → v ≡ linesVerdict long letters bytes → isAccepted v ≡ false → LinesAnswer v given
     answer-refused e f =
-        (e, failed (isAccepted (linesVerdict letters bytes)) (carriedUnit letters bytes) given (ap isAccepted (sym e) ∙ f))
+        (e, failed (isAccepted (linesVerdict long letters bytes)) (linesUnit long letters bytes) given (ap isAccepted (sym e) ∙ f))
 
     module _ {v : Verdict} {volume set : List ℤ} (front : FrontRows bytes v volume set) where
       -- a V or C line is refused
@@ -73,16 +73,16 @@ module _ (letters bytes : List ℕ) where
       front-refused f =
           answer-refused
           (sym (lines-apart
-          ∙ ap (λ (u : Verdict). firstOf u (restVerdict letters bytes frontSize)) (sym (front .verdict-is))
-          ∙ first-refused v (restVerdict letters bytes frontSize) f))
+          ∙ ap (λ (u : Verdict). firstOf u (restVerdict long letters bytes frontSize)) (sym (front .verdict-is))
+          ∙ first-refused v (restVerdict long letters bytes frontSize) f))
           f
 
       -- they are accepted, and what stands behind is read
-      module _ (e : isAccepted v ≡ true) {w : Verdict} {cs : List Channel} (rest : RestRead letters bytes frontSize w cs) where
-        verdict-is : w ≡ linesVerdict letters bytes
+      module _ (e : isAccepted v ≡ true) {w : Verdict} {cs : List Channel} (rest : RestRead long letters bytes frontSize w cs) where
+        verdict-is : w ≡ linesVerdict long letters bytes
         verdict-is =
             rest .verdict-is
-            ∙ sym (first-accepted (frontForm .verdict bytes) (restVerdict letters bytes frontSize) (ap isAccepted (sym (front .verdict-is)) ∙ e))
+            ∙ sym (first-accepted (frontForm .verdict bytes) (restVerdict long letters bytes frontSize) (ap isAccepted (sym (front .verdict-is)) ∙ e))
             ∙ sym lines-apart
 
         -- and refused
@@ -91,10 +91,10 @@ module _ (letters bytes : List ℕ) where
 
         -- and accepted
         pub lines-accepted : {u : Unit} → isAccepted w ≡ true → u ≡ unitOfLines ((volumeOfRow volume, bandsOf set), cs) → LinesAnswer w u
-        unfolding carriedUnit
+        unfolding linesUnit
         lines-accepted a made = (
           verdict-is,
           made
               ∙ ap₂ (λ (p : FrontLines) (l : List Channel). unitOfLines (p, l)) (front .value-is e) (rest .value-is a)
-              ∙ passed (isAccepted (linesVerdict letters bytes)) (carriedUnit letters bytes) given (ap isAccepted (sym verdict-is) ∙ a),
+              ∙ passed (isAccepted (linesVerdict long letters bytes)) (linesUnit long letters bytes) given (ap isAccepted (sym verdict-is) ∙ a),
         )

@@ -1,6 +1,6 @@
 -- The sides, read by a loop from a running place: what is left from the ith on.
 use mathlib.Core.Path.{_≡_, sym, ap, _∙_, subst}
-use mathlib.Core.Bool.{true, false}
+use mathlib.Core.Bool.{Bool, true, false}
 use mathlib.Core.List.{List, [], _∷_, _++_}
 use Prim.Native.Nat.{ℕ, _+_, _≤_, _<_}
 use native.Mathlib.Numerals.{add-one}
@@ -17,18 +17,18 @@ use Rattle.sheet.specs.Sheet.{sideForm, sidesForm}
 use Rattle.side_reading.specs.Side.{FormRead}
 
 -- i sides are read and accepted, and stand at the front of the channels
-pub record SidesTurned (letters bytes : List ℕ) (at : ℕ) (channels : List Channel) (next i : ℕ) : Type 0 where
+pub record SidesTurned (long : Bool) (letters bytes : List ℕ) (at : ℕ) (channels : List Channel) (next i : ℕ) : Type 0 where
   pub size : length channels ≡ length letters
-  pub turned : TurnsRead sideForm letters bytes at (take i channels) next i
+  pub turned : TurnsRead (sideForm long) letters bytes at (take i channels) next i
 
-module _ (letters bytes : List ℕ) (at : ℕ) where
+module _ (long : Bool) (letters bytes : List ℕ) (at : ℕ) where
   -- none is read
-  pub sides-begin : {channels : List Channel} → length channels ≡ length letters → at ≤ length bytes → SidesTurned letters bytes at channels at 0
+  pub sides-begin : {channels : List Channel} → length channels ≡ length letters → at ≤ length bytes → SidesTurned long letters bytes at channels at 0
   sides-begin e h = record { size = e; turned = turns-begin h }
 
-  module _ {channels : List Channel} {next i : ℕ} (sides : SidesTurned letters bytes at channels next i) where
+  module _ {channels : List Channel} {next i : ℕ} (sides : SidesTurned long letters bytes at channels next i) where
     -- all are read
-    pub sides-done : length letters ≤ i → FormRead (sidesForm letters) bytes at Accepted channels next
+    pub sides-done : length letters ≤ i → FormRead (sidesForm long letters) bytes at Accepted channels next
     sides-done h =
         record {
           verdict-is = done .verdict-is;
@@ -37,13 +37,13 @@ module _ (letters bytes : List ℕ) (at : ℕ) where
           inside = λ e. sides .turned .inside;
         }
       where
-        done : TurnsDone sideForm letters bytes at (take i channels) next
+        done : TurnsDone (sideForm long) letters bytes at (take i channels) next
         done = turns-done (sides .turned) h
 
     -- the ith is read
-    module _ {letter : ℕ} {v : Verdict} {c : Channel} {n : ℕ} (h : i < length letters) (key : letter ≡ getD letters i 0) (found : FormRead (sideForm letter) bytes next v c n) where
+    module _ {letter : ℕ} {v : Verdict} {c : Channel} {n : ℕ} (h : i < length letters) (key : letter ≡ getD letters i 0) (found : FormRead (sideForm long letter) bytes next v c n) where
       -- and refused
-      pub sides-refused : {cs : List Channel} {m : ℕ} → isAccepted v ≡ false → FormRead (sidesForm letters) bytes at v cs m
+      pub sides-refused : {cs : List Channel} {m : ℕ} → isAccepted v ≡ false → FormRead (sidesForm long letters) bytes at v cs m
       sides-refused f =
           record {
             verdict-is = turns-refused (sides .turned) 0 h key (found .verdict-is) f;
@@ -53,12 +53,12 @@ module _ (letters bytes : List ℕ) (at : ℕ) where
           }
 
       -- and accepted
-      pub sides-next : isAccepted v ≡ true → SidesTurned letters bytes at (set channels i c) n (i + 1)
+      pub sides-next : isAccepted v ≡ true → SidesTurned long letters bytes at (set channels i c) n (i + 1)
       sides-next e =
           record {
             size = length-set channels i c ∙ sides .size;
             turned =
-                subst (λ (l : List Channel). TurnsRead sideForm letters bytes at l n (i + 1)) (sym taken)
+                subst (λ (l : List Channel). TurnsRead (sideForm long) letters bytes at l n (i + 1)) (sym taken)
                 (turns-next (sides .turned) 0 h key (found .verdict-is) e (found .value-is e) (found .next-is e) (found .inside e));
           }
         where

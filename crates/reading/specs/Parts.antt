@@ -1,6 +1,6 @@
 -- The parts that a sheet is read in: the V line and the C lines into lent slots, and what stands behind them. Definitions only.
 use mathlib.Core.Path.{_≡_}
-use mathlib.Core.Bool.{true}
+use mathlib.Core.Bool.{Bool, true}
 use mathlib.Core.List.{List}
 use Prim.Native.Nat.{ℕ, _+_}
 use lib.IntN.{ℤ}
@@ -21,10 +21,11 @@ pub record FrontRows (bytes : List ℕ) (verdict : Verdict) (volume set : List �
   pub value-is : isAccepted verdict ≡ true → (volumeOfRow volume, bandsOf set) ≡ frontForm .value bytes
 
 -- the first refusal of the sides from a place on, or 12 for bytes that are left over behind them
-abbrev pub restVerdict : List ℕ → List ℕ → ℕ → Verdict
-restVerdict letters bytes at = firstOf (sidesForm letters .verdict (drop at bytes)) (takenVerdict bytes (at + sidesForm letters .size (drop at bytes)))
+abbrev pub restVerdict : Bool → List ℕ → List ℕ → ℕ → Verdict
+restVerdict long letters bytes at =
+    firstOf (sidesForm long letters .verdict (drop at bytes)) (takenVerdict bytes (at + sidesForm long letters .size (drop at bytes)))
 
 -- the sides and the end of the bytes: the verdict, and where it is accepted the channels
-pub record RestRead (letters bytes : List ℕ) (at : ℕ) (verdict : Verdict) (channels : List Channel) : Type 0 where
-  pub verdict-is : verdict ≡ restVerdict letters bytes at
-  pub value-is : isAccepted verdict ≡ true → channels ≡ sidesForm letters .value (drop at bytes)
+pub record RestRead (long : Bool) (letters bytes : List ℕ) (at : ℕ) (verdict : Verdict) (channels : List Channel) : Type 0 where
+  pub verdict-is : verdict ≡ restVerdict long letters bytes at
+  pub value-is : isAccepted verdict ≡ true → channels ≡ sidesForm long letters .value (drop at bytes)

@@ -10,7 +10,7 @@ ghost use Rattle.bands.specs.Bands.{setSize};
 ghost use Rattle.unit.specs.Sizes.{channelCount};
 ghost use Rattle.unit.specs.Cleared.{bandsOf};
 ghost use Rattle.sheet.specs.Lines.{volumeRanges, volumeOfRow, bandRow};
-ghost use Rattle.sheet.specs.Sheet.{sideLetters, bandsForm, unitOfLines, sidesForm, takenVerdict, linesVerdict, carriedUnit};
+ghost use Rattle.sheet.specs.Sheet.{sideLetters, bandsForm, unitOfLines, sidesForm, takenVerdict, linesVerdict, linesUnit};
 ghost use Rattle.line_reading.specs.Gives.{FormGives};
 ghost use Rattle.side_reading.specs.Side.{FormRead};
 ghost use Rattle.reading.specs.Reading.{sheetRead};
@@ -37,18 +37,19 @@ pub struct SidesRead {
 pub fn read(bytes: &[u8], given: Unit) -> SheetRead
     ensures { λ r. ⌜ r ≡ sheetRead sideLetters (now (bytes .entry)) given ⌝ }
 {
-    if bytes.len() != sheet::SHEET_SIZE {
+    let long = bytes.len() == sheet::SHEET_SIZE;
+    if !(long | (bytes.len() == sheet::SHORT_SIZE)) {
         return SheetRead {
             verdict: Verdict::SheetLength,
             unit: given,
         };
     }
-    read_lines(bytes, given)
+    read_lines(bytes, long, given)
 }
 
-// Reads all lines: the V line and the C lines, then the sides, and no byte more.
-fn read_lines(bytes: &[u8], given: Unit) -> SheetRead
-    ensures { λ r. ⌜ (r .verdict ≡ linesVerdict sideLetters (now (bytes .entry))) × (r .unit ≡ cond (isAccepted (linesVerdict sideLetters (now (bytes .entry)))) (carriedUnit sideLetters (now (bytes .entry))) given) ⌝ }
+// Reads all lines of the longer sheet or of the short one: the V line and the C lines, then the sides, and no byte more.
+fn read_lines(bytes: &[u8], long: bool, given: Unit) -> SheetRead
+    ensures { λ r. ⌜ (r .verdict ≡ linesVerdict long sideLetters (now (bytes .entry))) × (r .unit ≡ cond (isAccepted (linesVerdict long sideLetters (now (bytes .entry)))) (linesUnit long sideLetters (now (bytes .entry))) given) ⌝ }
 {
     let mut volume = [0i32; sheet::VOLUME_FIELDS];
     let mut set = [0i32; bands::SET_SIZE];
@@ -59,7 +60,7 @@ fn read_lines(bytes: &[u8], given: Unit) -> SheetRead
             unit: given,
         };
     }
-    let rest = read_rest(bytes, sheet::SIDES_AT);
+    let rest = read_rest(bytes, sheet::SIDES_AT, long);
     let back = rest.verdict;
     if !refusals::accepted(back) {
         return SheetRead {
@@ -120,12 +121,12 @@ fn read_bands(bytes: &[u8], at: usize, set: &mut [i32]) -> Verdict
 }
 
 // Reads the sides from place at on, left and right, and no byte more.
-fn read_rest(bytes: &[u8], at: usize) -> SidesRead
+fn read_rest(bytes: &[u8], at: usize, long: bool) -> SidesRead
     requires { ⌜ at ≤ length (now bytes) ⌝ }
-    ensures { λ r. ⌜ RestRead sideLetters (now (bytes .entry)) at (r .verdict) (r .channels) ⌝ }
+    ensures { λ r. ⌜ RestRead long sideLetters (now (bytes .entry)) at (r .verdict) (r .channels) ⌝ }
 {
     let letters = [sheet::LEFT_LETTER, sheet::RIGHT_LETTER];
-    let sides = read_sides(bytes, at, &letters);
+    let sides = read_sides(bytes, at, long, &letters);
     let first = sides.verdict;
     if !refusals::accepted(first) {
         return sides;
@@ -151,16 +152,16 @@ fn check_taken(bytes: &[u8], next: usize) -> Verdict
 }
 
 // Reads a side for each letter from place at on, each from the place behind the one ahead of it.
-fn read_sides(bytes: &[u8], at: usize, letters: &[u8]) -> SidesRead
+fn read_sides(bytes: &[u8], at: usize, long: bool, letters: &[u8]) -> SidesRead
     requires { ⌜ (at ≤ length (now bytes)) × (length (now letters) ≡ channelCount) ⌝ }
-    ensures { λ r. ⌜ FormRead (sidesForm (now (letters .entry))) (now (bytes .entry)) at (r .verdict) (r .channels) (r .next) ⌝ }
+    ensures { λ r. ⌜ FormRead (sidesForm long (now (letters .entry))) (now (bytes .entry)) at (r .verdict) (r .channels) (r .next) ⌝ }
 {
     let empty = unit::cleared_channel();
     let mut channels = [empty; unit::CHANNEL_COUNT];
     let mut next = at;
     let mut i = 0;
     while i < unit::CHANNEL_COUNT {
-        let found = side_reading::read_side(bytes, next, letters[i]);
+        let found = side_reading::read_side(bytes, next, long, letters[i]);
         let verdict = found.verdict;
         if !refusals::accepted(verdict) {
             return SidesRead {

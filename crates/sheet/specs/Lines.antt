@@ -1,6 +1,6 @@
--- The lines of the strip sheet, each as a form: "V (volume, target)", "C (A, B, G)", "L (x1, x2, flag)", "R as L" and "S (y1, y2, gain, target)".
--- Definitions only, by docs/SPECIFICATION.md, The strip sheet.
-use mathlib.Core.Bool.{Bool, true}
+-- The lines of the strip sheet, each as a form: "V (volume, target)", "C (A, B, G)", "L (x1, x2, flag)", "R as L" and "S (y1, y2, gain, target)",
+-- "a fifth field at the end, the remainder". Definitions only, by docs/SPECIFICATION.md, The strip sheet.
+use mathlib.Core.Bool.{Bool, true, cond}
 use mathlib.Core.List.{List, [], _∷_}
 use Prim.Native.Nat.{ℕ}
 use lib.IntN.{ℤ, pos}
@@ -12,7 +12,7 @@ use Rattle.bands.specs.declared.Band.{Band}
 use Rattle.levels.specs.declared.Level.{Level}
 use Rattle.unit.specs.declared.BandSection.{BandSection}
 use Rattle.unit.specs.declared.Channel.{Channel}
-use Rattle.unit.specs.Fit.{isVolume, isInput, isFlag}
+use Rattle.unit.specs.Fit.{isVolume, isInput, isFlag, isRemainder}
 use Rattle.forms.specs.Form.{Form, seenAs}
 use Rattle.forms.specs.Line.{lineForm, alone}
 
@@ -72,23 +72,28 @@ headRow c = c .x1 ∷ c .x2 ∷ c .flag ∷ []
 abbrev pub headForm : ℕ → Form (List ℤ)
 headForm letter = lineForm letter headRanges alone
 
--- ---- "S (y1, y2, gain, target)"
+-- ---- "S (y1, y2, gain, target)", and where the line has "a fifth field at the end, the remainder"
 
 abbrev pub sectionLetter : ℕ
 sectionLetter = 83
 
-abbrev pub sectionRanges : List (ℤ → Bool)
-sectionRanges = isWord ∷ isWord ∷ isWord ∷ isWord ∷ []
+abbrev pub fifthRange : Bool → List (ℤ → Bool)
+fifthRange fifth = cond fifth (isRemainder ∷ []) []
 
-abbrev pub sectionRow : BandSection → List ℤ
-sectionRow s = s .y1 ∷ s .y2 ∷ s .gain .present ∷ s .gain .target ∷ []
+abbrev pub sectionRanges : Bool → List (ℤ → Bool)
+sectionRanges fifth = isWord ∷ isWord ∷ isWord ∷ isWord ∷ fifthRange fifth
 
+abbrev pub sectionRow : Bool → BandSection → List ℤ
+sectionRow fifth s = s .y1 ∷ s .y2 ∷ s .gain .present ∷ s .gain .target ∷ cond fifth (s .remainder ∷ []) []
+
+-- a row of four numbers has the remainder 0
 abbrev pub sectionOfRow : List ℤ → BandSection
-sectionOfRow row = record { y1 = rowAt row 0; y2 = rowAt row 1; gain = record { present = rowAt row 2; target = rowAt row 3 } }
+sectionOfRow row =
+    record { y1 = rowAt row 0; y2 = rowAt row 1; gain = record { present = rowAt row 2; target = rowAt row 3 }; remainder = rowAt row 4 }
 
-abbrev pub sectionForm : ℕ → Form BandSection
-sectionForm letter = seenAs sectionOfRow sectionRow (lineForm letter sectionRanges alone)
+abbrev pub sectionForm : Bool → Form BandSection
+sectionForm fifth = seenAs sectionOfRow (sectionRow fifth) (lineForm sectionLetter (sectionRanges fifth) alone)
 
 -- no line has more fields
 abbrev pub rowSize : ℕ
-rowSize = length sectionRanges
+rowSize = length (sectionRanges true)

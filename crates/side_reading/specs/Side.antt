@@ -1,6 +1,6 @@
 -- What reading a form gives by value, and what reading the lines of a side leaves in lent slots. Definitions only.
 use mathlib.Core.Path.{_≡_}
-use mathlib.Core.Bool.{true}
+use mathlib.Core.Bool.{Bool, true}
 use mathlib.Core.List.{List}
 use Prim.Native.Nat.{ℕ, _+_, _*_, _≤_}
 use lib.IntN.{ℤ}
@@ -11,7 +11,7 @@ use Rattle.refusals.specs.declared.Verdict.{Verdict}
 use Rattle.bands.specs.Bands.{bandCount}
 use Rattle.unit.specs.declared.BandSection.{BandSection}
 use Rattle.forms.specs.Form.{Form}
-use Rattle.sheet.specs.Lines.{headRanges, headForm, sectionRanges, sectionRow, sectionOfRow}
+use Rattle.sheet.specs.Lines.{headRanges, headForm, sectionRow, sectionOfRow, rowSize}
 use Rattle.sheet.specs.Sheet.{sectionsForm, sideForm}
 
 -- a form read from a place on: the verdict, and where it is accepted the value and the place behind
@@ -21,20 +21,20 @@ pub record FormRead {A : Type 0} (form : Form A) (bytes : List ℕ) (at : ℕ) (
   pub next-is : isAccepted verdict ≡ true → next ≡ at + form .size (drop at bytes)
   pub inside : isAccepted verdict ≡ true → next ≤ length bytes
 
--- the numbers of ten S lines, in a row: how many, section b of them, and all sections
+-- the numbers of ten S lines, five of each in a row: how many, section b of them, and all sections
 abbrev pub rowsSize : ℕ
-rowsSize = length sectionRanges * bandCount
+rowsSize = rowSize * bandCount
 
 abbrev pub sectionInRows : List ℤ → ℕ → BandSection
-sectionInRows rows b = sectionOfRow (drop (length sectionRanges * b) rows)
+sectionInRows rows b = sectionOfRow (drop (rowSize * b) rows)
 
 abbrev pub sectionsInRows : List ℤ → List BandSection
 sectionsInRows rows = tabulate bandCount (sectionInRows rows)
 
--- the lines of a side read into slots: the verdict, and where it is accepted the numbers of the head and those of the S lines
-pub record SideRows (letter : ℕ) (bytes : List ℕ) (verdict : Verdict) (head rows : List ℤ) : Type 0 where
-  pub verdict-is : verdict ≡ sideForm letter .verdict bytes
+-- the lines of a side read into slots: the verdict, and where it is accepted the numbers of the head and those of the sections
+pub record SideRows (long : Bool) (letter : ℕ) (bytes : List ℕ) (verdict : Verdict) (head rows : List ℤ) : Type 0 where
+  pub verdict-is : verdict ≡ sideForm long letter .verdict bytes
   pub head-size : length head ≡ length headRanges
   pub rows-size : length rows ≡ rowsSize
   pub head-is : isAccepted verdict ≡ true → head ≡ headForm letter .value bytes
-  pub rows-are : isAccepted verdict ≡ true → rows ≡ joined sectionRow (sectionsForm .value (drop (headForm letter .size bytes) bytes))
+  pub rows-are : isAccepted verdict ≡ true → rows ≡ joined (sectionRow true) (sectionsForm long .value (drop (headForm letter .size bytes) bytes))

@@ -1,6 +1,7 @@
 // Reading a side of the strip sheet from a running place: the head and ten S lines, into slots of their own, and the channel that they carry.
 // A routine stops at the first refusal; what it gives besides the verdict is then of no use.
 ghost use mathlib.Core.Path.{_≡_};
+ghost use mathlib.Core.Bool.{true};
 ghost use Prim.Native.Nat.{_+_, _*_, _≤_, _<_};
 ghost use lib.ListN.{length, drop};
 ghost use Rattle.lists.specs.Lists.{joined};
@@ -17,7 +18,7 @@ use unit::Channel;
 // The number of a head that is the flag.
 const FLAG: usize = sheet::HEAD_FIELDS - 1;
 
-// How many numbers the ten S lines of a side have.
+// How many slots the ten S lines of a side have: five for each, with the remainder or without it.
 const SECTION_SLOTS: usize = sheet::SECTION_FIELDS * bands::BAND_COUNT;
 
 // What reading a side gives: the verdict, and where it is accepted the place behind the side, and its channel.
@@ -27,46 +28,56 @@ pub struct SideRead {
     pub channel: Channel,
 }
 
-// Reads the side with this letter from place at on.
-pub fn read_side(bytes: &[u8], at: usize, letter: u8) -> SideRead
+// Reads the side with this letter from place at on, of the longer sheet or of the short one.
+pub fn read_side(bytes: &[u8], at: usize, long: bool, letter: u8) -> SideRead
     requires { ⌜ at ≤ length (now bytes) ⌝ }
-    ensures { λ r. ⌜ FormRead (sideForm letter) (now (bytes .entry)) at (r .verdict) (r .channel) (r .next) ⌝ }
+    ensures { λ r. ⌜ FormRead (sideForm long letter) (now (bytes .entry)) at (r .verdict) (r .channel) (r .next) ⌝ }
 {
     let mut head = [0i32; sheet::HEAD_FIELDS];
     let mut rows = [0i32; SECTION_SLOTS];
-    let verdict = read_lines(bytes, at, letter, &mut head, &mut rows);
+    let verdict = read_lines(bytes, at, long, letter, &mut head, &mut rows);
     let channel = channel_of(&head, &rows);
+    let next = at + sheet::side_lines(long);
     SideRead {
         verdict,
-        next: at + sheet::SIDE_LINES,
+        next,
         channel,
     }
 }
 
 // Reads the head with this letter, and ten S lines, from place at on.
-fn read_lines(bytes: &[u8], at: usize, letter: u8, head: &mut [i32], rows: &mut [i32]) -> Verdict
+fn read_lines(
+    bytes: &[u8],
+    at: usize,
+    long: bool,
+    letter: u8,
+    head: &mut [i32],
+    rows: &mut [i32],
+) -> Verdict
     requires { ⌜ (at ≤ length (now bytes)) × (length (now head) ≡ length headRanges) × (length (now rows) ≡ rowsSize) ⌝ }
-    ensures { λ r. ⌜ SideRows letter (drop at (now (bytes .entry))) r (now (head .exit)) (now (rows .exit)) ⌝ }
+    ensures { λ r. ⌜ SideRows long letter (drop at (now (bytes .entry))) r (now (head .exit)) (now (rows .exit)) ⌝ }
 {
     let first = line_reading::read_head(bytes, at, letter, head);
     if !refusals::accepted(first) {
         return first;
     }
-    read_sections(bytes, at + sheet::HEAD_LINE, rows)
+    read_sections(bytes, at + sheet::HEAD_LINE, long, rows)
 }
 
-// Reads ten S lines from place at on.
-fn read_sections(bytes: &[u8], at: usize, rows: &mut [i32]) -> Verdict
+// Reads ten S lines from place at on: in the longer sheet those of the bands that feed back have the remainder.
+fn read_sections(bytes: &[u8], at: usize, long: bool, rows: &mut [i32]) -> Verdict
     requires { ⌜ (at ≤ length (now bytes)) × (length (now rows) ≡ rowsSize) ⌝ }
-    ensures { λ r. ⌜ FormGives sectionsForm (joined sectionRow) (drop at (now (bytes .entry))) (now (rows .entry)) 0 r (now (rows .exit)) ⌝ }
+    ensures { λ r. ⌜ FormGives (sectionsForm long) (joined (sectionRow true)) (drop at (now (bytes .entry))) (now (rows .entry)) 0 r (now (rows .exit)) ⌝ }
 {
+    let mut next = at;
     let mut i = 0;
     while i < bands::BAND_COUNT {
-        let place = at + sheet::SECTION_LINE * i;
-        let found = line_reading::read_section(bytes, place, rows, sheet::SECTION_FIELDS * i);
+        let fifth = (i < unit::FEEDBACK_COUNT) & long;
+        let found = line_reading::read_section(bytes, next, fifth, rows, sheet::SECTION_FIELDS * i);
         if !refusals::accepted(found) {
             return found;
         }
+        next += sheet::section_line(fifth);
         i += 1;
     }
     Verdict::Accepted
@@ -102,6 +113,7 @@ fn sections_of(rows: &[i32]) -> [BandSection; bands::BAND_COUNT]
         y1: 0,
         y2: 0,
         gain: zero,
+        remainder: 0,
     };
     let mut sections = [empty; bands::BAND_COUNT];
     let mut b = 0;
@@ -123,8 +135,14 @@ fn section_at(rows: &[i32], b: usize) -> BandSection
     let y2 = number_at(rows, at + 1);
     let present = number_at(rows, at + 2);
     let target = number_at(rows, at + 3);
+    let remainder = number_at(rows, at + 4);
     let gain = Level { present, target };
-    BandSection { y1, y2, gain }
+    BandSection {
+        y1,
+        y2,
+        gain,
+        remainder,
+    }
 }
 
 // The number at a place of a row.

@@ -1,6 +1,7 @@
-// Writing the strip sheet: 33 lines, 1,128 bytes.
+// Writing the strip sheet: 33 lines, 1,200 bytes.
 // `fill` promises every byte of the lent buffer. `write` hands back the part that it filled, and stands on `fill`.
 ghost use mathlib.Core.Path.{_≡_};
+ghost use mathlib.Core.Bool.{true};
 ghost use Prim.Native.Nat.{_+_, _*_, _≤_};
 ghost use denote.Ref.{ptr};
 ghost use lib.ListN.{length};
@@ -10,15 +11,15 @@ ghost use Rattle.bands.specs.Bands.{bandCount};
 ghost use Rattle.unit.specs.Fit.{SectionFit, ChannelFit, Fit};
 ghost use Rattle.unit.specs.Sizes.{channelCount};
 ghost use Rattle.forms.specs.Line.{lineSize};
-ghost use Rattle.sheet.specs.Lines.{bandRanges, sectionRanges};
-ghost use Rattle.sheet.specs.Sheet.{sideLetters, bandsForm, sectionsForm, sideForm, sidesForm, sideSize, sheetSize, sheetOf};
+ghost use Rattle.sheet.specs.Lines.{bandRanges};
+ghost use Rattle.sheet.specs.Sheet.{sideLetters, bandsForm, sectionsForm, sideForm, sidesForm, sectionsSize, sideSize, sheetSize, sheetOf};
 ghost use Rattle.writing.specs.Written.{filledCount, filledPart, filled};
 use bands::Band;
 use unit::BandSection;
 use unit::Channel;
 use unit::Unit;
 
-// Writes the unit's sheet to the front of the buffer, and hands back that part: 1,128 bytes, or an empty part from a shorter buffer or for
+// Writes the unit's sheet to the front of the buffer, and hands back that part: 1,200 bytes, or an empty part from a shorter buffer or for
 // an unfit unit.
 pub fn write<'a>(unit: Unit, out: &'a mut [u8]) -> &'a mut [u8]
     ensures { λ r. ⌜ (now r ≡ filledPart sideLetters unit (length (now (out .entry)))) × (ptr r ≡ ptr (out .entry)) ⌝ }
@@ -71,8 +72,8 @@ fn put_bands(out: &mut [u8], at: usize, bands: [Band; bands::BAND_COUNT])
 
 // Writes the side of each fit channel from place at on, each behind a letter.
 fn put_sides(out: &mut [u8], at: usize, letters: &[u8], channels: [Channel; unit::CHANNEL_COUNT])
-    requires { ⌜ (at + sideSize * channelCount ≤ length (now out)) × (length (now letters) ≡ channelCount) × Each ChannelFit channels ⌝ }
-    ensures { λ r. ⌜ now (out .exit) ≡ sets (now (out .entry)) at (sidesForm (now (letters .entry)) .text channels) ⌝ }
+    requires { ⌜ (at + sideSize true * channelCount ≤ length (now out)) × (length (now letters) ≡ channelCount) × Each ChannelFit channels ⌝ }
+    ensures { λ r. ⌜ now (out .exit) ≡ sets (now (out .entry)) at (sidesForm true (now (letters .entry)) .text channels) ⌝ }
 {
     let mut next = at;
     let mut i = 0;
@@ -85,8 +86,8 @@ fn put_sides(out: &mut [u8], at: usize, letters: &[u8], channels: [Channel; unit
 
 // Writes the side of a fit channel from place at on, a head and ten S lines, and gives the place behind it.
 fn put_side(out: &mut [u8], at: usize, letter: u8, channel: Channel) -> usize
-    requires { ⌜ (at + sideSize ≤ length (now out)) × ChannelFit channel ⌝ }
-    ensures { λ r. ⌜ (now (out .exit) ≡ sets (now (out .entry)) at (sideForm letter .text channel)) × (r ≡ at + sideSize) ⌝ }
+    requires { ⌜ (at + sideSize true ≤ length (now out)) × ChannelFit channel ⌝ }
+    ensures { λ r. ⌜ (now (out .exit) ≡ sets (now (out .entry)) at (sideForm true letter .text channel)) × (r ≡ at + sideSize true) ⌝ }
 {
     let x1 = channel.x1 as i32;
     let x2 = channel.x2 as i32;
@@ -97,15 +98,16 @@ fn put_side(out: &mut [u8], at: usize, letter: u8, channel: Channel) -> usize
     at + sheet::SIDE_LINES
 }
 
-// Writes ten S lines of fit sections from place at on.
+// Writes ten S lines of fit sections from place at on, with the remainder in those of the bands that feed it back.
 fn put_sections(out: &mut [u8], at: usize, sections: [BandSection; bands::BAND_COUNT])
-    requires { ⌜ (at + lineSize (length sectionRanges) * bandCount ≤ length (now out)) × Each SectionFit sections ⌝ }
-    ensures { λ r. ⌜ now (out .exit) ≡ sets (now (out .entry)) at (sectionsForm .text sections) ⌝ }
+    requires { ⌜ (at + sectionsSize true ≤ length (now out)) × Each SectionFit sections ⌝ }
+    ensures { λ r. ⌜ now (out .exit) ≡ sets (now (out .entry)) at (sectionsForm true .text sections) ⌝ }
 {
+    let mut next = at;
     let mut i = 0;
     while i < bands::BAND_COUNT {
         let section = sections[i];
-        line_writing::put_section(out, at + sheet::SECTION_LINE * i, section);
+        next = line_writing::put_section(out, next, i < unit::FEEDBACK_COUNT, section);
         i += 1;
     }
 }

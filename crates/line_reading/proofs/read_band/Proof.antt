@@ -30,7 +30,7 @@ use Rattle.line_reading.proofs.read_fields.Reads as read-fields-reads
 returns : tie.Need-returns
 returns c =
     let s = c .before .before .before .before in
-    letter-refused bandLetter bandRanges bandJoint bandSize refl (now (s .args .bytes)) (s .args .at) (now (s .args .slots)) (s .args .place) (c .before .before .check-letter .ensures)
+    letter-refused bandLetter bandRanges bandJoint (λ l. l) bandSize refl (now (s .args .bytes)) (s .args .at) (now (s .args .slots)) (s .args .place) (c .before .before .check-letter .ensures)
     (sym (c .before .accepted .ensures) ∙ not-true _ (c .if1 .taken))
 
 -- ---- the letter accepted
@@ -68,13 +68,13 @@ module _ (c : lts.After-read-fields (check-letter-reads.Asked, check-letter-read
   -- the numbers stored are the line's
   there : isAccepted (c .read-fields .result) ≡ true → take bandSize (drop (start o .args .place) after) ≡ fieldNumbers bandSize (drop 1 (drop (start o .args .at) (bytes o)))
   there e =
-      numbers-there bandLetter bandRanges bandJoint bandSize refl (bytes o) (start o .args .at) (now (start o .args .slots)) (start o .args .place) (o .before .before .check-letter .ensures) (passed o) fields e (start o .pre .1)
+      numbers-there bandLetter bandRanges bandJoint (λ l. l) bandSize refl (bytes o) (start o .args .at) (now (start o .args .slots)) (start o .args .place) (o .before .before .check-letter .ensures) (passed o) fields e bandSize refl (start o .pre .1)
 
 returns-2 : tie.Need-returns-2
 returns-2 c =
     let f = c .before .before .before in
     let s = start (o f) in
-    fields-refused bandLetter bandRanges bandJoint bandSize refl (bytes (o f)) (s .args .at) (now (s .args .slots)) (s .args .place) (o f .before .before .check-letter .ensures) (passed (o f)) (fields f)
+    fields-refused bandLetter bandRanges bandJoint (λ l. l) bandSize refl (bytes (o f)) (s .args .at) (now (s .args .slots)) (s .args .place) (o f .before .before .check-letter .ensures) (passed (o f)) (fields f)
     (sym (c .before .accepted2 .ensures) ∙ not-true _ (c .if2 .taken))
 
 check-end-requires : tie.Need-check-end-requires
@@ -88,7 +88,7 @@ returns-3 c =
     let f = t .before .before .before in
     let s = start (o f) in
     let e = sym (t .before .accepted2 .ensures) ∙ not-false _ (t .if2 .left) in
-    line-ended bandLetter bandRanges bandJoint bandSize refl (bytes (o f)) (s .args .at) (now (s .args .slots)) (s .args .place) (o f .before .before .check-letter .ensures) (passed (o f)) (fields f) e
+    line-ended bandLetter bandRanges bandJoint (λ l. l) bandSize refl (bytes (o f)) (s .args .at) (now (s .args .slots)) (s .args .place) (o f .before .before .check-letter .ensures) (passed (o f)) (fields f) e
     (c .first-of .ensures ∙ ap₂ firstOf (b .check-band-at .ensures ∙ ap bandJoint (there f e)) (n .check-end .ensures))
 
 pub read-band-spec : {M : Type 1} → statement M

@@ -24,7 +24,7 @@ use Rattle.line_reading.proofs.read_head_fields.Reads as read-head-fiel
 returns : tie.Need-returns
 returns c =
     let s = c .before .before .before .before in
-    letter-refused (s .args .letter) headRanges alone 3 refl (now (s .args .bytes)) (s .args .at) (now (s .args .slots)) 0 (c .before .before .check-letter .ensures)
+    letter-refused (s .args .letter) headRanges alone (λ l. l) 3 refl (now (s .args .bytes)) (s .args .at) (now (s .args .slots)) 0 (c .before .before .check-letter .ensures)
     (sym (c .before .accepted .ensures) ∙ not-true _ (c .if1 .taken))
 
 -- ---- the letter accepted
@@ -51,7 +51,7 @@ returns-2 c =
     let f = c .before .before .before in
     let o = f .before .before in
     let s = start o in
-    fields-refused (s .args .letter) headRanges alone 3 refl (bytes o) (s .args .at) (now (s .args .slots)) 0 (o .before .before .check-letter .ensures) (passed o) (f .read-head-fields .ensures)
+    fields-refused (s .args .letter) headRanges alone (λ l. l) 3 refl (bytes o) (s .args .at) (now (s .args .slots)) 0 (o .before .before .check-letter .ensures) (passed o) (f .read-head-fields .ensures)
     (sym (c .before .accepted2 .ensures) ∙ not-true _ (c .if2 .taken))
 
 check-end-requires : tie.Need-check-end-requires
@@ -63,7 +63,7 @@ returns-3 c =
     let f = t .before .before .before in
     let o = f .before .before in
     let s = start o in
-    line-ended (s .args .letter) headRanges alone 3 refl (bytes o) (s .args .at) (now (s .args .slots)) 0 (o .before .before .check-letter .ensures) (passed o) (f .read-head-fields .ensures)
+    line-ended (s .args .letter) headRanges alone (λ l. l) 3 refl (bytes o) (s .args .at) (now (s .args .slots)) 0 (o .before .before .check-letter .ensures) (passed o) (f .read-head-fields .ensures)
     (sym (t .before .accepted2 .ensures) ∙ not-false _ (t .if2 .left)) (c .check-end .ensures)
 
 pub read-head-spec : {M : Type 1} → statement M

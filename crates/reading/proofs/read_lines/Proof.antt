@@ -1,6 +1,6 @@
 -- `reading::read_lines` meets its contract: the V line and the C lines, then what stands behind them, then the unit.
 use mathlib.Core.Path.{_≡_, sym, ap, _∙_}
-use mathlib.Core.Bool.{true}
+use mathlib.Core.Bool.{Bool, true}
 use mathlib.Core.List.{List}
 use Prim.Native.Nat.{ℕ}
 use denote.Ref.{now}
@@ -23,7 +23,7 @@ returns : tie.Need-returns
 returns c =
     let o = c .before .before .before .before in
     let s = o .before .before .before .before in
-    front-refused sideLetters (now (s .args .bytes)) (s .args .given) (o .read-front .ensures) (sym (c .before .accepted .ensures) ∙ not-true _ (c .if1 .taken))
+    front-refused (s .args .long) sideLetters (now (s .args .bytes)) (s .args .given) (o .read-front .ensures) (sym (c .before .accepted .ensures) ∙ not-true _ (c .if1 .taken))
 
 -- ---- past the V line and the C lines
 
@@ -36,6 +36,9 @@ module _ (c : lts.Else1 (read-front-reads.Asked, read-front-reads.Learnt, accept
 
   abbrev bytes : List ℕ
   bytes = now (start .args .bytes)
+
+  abbrev long : Bool
+  long = start .args .long
 
   abbrev given : Unit
   given = start .args .given
@@ -54,13 +57,13 @@ module _ (c : lts.Else2 (read-front-reads.Asked, read-front-reads.Learnt, accept
 returns-2 : tie.Need-returns-2
 returns-2 c =
     let f = c .before .before .before in
-    behind-refused sideLetters (bytes f) (given f) (front f .read-front .ensures) (passed f) (c .before .before .read-rest .ensures) (sym (c .before .accepted2 .ensures) ∙ not-true _ (c .if2 .taken))
+    behind-refused (long f) sideLetters (bytes f) (given f) (front f .read-front .ensures) (passed f) (c .before .before .read-rest .ensures) (sym (c .before .accepted2 .ensures) ∙ not-true _ (c .if2 .taken))
 
 returns-3 : tie.Need-returns-3
 returns-3 c =
     let g = c .before .before .before .before in
     let f = g .before .before .before in
-    lines-accepted sideLetters (bytes f) (given f) (front f .read-front .ensures) (passed f) (g .before .before .read-rest .ensures) (passed-rest g) (c .unit-of .ensures)
+    lines-accepted (long f) sideLetters (bytes f) (given f) (front f .read-front .ensures) (passed f) (g .before .before .read-rest .ensures) (passed-rest g) (c .unit-of .ensures)
 
 pub read-lines-spec : {M : Type 1} → statement M
 read-lines-spec =

@@ -12,14 +12,14 @@ returns : tie.Need-returns
 returns c =
     let o = c .before .before in
     let s = o .before .before .before in
-    rest-refused sideLetters (now (s .args .bytes)) (s .args .at) (o .read-sides .ensures) (sym (c .before .accepted .ensures) ∙ not-true _ (c .if1 .taken))
+    rest-refused (s .args .long) sideLetters (now (s .args .bytes)) (s .args .at) (o .read-sides .ensures) (sym (c .before .accepted .ensures) ∙ not-true _ (c .if1 .taken))
 
 returns-2 : tie.Need-returns-2
 returns-2 c =
     let f = c .before .before in
     let o = f .before .before in
     let s = o .before .before .before in
-    rest-read sideLetters (now (s .args .bytes)) (s .args .at) (o .read-sides .ensures) (sym (f .before .accepted .ensures) ∙ not-false _ (f .if1 .left)) (c .before .check-taken .ensures)
+    rest-read (s .args .long) sideLetters (now (s .args .bytes)) (s .args .at) (o .read-sides .ensures) (sym (f .before .accepted .ensures) ∙ not-false _ (f .if1 .left)) (c .before .check-taken .ensures)
 
 pub read-rest-spec : {M : Type 1} → statement M
 read-rest-spec =

@@ -21,7 +21,7 @@ use Rattle.side_reading.proofs.read_sections.Reads as read-sections-rea
 returns : tie.Need-returns
 returns c =
     let s = c .before .before .before .before .before .before in
-    head-refused (s .args .letter) (now (s .args .bytes)) (s .args .at) (c .before .before .before .read-head .ensures) (s .pre .1) (s .pre .2) (sym (c .before .accepted .ensures) ∙ not-true _ (c .if1 .taken))
+    head-refused (s .args .long) (s .args .letter) (now (s .args .bytes)) (s .args .at) (c .before .before .before .read-head .ensures) (s .pre .1) (s .pre .2) (sym (c .before .accepted .ensures) ∙ not-true _ (c .if1 .taken))
 
 -- ---- past the head
 
@@ -33,7 +33,7 @@ module _ (c : lts.Else1 (read-head-reads.Asked, read-head-reads.Learnt, accepted
   passed = sym (c .before .accepted .ensures) ∙ not-false _ (c .if1 .left)
 
   room : start .args .at + lineSize (length headRanges) ≤ length (now (start .args .bytes))
-  room = head-room (start .args .letter) (now (start .args .bytes)) (start .args .at) (c .before .before .before .read-head .ensures) (start .pre .1) passed (start .pre .0)
+  room = head-room (start .args .long) (start .args .letter) (now (start .args .bytes)) (start .args .at) (c .before .before .before .read-head .ensures) (start .pre .1) passed (start .pre .0)
 
 read-sections-requires : tie.Need-read-sections-requires
 read-sections-requires c κs =
@@ -44,7 +44,7 @@ returns-2 : tie.Need-returns-2
 returns-2 c =
     let f = c .before .before .before in
     let s = start f in
-    sections-read (s .args .letter) (now (s .args .bytes)) (s .args .at) (f .before .before .before .read-head .ensures) (s .pre .1) (passed f) (s .pre .2) (c .before .read-sections .ensures)
+    sections-read (s .args .long) (s .args .letter) (now (s .args .bytes)) (s .args .at) (f .before .before .before .read-head .ensures) (s .pre .1) (passed f) (s .pre .2) (c .before .read-sections .ensures)
 
 pub read-lines-spec : {M : Type 1} → statement M
 read-lines-spec =

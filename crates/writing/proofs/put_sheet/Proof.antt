@@ -1,5 +1,6 @@
 -- `writing::put_sheet` meets its contract: the V line, the ten C lines and the sides stand one behind the other.
 use mathlib.Core.Path.{_≡_}
+use mathlib.Core.Bool.{true}
 use native.Mathlib.Omega.{arith}
 use lib.ListN.{length, length-append}
 use denote.Ref.{now}
@@ -23,7 +24,7 @@ use Rattle.writing.proofs.put_sides.Reads as put-sides-reads
 returns : tie.Need-returns
 unfolding sheetOf
 returns c =
-    sets-behind (now (s .args .out)) (frontForm .text (u .volume, u .bands)) (sidesForm sideLetters .text (u .channels)) 0 frontSize (omega (arith, length-append (volumeForm .text (u .volume)) (bandsForm .text (u .bands)), volume-long, bands-length (u .bands) (unit-typed u _ (s .good .1 .0) .bands)))
+    sets-behind (now (s .args .out)) (frontForm .text (u .volume, u .bands)) (sidesForm true sideLetters .text (u .channels)) 0 frontSize (omega (arith, length-append (volumeForm .text (u .volume)) (bandsForm .text (u .bands)), volume-long, bands-length (u .bands) (unit-typed u _ (s .good .1 .0) .bands)))
     (sets-behind (now (s .args .out)) (volumeForm .text (u .volume)) (bandsForm .text (u .bands)) 0 (lineSize (length volumeRanges)) (omega (arith, volume-long)) (c .before .before .before .before .before .before .before .before .before .before .before .put-volume .ensures) (c .before .before .before .before .before .before .before .put-bands .ensures))
     (c .before .before .put-sides .ensures)
   where

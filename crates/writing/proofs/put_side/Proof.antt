@@ -1,5 +1,6 @@
 -- `writing::put_side` meets its contract: the numbers of the head lose nothing in 32 bits, and the ten S lines stand behind it.
 use mathlib.Core.Path.{refl, _∙_}
+use mathlib.Core.Bool.{true}
 use mathlib.Core.List.{[], _∷_}
 use Prim.Native.Nat.{_+_, _≤_}
 use native.Mathlib.Omega.{arith}
@@ -46,7 +47,7 @@ cast-flag c = narrow-need (c .before .before .before .before .before .before .be
 
 returns : tie.Need-returns
 returns c = (
-  sets-behind (now (s .args .out)) (headForm (s .args .letter) .text (headRow (s .args .channel))) (sectionsForm .text (s .args .channel .sections)) (s .args .at) (s .args .at + lineSize (length headRanges)) (omega (arith, text-length (s .args .letter) (headRow (s .args .channel)))) (c .before .before .before .before .before .before .put-head .ensures ∙ (λ i. sets (now (s .args .out)) (s .args .at) (headForm (s .args .letter) .text (narrow-reads (s .args .channel .x1) (x1-size s) i ∷ narrow-reads (s .args .channel .x2) (x2-size s) i ∷ narrow-reads (s .args .channel .flag) (flag-small s) i ∷ [])))) (c .before .before .put-sections .ensures),
+  sets-behind (now (s .args .out)) (headForm (s .args .letter) .text (headRow (s .args .channel))) (sectionsForm true .text (s .args .channel .sections)) (s .args .at) (s .args .at + lineSize (length headRanges)) (omega (arith, text-length (s .args .letter) (headRow (s .args .channel)))) (c .before .before .before .before .before .before .put-head .ensures ∙ (λ i. sets (now (s .args .out)) (s .args .at) (headForm (s .args .letter) .text (narrow-reads (s .args .channel .x1) (x1-size s) i ∷ narrow-reads (s .args .channel .x2) (x2-size s) i ∷ narrow-reads (s .args .channel .flag) (flag-small s) i ∷ [])))) (c .before .before .put-sections .ensures),
   refl,
 )
   where

@@ -1,5 +1,6 @@
 -- `writing::put_sides` meets its contract. The loop's invariant: laid at the place that is reached, the sides from side i on make the whole.
 use mathlib.Core.Path.{_≡_, refl}
+use mathlib.Core.Bool.{true}
 use Prim.Native.Nat.{_+_, _*_, _-_}
 use native.Mathlib.Omega.{arith}
 use lib.ListN.{getD}
@@ -21,7 +22,7 @@ use Rattle.writing.proofs.put_sides.Lts as lts
 use Rattle.writing.proofs.put_side.Reads as put-side-reads
 
 abbrev Inv-loop : tie.InvT-loop
-Inv-loop out₀ at letters channels next₀ i₀ out next i = (next ≡ at + sideSize * i) × Onward sideForm letters channels out₀ at out next i
+Inv-loop out₀ at letters channels next₀ i₀ out next i = (next ≡ at + sideSize true * i) × Onward (sideForm true) letters channels out₀ at out next i
 
 abbrev μ-loop : tie.MeasureT-loop
 μ-loop out₀ at letters channels next₀ i₀ out next i = channelCount - i
@@ -41,7 +42,7 @@ put-side-requires c κs = (
 loop-again : tie.Need-loop-again Inv-loop μ-loop
 loop-again c = (
   omega (arith, c .before .before .put-side .ensures .1, turn .loop .inv .0),
-  onward-next (turn .loop .inv .1) 0 zeroChannel (omega arith) (omega arith) refl (c .before .before .put-side .ensures .0) (omega (arith, c .before .before .put-side .ensures .1, side-length (getD (now (s .args .letters)) (turn .loop .i) 0) (getD (s .args .t4) (turn .loop .i) zeroChannel) ten)),
+  onward-next (turn .loop .inv .1) 0 zeroChannel (omega arith) (omega arith) refl (c .before .before .put-side .ensures .0) (omega (arith, c .before .before .put-side .ensures .1, side-length true (getD (now (s .args .letters)) (turn .loop .i) 0) (getD (s .args .t4) (turn .loop .i) zeroChannel) ten)),
 )
   where
     s : lts.Start (put-side-reads.Asked, put-side-reads.Learnt) reads.Pre reads.Post Inv-loop μ-loop
