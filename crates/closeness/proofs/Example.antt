@@ -16,7 +16,7 @@ use Rattle.section.specs.Equation.{exactSum, worked}
 use Rattle.levels.specs.Levels.{ramp}
 use Rattle.unit.specs.Cleared.{bandsOf}
 use Rattle.unit.specs.Frame.{sectionFrame, channelFrame, exactMix, mix, output, unitFrame}
-use Rattle.unit.specs.Fit.{isVolume, isInput, isFlag, unitFits}
+use Rattle.unit.specs.Fit.{isVolume, isInput, isFlag, isRemainder, isPlain, unitFits}
 use Rattle.loading.specs.Loading.{setVerdict}
 use Rattle.settings.specs.Settings.{isPlace, names, bandPosition, volumePosition, targetOf, levelVerdict}
 use Rattle.orders.specs.Orders.{orderVerdict, aimedUnit, ordered}
@@ -29,7 +29,7 @@ use Rattle.closeness.proofs.Holds.{demand3}
 
 -- the definitions give the figures: what the unit hands back
 pub heard-hold : (allSamples 2 0 houseSet exampleCalls ≡ leftSamples) × (allLimits 2 0 houseSet exampleCalls ≡ leftLimits) × (allLimits 2 0 (loudSet bandCount) loudCalls ≡ true ∷ [])
-unfolding houseSet ordered orderVerdict aimedUnit targetOf levelVerdict isPlace names bandPosition volumePosition factorTarget inUnits inRange unitFits isVolume isInput isFlag bandVerdict alphaAccepted betaAccepted gammaAccepted blockPlayed blockOutput blockVerdict playedOn soundOn sampleAt sampleOf bitsOf unitFrame channelFrame sectionFrame exactMix mix output exactSum worked nearest taken goesUp odd rest floor limit within ramp
+unfolding houseSet ordered orderVerdict aimedUnit targetOf levelVerdict isPlace names bandPosition volumePosition factorTarget inUnits inRange unitFits isVolume isInput isFlag isRemainder isPlain bandVerdict alphaAccepted betaAccepted gammaAccepted blockPlayed blockOutput blockVerdict playedOn soundOn sampleAt sampleOf bitsOf unitFrame channelFrame sectionFrame exactMix mix output exactSum worked nearest taken goesUp odd rest floor limit within ramp
 heard-hold = (refl, refl, refl)
 
 -- and the exact reckoning

@@ -1,6 +1,6 @@
 -- Demand 3 holds.
 use mathlib.Core.Path.{_≡_, refl, sym, ap, subst}
-use mathlib.Core.Bool.{true, false}
+use mathlib.Core.Bool.{Bool, true, false}
 use mathlib.Core.List.{List, [], _∷_}
 use Prim.Native.Nat.{ℕ, suc, _<_}
 use native.Mathlib.Nat.{zero-add}
@@ -12,6 +12,7 @@ use Rattle.refusals.specs.Numbers.{isAccepted}
 use Rattle.bands.specs.declared.Band.{Band}
 use Rattle.unit.specs.declared.Channel.{Channel}
 use Rattle.unit.specs.Cleared.{clearedLevel, clearedBandSection, clearedChannel, bandsOf}
+use Rattle.unit.specs.Frame.{feedsBack}
 use Rattle.loading.specs.Loading.{setVerdict}
 use Rattle.loading.specs.declared.Loaded.{Loaded}
 use Rattle.loading.proofs.Laws.{loaded-accepted}
@@ -26,9 +27,9 @@ use Rattle.closeness.proofs.Run.{TiedUnit, list-follows, list-flag}
 -- ---- where a list begins
 
 -- n sections that hold nothing, and as many results of the exact reckoning
-silent-near : (bands : List Band) → NearAll 0 bands (replicate (length bands) clearedBandSection) (replicate (length bands) silentResults)
-silent-near [] = tt
-silent-near (band ∷ bands) = (near-start band, silent-near bands)
+silent-near : (test : ℕ → Bool) (bands : List Band) → NearAll test 0 bands (replicate (length bands) clearedBandSection) (replicate (length bands) silentResults)
+silent-near test [] = tt
+silent-near test (band ∷ bands) = (near-start band (test 0), silent-near (λ (place : ℕ). test (suc place)) bands)
 
 module _ (channels channel : ℕ) (inside : channel < channels) (set : List ℤ) (accepted : isAccepted (setVerdict set) ≡ true) where
   -- the cleared channel, and silence
@@ -41,7 +42,7 @@ module _ (channels channel : ℕ) (inside : channel < channels) (set : List ℤ)
         x1 = refl;
         x2 = refl;
         flags = refl;
-        near = λ h. silent-near (bandsOf set);
+        near = λ h. silent-near feedsBack (bandsOf set);
       }
 
   start-kept : Kept channels (startingUnit channels set)

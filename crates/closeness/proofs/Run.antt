@@ -19,7 +19,7 @@ use Rattle.unit.specs.declared.BandSection.{BandSection}
 use Rattle.unit.specs.declared.Channel.{Channel}
 use Rattle.unit.specs.declared.Unit.{Unit}
 use Rattle.unit.specs.Cleared.{clearedChannel}
-use Rattle.unit.specs.Frame.{anyLimits, channelFrame, unitFrame}
+use Rattle.unit.specs.Frame.{feedsBack, anyLimits, channelFrame, unitFrame}
 use Rattle.unit.specs.Shaped.{TenSections, Shaped}
 use Rattle.unit.proofs.Fitness.{test-of-fit}
 use Rattle.settings.specs.declared.Setting.{Setting}
@@ -53,17 +53,17 @@ module _ (channels channel : ℕ) (inside : channel < channels) (bands : List Ba
   -- ---- an order
 
   module _ (side band : ℕ) (target : ℤ) where
-    -- it leaves all results as they are
-    aimed-near : (n : ℕ) (test : ℕ → Bool) (bs : List Band) (ss : List BandSection) (rs : List Results) → NearAll n bs ss rs → NearAll n bs (changed test (aimedSection target) ss) rs
-    aimed-near n test [] [] [] near = tt
-    aimed-near n test [] [] (r ∷ rs) near = absurd near
-    aimed-near n test [] (s ∷ ss) rs near = absurd near
-    aimed-near n test (b ∷ bs) [] rs near = absurd near
-    aimed-near n test (b ∷ bs) (s ∷ ss) [] near = absurd near
-    aimed-near n test (b ∷ bs) (s ∷ ss) (r ∷ rs) near =
-        (go (test 0), aimed-near n (λ (place : ℕ). test (suc place)) bs ss rs (near .1))
+    -- it leaves all results and remainders as they are; the test says which of the bands feed back, `named` which of them the order names
+    aimed-near : (n : ℕ) (test named : ℕ → Bool) (bs : List Band) (ss : List BandSection) (rs : List Results) → NearAll test n bs ss rs → NearAll test n bs (changed named (aimedSection target) ss) rs
+    aimed-near n test named [] [] [] near = tt
+    aimed-near n test named [] [] (r ∷ rs) near = absurd near
+    aimed-near n test named [] (s ∷ ss) rs near = absurd near
+    aimed-near n test named (b ∷ bs) [] rs near = absurd near
+    aimed-near n test named (b ∷ bs) (s ∷ ss) [] near = absurd near
+    aimed-near n test named (b ∷ bs) (s ∷ ss) (r ∷ rs) near =
+        (go (named 0), aimed-near n (λ (place : ℕ). test (suc place)) (λ (place : ℕ). named (suc place)) bs ss rs (near .1))
       where
-        go : (m : Bool) → NearResults b n (cond m (aimedSection target s) s .y1) (cond m (aimedSection target s) s .y2) r
+        go : (m : Bool) → NearResults b (test 0) n (cond m (aimedSection target s) s) r
         go true = near .0
         go false = near .0
 
@@ -93,7 +93,7 @@ module _ (channels channel : ℕ) (inside : channel < channels) (bands : List Ba
             x1 = t .tied .x1;
             x2 = t .tied .x2;
             flags = t .tied .flags;
-            near = λ h. aimed-near n (eqb band) bands (c .sections) (e .results) (t .tied .near h);
+            near = λ h. aimed-near n feedsBack (eqb band) bands (c .sections) (e .results) (t .tied .near h);
           }
       named-tied false = t .tied
 
@@ -148,7 +148,7 @@ module _ (channels channel : ℕ) (inside : channel < channels) (bands : List Ba
               subst (λ (b : Channel). Tied bands (suc (n + k)) (limitedBy k || limitsAt k) (moved volumeSlope (v .volume)) b (exactFrame bands (word k) (exactBy k)))
               (sym (fed-channel words feeds u (kept .shape .channels) channel clearedChannel inside k))
               (subst (λ (y : ℤ). Tied bands (suc (n + k)) (limitedBy k || limitsAt k) (moved volumeSlope (v .volume)) (channelFrame (v .bands) x a) (exactFrame bands y (exactBy k))) (fed k)
-              (subst (λ (bs : List Band). Tied bands (suc (n + k)) (limitedBy k || anyLimits bs x (a .x2) (a .sections)) (moved volumeSlope (v .volume)) (channelFrame bs x a) (exactFrame bands x (exactBy k))) (sym (p .bands-are))
+              (subst (λ (bs : List Band). Tied bands (suc (n + k)) (limitedBy k || anyLimits feedsBack bs x (a .x2) (a .sections)) (moved volumeSlope (v .volume)) (channelFrame bs x a) (exactFrame bands x (exactBy k))) (sym (p .bands-are))
               (frame-tied bands (n + k) (limitedBy k) (v .volume) a (exactBy k) (p .tied) as-many x)));
         }
       where

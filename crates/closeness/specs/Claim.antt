@@ -6,7 +6,8 @@
 -- the accepted blocks. For every such list, whatever the orders ask and the blocks hold, and for every frame n and each side: if no
 -- section of that side has limited up to and including frame n, its sample for frame n differs from the exact output for frame n, worked
 -- without rounding and limited only at the end, by at most 1/2 + V/2^32 + V × (sum over the bands of |g| × H)/2^55 sample steps. V and g
--- are the volume and that side's gains used in frame n, and H is the sum of the first n absolute values of that band's impulse response."
+-- are the volume and that side's gains used in frame n, and H is the sum of the first n absolute values of that band's impulse response;
+-- for bands 0 to 3 it is the sum of the first n |h(k) - h(k-1)|, h(-1) = 0."
 --
 -- The list of calls, with the unit that it hands back and its samples, is that of calls/specs/Calls.antt. A side is a channel here, and the
 -- number of channels is a parameter: the product has two. Lists of frames begin with frame 1.
@@ -28,7 +29,7 @@ use Rattle.levels.specs.Levels.{gainSlope, volumeSlope, moved, aimed}
 use Rattle.unit.specs.Sizes.{channelCount}
 use Rattle.unit.specs.declared.Unit.{Unit}
 use Rattle.unit.specs.Cleared.{clearedLevel, bandsOf}
-use Rattle.unit.specs.Frame.{anyLimits, sampleLow, sampleHigh}
+use Rattle.unit.specs.Frame.{feedsBack, anyLimits, sampleLow, sampleHigh}
 use Rattle.unit.specs.Fit.{Fit}
 use Rattle.unit.specs.Shaped.{Shaped}
 use Rattle.loading.specs.Loading.{setVerdict, loaded}
@@ -42,9 +43,9 @@ use Rattle.calls.specs.Calls.{Call, order, block, startingUnit, channelIn, unit
 
 module _ (channel : ℕ) where
   -- "Whether a section has limited is worked from the list by the rounding and limiting under Words and the section, and not read from
-  -- the flag": one of the channel's sections limits in the frame that this unit plays on x
+  -- the flag; in bands 0 to 3 of the increased S": one of the channel's sections limits in the frame that this unit plays on x
   abbrev pub limitsOn : ℤ → Unit → Bool
-  limitsOn x u = anyLimits (u .bands) x (channelIn channel u .x2) (channelIn channel u .sections)
+  limitsOn x u = anyLimits feedsBack (u .bands) x (channelIn channel u .x2) (channelIn channel u .sections)
 
   -- in frame k of these words, k from 0
   abbrev pub limitsIn : Unit → (ℕ → List ℤ) → ℕ → Bool
@@ -190,23 +191,39 @@ response band zero = pos 1
 response band (suc zero) = band .gamma
 response band (suc (suc k)) = band .gamma *ℤ response band (suc k) -ℤ band .beta *ℤ rescaled (response band k)
 
--- "H is the sum of the first n absolute values of that band's impulse response": (2^22)^n × H
-abbrev pub responseSum : Band → ℕ → ℕ
-responseSum band zero = 0
-responseSum band (suc n) = divisor * (responseSum band n + natAbs (response band n))
+-- (2^22)^(k-1) × h(k-1), "h(-1) = 0"
+abbrev pub responseBefore : Band → ℕ → ℤ
+responseBefore band zero = pos 0
+responseBefore band (suc k) = response band k
 
--- "sum over the bands of |g| × H", on the scale of frame n
-abbrev pub gainedSums : ℕ → List Level → List Band → ℕ
-gainedSums n [] bands = 0
-gainedSums n (g ∷ gs) [] = 0
-gainedSums n (g ∷ gs) (band ∷ bands) = natAbs (g .present) * responseSum band n + gainedSums n gs bands
+-- (2^22)^k × (h(k) - h(k-1))
+abbrev pub responseDifference : Band → ℕ → ℤ
+responseDifference band k = response band k -ℤ rescaled (responseBefore band k)
+
+-- (2^22)^k times what the rounding of a step adds to the result k steps later, for each one that it adds to the result of that step. `feeds` says
+-- whether the band feeds its remainder back: the next step then takes out of S what the rounding added
+abbrev pub errorResponse : Bool → Band → ℕ → ℤ
+errorResponse feeds band k = cond feeds (responseDifference band k) (response band k)
+
+-- "H is the sum of the first n absolute values of that band's impulse response"; "for bands 0 to 3 it is the sum of the first n
+-- |h(k) - h(k-1)|, h(-1) = 0": (2^22)^n × H
+abbrev pub responseSum : Bool → Band → ℕ → ℕ
+responseSum feeds band zero = 0
+responseSum feeds band (suc n) = divisor * (responseSum feeds band n + natAbs (errorResponse feeds band n))
+
+-- "sum over the bands of |g| × H", on the scale of frame n; the test says which of the bands feed back, by their places from 0 on
+abbrev pub gainedSums : (ℕ → Bool) → ℕ → List Level → List Band → ℕ
+gainedSums test n [] bands = 0
+gainedSums test n (g ∷ gs) [] = 0
+gainedSums test n (g ∷ gs) (band ∷ bands) =
+    natAbs (g .present) * responseSum (test 0) band n + gainedSums (λ (place : ℕ). test (suc place)) n gs bands
 
 -- ---- the claim
 
 -- "1/2 + V/2^32 + V × (sum over the bands of |g| × H)/2^55", for the reckoning after frame n: twice it, on the scale of the output
 abbrev pub bound : List Band → ℕ → Exact → ℕ
 bound bands n e =
-    outputScale e + natAbs (e .volume .present) * (2 ^ 23 * e .scale) + natAbs (e .volume .present) * gainedSums n (e .gains) bands
+    outputScale e + natAbs (e .volume .present) * (2 ^ 23 * e .scale) + natAbs (e .volume .present) * gainedSums feedsBack n (e .gains) bands
 
 -- the sample differs from the exact output "by at most" that: twice the distance, on the same scale
 pub record Close (bands : List Band) (n : ℕ) (s : ℤ) (e : Exact) : Type 0 where

@@ -11,8 +11,8 @@ use Rattle.settings.specs.declared.Setting.the-variants.{Position, Factor, Mute
 use Rattle.calls.specs.Calls.{Call, order, block}
 use Rattle.closeness.specs.Claim.{Exact, silent, allExacts}
 
--- with the house set: the volume to position 31; the left 16 kHz band to the factor 1/2; the left 62 Hz band muted; an order for a side
--- that is not there; a block of three bytes; and the frames (32767, -32768) and (-32768, 32767)
+-- with the house set: the volume to position 31; the left 16 kHz band, which does not feed back, to the factor 1/2; the left 62 Hz band,
+-- which does, muted; an order for a side that is not there; a block of three bytes; and the frames (32767, -32768) and (-32768, 32767)
 abbrev pub exampleCalls : List Call
 exampleCalls =
     order 2 10 (Position 31)
@@ -38,7 +38,7 @@ abbrev pub secondOutput : ℤ
 secondOutput = negℤ (pos 1037519395682638678721079631872)
 
 abbrev pub secondBound : ℕ
-secondBound = 316912773844765107465652011008
+secondBound = 316912773820027608768691830784
 
 -- so many bands with the largest alpha, and the largest sample: a section limits
 abbrev pub loudSet : ℕ → List ℤ

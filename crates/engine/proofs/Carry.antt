@@ -24,9 +24,9 @@ use Rattle.floats.proofs.WholeNumbers.{Whole, of-whole, lt-whole, eq-same, eq-i
 use Rattle.levels.specs.declared.Level.{Level}
 use Rattle.unit.specs.declared.BandSection.{BandSection}
 use Rattle.unit.specs.Fit.{BandFit, SectionFit, VolumeFit}
-use Rattle.unit.proofs.Ranges.{volume-size}
+use Rattle.unit.proofs.Ranges.{volume-size, remainder-size}
 use Rattle.engine.specs.Floats.{largest, Carries, floatBand, bandIn, floatLevel, levelIn, floatSection, bandSectionIn}
-use Rattle.engine.specs.Frame.{greater, limitedFloat, LevelCarries, RaisedAsks}
+use Rattle.engine.specs.Frame.{greater, limitedFloat, LevelCarries, LimitAsks}
 
 -- the float of a whole number carries it
 pub carries : (x : Float) (z : ℤ) {m : ℕ} → x ≡ float z → natAbs z ≤ m → m ≤ largest → Carries x m
@@ -84,7 +84,7 @@ module _ (low high v : Float) (L H W : ℤ) (low-is : low ≡ float L) (high-is 
 
 -- ---- the flag
 
-module _ (rounded y : Float) (l : RaisedAsks rounded y) where
+module _ (rounded y : Float) (l : LimitAsks rounded y) where
   abbrev Z : ℤ
   Z = wholeOf rounded
 
@@ -131,6 +131,7 @@ section-back s f =
       y1 = word-back (s .y1) (f .y1) i;
       y2 = word-back (s .y2) (f .y2) i;
       gain = record { present = word-back (s .gain .present) (f .present) i; target = word-back (s .gain .target) (f .target) i };
+      remainder = whole-back (s .remainder) (le-trans (remainder-size (s .remainder) (f .remainder)) (lit≤ tt)) i;
     }
 
 pub band-back : (b : Band) → BandFit b → bandIn (floatBand b) ≡ b

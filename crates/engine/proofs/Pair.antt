@@ -2,11 +2,11 @@
 use mathlib.Core.Path.{_≡_, refl, sym, ap, _∙_, subst}
 use mathlib.Core.Bool.{Bool, true, false, cond}
 use mathlib.Core.List.{List}
-use Prim.Native.Nat.{ℕ, suc, _+_, _*_, _^_, _≤_, _<_}
+use Prim.Native.Nat.{ℕ, zero, suc, _+_, _*_, _-_, _^_, _≤_, _<_}
 use native.Mathlib.Omega.{arith}
 use native.Mathlib.Nat.{le-trans}
 use lib.Dec.{eqb, lit≤}
-use lib.IntN.{ℤ, pos, _+ℤ_, _*ℤ_}
+use lib.IntN.{pos, _+ℤ_, _*ℤ_}
 use lib.ListN.{length}
 use lib.Ieee.{Float, binary64, ofBits, ofInt, add, mul}
 use borrow.Author.Tests.{eqb-true, eqb-false}
@@ -19,14 +19,14 @@ use Rattle.bands.specs.Bands.{bandCount}
 use Rattle.floats.specs.Whole.{float, wholeOf}
 use Rattle.floats.proofs.Quotient.{whole-back}
 use Rattle.floats.proofs.WholeNumbers.{of-whole, add-whole, mul-whole}
-use Rattle.unit.specs.Frame.{raised, channelFrame, exactMix}
+use Rattle.unit.specs.Frame.{feedsBack, raised, channelFrame, exactMix}
 use Rattle.engine.specs.declared.FloatSection.{FloatSection}
 use Rattle.engine.specs.declared.Sides.{Sides}
 use Rattle.engine.specs.declared.Tallies.{Tallies}
 use Rattle.engine.specs.declared.Tally.{Tally}
 use Rattle.engine.specs.Floats.{Carries, floatAt, WholeFloats, floatSection, bandSectionIn}
 use Rattle.engine.specs.Layout.{sectionFloats, x1Place, x2Place, flagPlace, pairFloats, Side, firstSide, secondSide, floatSectionAt, putSection, sidesAt, putSides, sectionAtSide}
-use Rattle.engine.specs.Frame.{firstTurned, secondTurned, talliesAfter, pairAfter, TurnPairAsks, FrameAsks, SideGives, FrameGives}
+use Rattle.engine.specs.Frame.{firstTurned, secondTurned, talliesAfter, pairAfter, TurnPairAsks, Between, afterTurns, TurnBandsAsks, FrameAsks, SideGives, FrameGives}
 use Rattle.engine.proofs.Carry.{carries-whole, section-back}
 use Rattle.engine.proofs.Store.{IsWhole, float-whole, section-whole, sides-length, sides-outside, sides-same, sides-whole, both-length, both-away, both-first, both-second, both-other}
 use Rattle.engine.proofs.Turns.{first-inside, second-inside, Begun, way, sectionAfter, limitsAt, Progress, after-fit, may-turn, section-is, total-more, flag-more, turn-whole}
@@ -84,7 +84,7 @@ module _ (bands l : List Float) (x : Sides) (asks : FrameAsks bands l x) where
   -- ---- a turn of band n
 
   module _ (n : ℕ) (m : List Float) (tallies : Tallies) (below : n < bandCount) (p : Turning bands l x n m tallies) where
-    pub pair-may-turn : TurnPairAsks bands m n (ways bands l x) tallies
+    pair-may-turn : TurnPairAsks bands m n (ways bands l x) tallies
     pair-may-turn =
         record {
           below = below;
@@ -94,25 +94,19 @@ module _ (bands l : List Float) (x : Sides) (asks : FrameAsks bands l x) where
         }
 
     abbrev F : FloatSection
-    F = firstTurned bands m n (ways bands l x) tallies .section
+    F = firstTurned (feedsBack n) bands m n (ways bands l x) tallies .section
 
     abbrev S : FloatSection
-    S = secondTurned bands m n (ways bands l x) tallies .section
+    S = secondTurned (feedsBack n) bands m n (ways bands l x) tallies .section
 
     abbrev after : List Float
-    after = pairAfter bands m n (ways bands l x) tallies
+    after = pairAfter (feedsBack n) bands m n (ways bands l x) tallies
 
     after-whole : WholeFloats after
     after-whole =
         section-whole (putSection m (sectionFloats * n) F) (sectionFloats * n + 1) S
-        (section-whole m (sectionFloats * n) F (p .whole) (f .0 .0) (f .0 .1) (f .1 .0) (f .1 .1))
-        (s .0 .0) (s .0 .1) (s .1 .0) (s .1 .1)
-      where
-        f : (IsWhole (F .y1) × IsWhole (F .y2)) × (IsWhole (F .gain .present) × IsWhole (F .gain .target))
-        f = turn-whole bands l firstSide (x .first) first-begun n m (tallies .first) below (p .first)
-
-        s : (IsWhole (S .y1) × IsWhole (S .y2)) × (IsWhole (S .gain .present) × IsWhole (S .gain .target))
-        s = turn-whole bands l secondSide (x .second) second-begun n m (tallies .second) below (p .second)
+        (section-whole m (sectionFloats * n) F (p .whole) (turn-whole bands l firstSide (x .first) first-begun n m (tallies .first) below (p .first)))
+        (turn-whole bands l secondSide (x .second) second-begun n m (tallies .second) below (p .second))
 
     -- the sections of one side: band n's is new, the others stand as they did
     module _ (e : Side) (y : Float) (z : FloatSection) (t : Tally) (q : Progress bands l e y n m t) where
@@ -123,7 +117,7 @@ module _ (bands l : List Float) (x : Sides) (asks : FrameAsks bands l x) where
           go true b = subst (λ (j : ℕ). floatSectionAt after (e .section j) ≡ floatSection (sectionAfter bands l e y j)) (sym (eqb-true k n b)) here
           go false b = before k (omega (arith, h, eqb-false k n b)) ∙ q .done k (omega (arith, h, eqb-false k n b))
 
-    pub next : Turning bands l x (suc n) after (talliesAfter bands m n (ways bands l x) tallies)
+    next : Turning bands l x (suc n) after (talliesAfter (feedsBack n) bands m n (ways bands l x) tallies)
     next =
         record {
           most = below;
@@ -151,6 +145,34 @@ module _ (bands l : List Float) (x : Sides) (asks : FrameAsks bands l x) where
                 flag-is = flag-more bands l secondSide (x .second) second-begun n m (tallies .second) below (p .second);
               };
         }
+
+  -- ---- turns of bands in a row, which either all feed back, or none does
+
+  module _ (feeds : Bool) (from to : ℕ) (in-order : from ≤ to) (most : to ≤ bandCount) (alike : (b : ℕ) → from ≤ b → b < to → feedsBack b ≡ feeds) (s : Between) (p : Turning bands l x from (s .pair) (s .tallies)) where
+    abbrev then : ℕ → Between
+    then n = afterTurns bands (ways bands l x) from n s
+
+    turning : (n : ℕ) → from + n ≤ to → Turning bands l x (from + n) (then n .pair) (then n .tallies)
+    turning zero h = subst (λ (b : ℕ). Turning bands l x b (s .pair) (s .tallies)) (omega arith) p
+    turning (suc n) h =
+        subst (λ (b : ℕ). Turning bands l x b (then (suc n) .pair) (then (suc n) .tallies)) (omega arith)
+        (next (from + n) (then n .pair) (then n .tallies) (omega arith) (turning n (omega arith)))
+
+    module _ (d : Sides) (ways-are : d ≡ ways bands l x) where
+      pub bands-may-turn : TurnBandsAsks feeds bands d from to s
+      bands-may-turn =
+          subst (λ (e : Sides). TurnBandsAsks feeds bands e from to s) (sym ways-are)
+          (record {
+            in-order = in-order;
+            most = most;
+            alike = alike;
+            each = λ n h. pair-may-turn (from + n) (then n .pair) (then n .tallies) (omega arith) (turning n (omega arith));
+          })
+
+      pub bands-turned : (m : Between) → m ≡ afterTurns bands d from (to - from) s → Turning bands l x to (m .pair) (m .tallies)
+      bands-turned m is =
+          subst (λ (t : Between). Turning bands l x to (t .pair) (t .tallies)) (sym (is ∙ ap (λ (e : Sides). afterTurns bands e from (to - from) s) ways-are))
+          (subst (λ (b : ℕ). Turning bands l x b (then (to - from) .pair) (then (to - from) .tallies)) (omega arith) (turning (to - from) (omega arith)))
 
   -- ---- after ten turns
 
@@ -208,13 +230,14 @@ module _ (bands l : List Float) (x : Sides) (asks : FrameAsks bands l x) where
     m2-size : length m2 ≡ pairFloats
     m2-size = sides-length m1 x2Place (sidesAt l x1Place) ∙ m1-size
 
-    sections-kept : (at : ℕ) → at + 6 < sectionFloats * bandCount → floatSectionAt ended at ≡ floatSectionAt m at
+    sections-kept : (at : ℕ) → at + 8 < sectionFloats * bandCount → floatSectionAt ended at ≡ floatSectionAt m at
     sections-kept at h =
         λ i.
         record {
           y1 = kept at (omega arith) i;
           y2 = kept (at + 2) (omega arith) i;
           gain = record { present = kept (at + 4) (omega arith) i; target = kept (at + 6) (omega arith) i };
+          remainder = kept (at + 8) (omega arith) i;
         }
       where
         kept : (j : ℕ) → j < sectionFloats * bandCount → floatAt ended j ≡ floatAt m j

@@ -14,15 +14,14 @@ use Rattle.integers.proofs.Machine.{difference-sized}
 use Rattle.lists.specs.Lists.{tabulate, anyOf}
 use Rattle.lists.proofs.Tabulate.{any-snoc, each-at, at-each, tabulate-length}
 use Rattle.words.specs.Words.{wordSize}
-use Rattle.words.proofs.Laws.{word-size}
 use Rattle.bands.specs.Bands.{bandCount}
 use Rattle.bands.specs.declared.Band.{Band}
 use Rattle.floats.specs.Whole.{float, wholeOf}
 use Rattle.floats.proofs.WholeNumbers.{sub-whole}
-use Rattle.section.specs.Equation.{exactSum, worked}
+use Rattle.section.specs.Equation.{Worked, exactSum, worked}
 use Rattle.levels.specs.Levels.{gainSlope, moved}
 use Rattle.unit.specs.declared.BandSection.{BandSection}
-use Rattle.unit.specs.Frame.{sectionWork, sectionFrame, share, sumOf}
+use Rattle.unit.specs.Frame.{feedsBack, fedBack, sectionWork, carriedOn, sectionFrame, share, sumOf}
 use Rattle.unit.specs.Fit.{BandFit, SectionFit}
 use Rattle.unit.proofs.Mix.{sum-snoc}
 use Rattle.unit.proofs.Mix.{shareSize, share-size, exact-size}
@@ -35,12 +34,12 @@ use Rattle.engine.specs.Floats.{Carries, floatAt, WholeFloats, floatBand
 use Rattle.engine.specs.Layout.{setFloats, pairFloats, Side, firstSide, secondSide, floatBandAt, floatSectionAt, bandAtSide, sectionAtSide}
 use Rattle.engine.specs.Frame.{turned, TurnAsks, SideAsks}
 use Rattle.engine.proofs.Carry.{carries, whole-is, carries-whole}
-use Rattle.engine.proofs.Store.{IsWhole, float-whole}
+use Rattle.engine.proofs.Store.{WholeSection, fit-whole}
 
 -- the side's numbers have their places
 pub record Inside (e : Side) : Type 0 where
   pub band : (b : ℕ) → b < bandCount → e .band b + 4 < setFloats
-  pub section : (b : ℕ) → b < bandCount → e .section b + 6 < pairFloats
+  pub section : (b : ℕ) → b < bandCount → e .section b + 8 < pairFloats
   pub x1 : e .x1 < pairFloats
   pub x2 : e .x2 < pairFloats
   pub flag : e .flag < pairFloats
@@ -78,10 +77,10 @@ module _ (bands l : List Float) (e : Side) (x : Float) where
 
   -- section b after the frame, and whether it limits
   abbrev pub sectionAfter : ℕ → BandSection
-  sectionAfter b = sectionFrame (bandAtSide bands e b) X X2 (sectionAtSide l e b)
+  sectionAfter b = sectionFrame (feedsBack b) (bandAtSide bands e b) X X2 (sectionAtSide l e b)
 
   abbrev pub limitsAt : ℕ → Bool
-  limitsAt b = sectionWork (bandAtSide bands e b) X X2 (sectionAtSide l e b) .limited
+  limitsAt b = sectionWork (feedsBack b) (bandAtSide bands e b) X X2 (sectionAtSide l e b) .limited
 
   abbrev shareAfter : ℕ → ℤ
   shareAfter b = share (sectionAfter b)
@@ -121,6 +120,7 @@ module _ (bands l : List Float) (e : Side) (x : Float) where
                 present = f .whole (e .section b + 4) (omega (arith, f .inside .section b h, f .size)) i;
                 target = f .whole (e .section b + 6) (omega (arith, f .inside .section b h, f .size)) i;
               };
+          remainder = f .whole (e .section b + 8) (omega (arith, f .inside .section b h, f .size)) i;
         }
 
     earlier-carries : Carries earlier wordSize
@@ -148,12 +148,16 @@ module _ (bands l : List Float) (e : Side) (x : Float) where
         ap (λ (d : ℤ). band .alpha *ℤ d +ℤ band .gamma *ℤ y1 -ℤ band .beta *ℤ y2)
         (ap (λ (d : ℤ). d -ℤ pos 0) way-whole ∙ terms-eq (var X ⊖ var X2 ⊖ var (pos 0)) (var X ⊖ var X2) (omega arith))
 
-    after-same : (band : Band) (s : BandSection) → sectionFrame band (wholeOf way) (pos 0) s ≡ sectionFrame band X X2 s
+    work-same : (feeds : Bool) (band : Band) (s : BandSection) → sectionWork feeds band (wholeOf way) (pos 0) s ≡ sectionWork feeds band X X2 s
+    work-same feeds band s = ap (λ (S : ℤ). worked (S +ℤ fedBack feeds s)) (sum-same band (s .y1) (s .y2))
+
+    after-same : (feeds : Bool) (band : Band) (s : BandSection) → sectionFrame feeds band (wholeOf way) (pos 0) s ≡ sectionFrame feeds band X X2 s
     unfolding sectionFrame
-    after-same band s = λ i. record { y1 = worked (sum-same band (s .y1) (s .y2) i) .y; y2 = s .y1; gain = moved gainSlope (s .gain) }
+    after-same feeds band s =
+        ap (λ (w : Worked). record { y1 = w .y; y2 = s .y1; gain = moved gainSlope (s .gain); remainder = carriedOn feeds w }) (work-same feeds band s)
 
     pub after-fit : (b : ℕ) → b < bandCount → SectionFit (sectionAfter b)
-    after-fit b h = section-stays (bandAtSide bands e b) X X2 (sectionAtSide l e b) (section-fit b h)
+    after-fit b h = section-stays (feedsBack b) (bandAtSide bands e b) X X2 (sectionAtSide l e b) (section-fit b h)
 
     pub total-size : (n : ℕ) → n ≤ bandCount → natAbs (totalOf n) ≤ 2 ^ 52
     total-size n h =
@@ -180,12 +184,12 @@ module _ (bands l : List Float) (e : Side) (x : Float) where
           })
 
       abbrev result : Turned
-      result = turned (floatBandAt bands (e .band n)) (floatSectionAt m (e .section n)) way tally
+      result = turned (feedsBack n) (floatBandAt bands (e .band n)) (floatSectionAt m (e .section n)) way tally
 
-      after-is : sectionFrame (bandAtSide bands e n) (wholeOf way) (pos 0) (bandSectionIn (floatSectionAt m (e .section n))) ≡ sectionAfter n
+      after-is : sectionFrame (feedsBack n) (bandAtSide bands e n) (wholeOf way) (pos 0) (bandSectionIn (floatSectionAt m (e .section n))) ≡ sectionAfter n
       after-is =
-          ap (λ (s : FloatSection). sectionFrame (bandAtSide bands e n) (wholeOf way) (pos 0) (bandSectionIn s)) (p .ahead n (omega arith) below)
-          ∙ after-same (bandAtSide bands e n) (sectionAtSide l e n)
+          ap (λ (s : FloatSection). sectionFrame (feedsBack n) (bandAtSide bands e n) (wholeOf way) (pos 0) (bandSectionIn s)) (p .ahead n (omega arith) below)
+          ∙ after-same (feedsBack n) (bandAtSide bands e n) (sectionAtSide l e n)
 
       pub section-is : result .section ≡ floatSection (sectionAfter n)
       unfolding turned
@@ -205,14 +209,14 @@ module _ (bands l : List Float) (e : Side) (x : Float) where
       pub flag-more : result .tally .flag ≡ cond (anyOf (tabulate (suc n) limitsAt)) (float (pos 1)) (floatAt l (e .flag))
       unfolding turned
       flag-more =
-          (λ i. cond (worked (limited-sum i) .limited) (float (pos 1)) (p .flag-is i))
+          (λ i. cond (work-is i .limited) (float (pos 1)) (p .flag-is i))
           ∙ twice (anyOf (tabulate n limitsAt)) (limitsAt n)
           ∙ ap (λ (t : Bool). cond t (float (pos 1)) (floatAt l (e .flag))) (sym (any-snoc (tabulate n limitsAt) (limitsAt n)))
         where
-          limited-sum : exactSum (bandAtSide bands e n) (wholeOf way) (pos 0) (bandSectionIn (floatSectionAt m (e .section n)) .y1) (bandSectionIn (floatSectionAt m (e .section n)) .y2) ≡ exactSum (bandAtSide bands e n) X X2 (sectionAtSide l e n .y1) (sectionAtSide l e n .y2)
-          limited-sum =
-              ap (λ (s : FloatSection). exactSum (bandAtSide bands e n) (wholeOf way) (pos 0) (bandSectionIn s .y1) (bandSectionIn s .y2)) (p .ahead n (omega arith) below)
-              ∙ sum-same (bandAtSide bands e n) (sectionAtSide l e n .y1) (sectionAtSide l e n .y2)
+          work-is : sectionWork (feedsBack n) (bandAtSide bands e n) (wholeOf way) (pos 0) (bandSectionIn (floatSectionAt m (e .section n))) ≡ sectionWork (feedsBack n) (bandAtSide bands e n) X X2 (sectionAtSide l e n)
+          work-is =
+              ap (λ (s : FloatSection). sectionWork (feedsBack n) (bandAtSide bands e n) (wholeOf way) (pos 0) (bandSectionIn s)) (p .ahead n (omega arith) below)
+              ∙ work-same (feedsBack n) (bandAtSide bands e n) (sectionAtSide l e n)
 
           twice : (a t : Bool) → cond t (float (pos 1)) (cond a (float (pos 1)) (floatAt l (e .flag))) ≡ cond (a || t) (float (pos 1)) (floatAt l (e .flag))
           twice true true = refl
@@ -221,20 +225,5 @@ module _ (bands l : List Float) (e : Side) (x : Float) where
           twice false false = refl
 
       -- what it stores is whole
-      pub turn-whole : (IsWhole (result .section .y1) × IsWhole (result .section .y2)) × (IsWhole (result .section .gain .present) × IsWhole (result .section .gain .target))
-      turn-whole = (
-        (
-          word (result .section .y1) (sectionAfter n .y1) (ap (λ (s : FloatSection). s .y1) section-is) (word-size (sectionAfter n .y1) (fit .y1)),
-          word (result .section .y2) (sectionAfter n .y2) (ap (λ (s : FloatSection). s .y2) section-is) (word-size (sectionAfter n .y2) (fit .y2)),
-        ),
-        (
-          word (result .section .gain .present) (sectionAfter n .gain .present) (ap (λ (s : FloatSection). s .gain .present) section-is) (word-size (sectionAfter n .gain .present) (fit .present)),
-          word (result .section .gain .target) (sectionAfter n .gain .target) (ap (λ (s : FloatSection). s .gain .target) section-is) (word-size (sectionAfter n .gain .target) (fit .target)),
-        ),
-      )
-        where
-          fit : SectionFit (sectionAfter n)
-          fit = after-fit n below
-
-          word : (y : Float) (z : ℤ) → y ≡ float z → natAbs z ≤ wordSize → IsWhole y
-          word y z h k = float-whole y z h (le-trans k (lit≤ tt))
+      pub turn-whole : WholeSection (result .section)
+      turn-whole = subst WholeSection (sym section-is) (fit-whole (sectionAfter n) (after-fit n below))

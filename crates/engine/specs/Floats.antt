@@ -46,7 +46,7 @@ abbrev pub levelIn : FloatLevel → Level
 levelIn level = record { present = wholeOf (level .present); target = wholeOf (level .target) }
 
 abbrev pub floatSection : BandSection → FloatSection
-floatSection s = record { y1 = float (s .y1); y2 = float (s .y2); gain = floatLevel (s .gain) }
+floatSection s = record { y1 = float (s .y1); y2 = float (s .y2); gain = floatLevel (s .gain); remainder = float (s .remainder) }
 
 abbrev pub bandSectionIn : FloatSection → BandSection
-bandSectionIn s = record { y1 = wholeOf (s .y1); y2 = wholeOf (s .y2); gain = levelIn (s .gain) }
+bandSectionIn s = record { y1 = wholeOf (s .y1); y2 = wholeOf (s .y2); gain = levelIn (s .gain); remainder = wholeOf (s .remainder) }

@@ -1,7 +1,7 @@
 -- The flat layout in which the engine holds bands and channels for the length of a block: the one definition of it. Definitions only.
 -- Two channels, the sides of a pair, stand as neighbours, each number of the first ahead of that of the second:
 --     bands   A A' B B' G G' of each band in turn; both sides have the same numbers
---     pair    y1 y1' y2 y2' gain gain' target target' of each section in turn, then x1 x1' x2 x2' flag flag'
+--     pair    y1 y1' y2 y2' gain gain' target target' remainder remainder' of each section in turn, then x1 x1' x2 x2' flag flag'
 -- Pairs stand one behind the other.
 use mathlib.Core.List.{List, [], _∷_}
 use Prim.Native.Nat.{ℕ, zero, suc, _+_, _*_}
@@ -29,9 +29,9 @@ bandFloats = sideCount * bandSize
 abbrev pub setFloats : ℕ
 setFloats = bandFloats * bandCount
 
--- how many floats the sections of a band have: y1, y2, gain and target of both sides
+-- how many floats the sections of a band have: y1, y2, gain, target and remainder of both sides
 abbrev pub sectionFloats : ℕ
-sectionFloats = sideCount * 4
+sectionFloats = sideCount * 5
 
 -- where x1, x2 and the flag of the first side stand, behind the sections, and how many floats a pair has
 abbrev pub x1Place : ℕ
@@ -46,8 +46,8 @@ flagPlace = x2Place + sideCount
 abbrev pub pairFloats : ℕ
 pairFloats = flagPlace + sideCount
 
--- where the numbers of one side stand: A of band b, y1 of section b, x1, x2 and the flag. B and G, y2, gain and target follow at every second
--- place
+-- where the numbers of one side stand: A of band b, y1 of section b, x1, x2 and the flag. B and G, y2, gain, target and remainder follow at
+-- every second place
 pub record Side : Type 0 where
   pub band : ℕ → ℕ
   pub section : ℕ → ℕ
@@ -72,11 +72,13 @@ floatSectionAt l at =
       y1 = floatAt l at;
       y2 = floatAt l (at + 2);
       gain = record { present = floatAt l (at + 4); target = floatAt l (at + 6) };
+      remainder = floatAt l (at + 8);
     }
 
 -- the floats with that section replaced
 unfoldable pub putSection : List Float → ℕ → FloatSection → List Float
-putSection l at s = set (set (set (set l at (s .y1)) (at + 2) (s .y2)) (at + 4) (s .gain .present)) (at + 6) (s .gain .target)
+putSection l at s =
+    set (set (set (set (set l at (s .y1)) (at + 2) (s .y2)) (at + 4) (s .gain .present)) (at + 6) (s .gain .target)) (at + 8) (s .remainder)
 
 -- two neighbours, and the floats with these replaced
 abbrev pub sidesAt : List Float → ℕ → Sides

@@ -2,7 +2,7 @@
 // differences are exact; what is rounded and limited is said at each function. specs/Layout.antt is where each number stands.
 // The sides of a pair are neighbours, and one function serves both: the compiler works them together.
 ghost use mathlib.Core.Path.{_≡_};
-ghost use Prim.Native.Nat.{_+_, _<_};
+ghost use Prim.Native.Nat.{_+_, _-_, _<_};
 ghost use lib.ListN.{length};
 ghost use Rattle.rounding.specs.Rounding.{nearest};
 ghost use Rattle.floats.specs.Whole.{wholeOf};
@@ -10,7 +10,7 @@ ghost use Rattle.levels.specs.Levels.{moved};
 ghost use Rattle.unit.specs.Frame.{output};
 ghost use Rattle.engine.specs.Floats.{levelIn, floatLevel};
 ghost use Rattle.engine.specs.Layout.{setFloats, floatBandAt, floatSectionAt, putSection, sidesAt, putSides};
-ghost use Rattle.engine.specs.Frame.{lesser, greater, limitedFloat, LevelCarries, RaisedAsks, raisedBy, turned, TurnAsks, talliesAfter, pairAfter, TurnPairAsks, FrameAsks, FrameGives, OutputAsks};
+ghost use Rattle.engine.specs.Frame.{lesser, greater, limitedFloat, LevelCarries, LimitAsks, unlessLimited, increasedBy, carriedBy, turned, TurnAsks, talliesAfter, pairAfter, TurnPairAsks, between, afterTurns, TurnBandsAsks, FrameAsks, FrameGives, OutputAsks};
 
 // The sides of a pair.
 pub const SIDE_COUNT: usize = 2;
@@ -21,7 +21,7 @@ pub const BAND_FLOATS: usize = SIDE_COUNT * bands::BAND_SIZE;
 pub const SET_FLOATS: usize = BAND_FLOATS * bands::BAND_COUNT;
 
 // The floats of both sections of a band, and of a pair: behind its sections stand x1, x2 and the flag of each side.
-pub const SECTION_FLOATS: usize = SIDE_COUNT * 4;
+pub const SECTION_FLOATS: usize = SIDE_COUNT * 5;
 
 pub const X1: usize = SECTION_FLOATS * bands::BAND_COUNT;
 
@@ -61,11 +61,12 @@ pub struct FloatLevel {
     pub target: f64,
 }
 
-// A section of a channel: its two earlier results, and its gain.
+// A section of a channel: its two earlier results, its gain, and the remainder that is added to the next S.
 pub struct FloatSection {
     pub y1: f64,
     pub y2: f64,
     pub gain: FloatLevel,
+    pub remainder: f64,
 }
 
 // A number of each side of a pair.
@@ -135,24 +136,47 @@ impl FloatLevel {
     }
 }
 
-// The flag, raised where the rounded number was no word.
-fn raised(flag: f64, rounded: f64, y: f64) -> f64
-    requires { ⌜ RaisedAsks rounded y ⌝ }
-    ensures { λ r. ⌜ r ≡ raisedBy (wholeOf rounded) flag ⌝ }
+// A number that is kept, or another one where the rounded number was no word.
+fn unless_limited(kept: f64, other: f64, rounded: f64, y: f64) -> f64
+    requires { ⌜ LimitAsks rounded y ⌝ }
+    ensures { λ r. ⌜ r ≡ unlessLimited (wholeOf rounded) kept other ⌝ }
 {
     if rounded == y {
-        return flag;
+        return kept;
     }
-    1.0
+    other
 }
 
-// One side's turn of a section on d = x - x2: the gain moves, equation (8) is worked, rounded and limited, the results move on, and g × y joins T.
-fn turn(band: FloatBand, section: FloatSection, d: f64, tally: Tally) -> Turned
+// S, increased by the remainder where the band feeds it back. A sum that begins with the remainder is never minus zero.
+fn increased(feeds: bool, sum: f64, remainder: f64) -> f64
+    ensures { λ r. ⌜ r ≡ increasedBy feeds sum remainder ⌝ }
+{
+    if feeds {
+        return remainder + sum;
+    }
+    sum
+}
+
+// The remainder that is carried on, of what rounding took: zero where the section limits, or does not feed it back.
+fn carried(feeds: bool, taken: f64, rounded: f64, y: f64) -> f64
+    requires { ⌜ LimitAsks rounded y ⌝ }
+    ensures { λ r. ⌜ r ≡ carriedBy feeds (wholeOf rounded) taken ⌝ }
+{
+    if feeds {
+        return unless_limited(taken, 0.0, rounded, y);
+    }
+    0.0
+}
+
+// One side's turn of a section on d = x - x2: the gain moves, equation (8) is worked, rounded and limited, the results and the remainder move on,
+// and g × y joins T.
+fn turn(feeds: bool, band: FloatBand, section: FloatSection, d: f64, tally: Tally) -> Turned
     requires { ⌜ TurnAsks band section d tally ⌝ }
-    ensures { λ r. ⌜ r ≡ turned band section d tally ⌝ }
+    ensures { λ r. ⌜ r ≡ turned feeds band section d tally ⌝ }
 {
     let y1 = section.y1;
-    let sum = band.alpha * d - band.beta * section.y2 + band.gamma * y1;
+    let plain = band.alpha * d - band.beta * section.y2 + band.gamma * y1;
+    let sum = increased(feeds, plain, section.remainder);
     let rounded = floats::nearest_whole(sum / SUM_SCALE);
     let y = limited(WORD_LOW, WORD_HIGH, rounded);
     let level = section.gain;
@@ -163,10 +187,11 @@ fn turn(band: FloatBand, section: FloatSection, d: f64, tally: Tally) -> Turned
             y1: y,
             y2: y1,
             gain,
+            remainder: carried(feeds, sum - SUM_SCALE * rounded, rounded, y),
         },
         tally: Tally {
             total: tally.total + present * y,
-            flag: raised(tally.flag, rounded, y),
+            flag: unless_limited(tally.flag, 1.0, rounded, y),
         },
     }
 }
@@ -185,7 +210,7 @@ fn band_at(bands: &[f64; SET_FLOATS], at: usize) -> FloatBand
 
 // The section whose numbers begin at a place: the other side's stand between them.
 pub fn section_at(pair: &[f64], at: usize) -> FloatSection
-    requires { ⌜ at + 6 < length (now pair) ⌝ }
+    requires { ⌜ at + 8 < length (now pair) ⌝ }
     ensures { λ r. ⌜ r ≡ floatSectionAt (now (pair .entry)) at ⌝ }
 {
     let gain = FloatLevel {
@@ -196,22 +221,25 @@ pub fn section_at(pair: &[f64], at: usize) -> FloatSection
         y1: pair[at],
         y2: pair[at + 2],
         gain,
+        remainder: pair[at + 8],
     }
 }
 
 // Stores the section whose numbers begin at a place.
 pub fn put_section(pair: &mut [f64], at: usize, section: FloatSection)
-    requires { ⌜ at + 6 < length (now pair) ⌝ }
+    requires { ⌜ at + 8 < length (now pair) ⌝ }
     ensures { λ r. ⌜ now (pair .exit) ≡ putSection (now (pair .entry)) at section ⌝ }
 {
     let y1 = section.y1;
     let y2 = section.y2;
     let present = section.gain.present;
     let target = section.gain.target;
+    let remainder = section.remainder;
     pair[at] = y1;
     pair[at + 2] = y2;
     pair[at + 4] = present;
     pair[at + 6] = target;
+    pair[at + 8] = remainder;
 }
 
 // A number of each side, from two neighbouring places.
@@ -238,6 +266,7 @@ pub fn put_sides(floats: &mut [f64], at: usize, sides: Sides)
 
 // Band b's turn of both sides.
 fn turn_pair(
+    feeds: bool,
     bands: &[f64; SET_FLOATS],
     pair: &mut [f64],
     b: usize,
@@ -245,19 +274,21 @@ fn turn_pair(
     tallies: Tallies,
 ) -> Tallies
     requires { ⌜ TurnPairAsks (now bands) (now pair) b d tallies ⌝ }
-    ensures { λ r. ⌜ (r ≡ talliesAfter (now (bands .entry)) (now (pair .entry)) b d tallies) × (now (pair .exit) ≡ pairAfter (now (bands .entry)) (now (pair .entry)) b d tallies) ⌝ }
+    ensures { λ r. ⌜ (r ≡ talliesAfter feeds (now (bands .entry)) (now (pair .entry)) b d tallies) × (now (pair .exit) ≡ pairAfter feeds (now (bands .entry)) (now (pair .entry)) b d tallies) ⌝ }
 {
     let place = BAND_FLOATS * b;
     let at = SECTION_FLOATS * b;
     let first_tally = tallies.first;
     let second_tally = tallies.second;
     let first = turn(
+        feeds,
         band_at(bands, place),
         section_at(pair, at),
         d.first,
         first_tally,
     );
     let second = turn(
+        feeds,
         band_at(bands, place + 1),
         section_at(pair, at + 1),
         d.second,
@@ -275,6 +306,28 @@ fn turn_pair(
     }
 }
 
+// The turns of both sides, from band `from` up to `to`. These bands either all feed back, or none does: the compiler makes a loop of each kind.
+fn turn_bands(
+    feeds: bool,
+    bands: &[f64; SET_FLOATS],
+    pair: &mut [f64],
+    from: usize,
+    to: usize,
+    d: Sides,
+    before: Tallies,
+) -> Tallies
+    requires { ⌜ TurnBandsAsks feeds (now bands) d from to (between (now pair) before) ⌝ }
+    ensures { λ r. ⌜ between (now (pair .exit)) r ≡ afterTurns (now (bands .entry)) d from (to - from) (between (now (pair .entry)) before) ⌝ }
+{
+    let mut tallies = before;
+    let mut b = from;
+    while b < to {
+        tallies = turn_pair(feeds, bands, pair, b, d, tallies);
+        b += 1;
+    }
+    tallies
+}
+
 // A frame of both sides on their input words: every section has its turn, and x and x1 move on. Gives T of each side.
 pub fn frame(bands: &[f64; SET_FLOATS], pair: &mut [f64], x: Sides) -> Sides
     requires { ⌜ FrameAsks (now bands) (now pair) x ⌝ }
@@ -287,7 +340,7 @@ pub fn frame(bands: &[f64; SET_FLOATS], pair: &mut [f64], x: Sides) -> Sides
         first: x.first - x2.first,
         second: x.second - x2.second,
     };
-    let mut tallies = Tallies {
+    let before = Tallies {
         first: Tally {
             total: 0.0 + MIX_SCALE * x.first,
             flag: flags.first,
@@ -297,11 +350,16 @@ pub fn frame(bands: &[f64; SET_FLOATS], pair: &mut [f64], x: Sides) -> Sides
             flag: flags.second,
         },
     };
-    let mut b = 0;
-    while b < bands::BAND_COUNT {
-        tallies = turn_pair(bands, pair, b, d, tallies);
-        b += 1;
-    }
+    let fed = turn_bands(true, bands, pair, 0, unit::FEEDBACK_COUNT, d, before);
+    let tallies = turn_bands(
+        false,
+        bands,
+        pair,
+        unit::FEEDBACK_COUNT,
+        bands::BAND_COUNT,
+        d,
+        fed,
+    );
     let raised = Sides {
         first: tallies.first.flag,
         second: tallies.second.flag,

@@ -96,7 +96,7 @@ pub extern "C" fn fonddrys_level_moved(present: i32, target: i32, slope: u32) ->
     after.present as i32
 }
 
-// 1 where the unit of the 118 lent numbers is fit, else 0.
+// 1 where the unit of the 138 lent numbers is fit, else 0.
 #[no_mangle]
 pub extern "C" fn fonddrys_unit_fit(numbers: &[i32; numbers::UNIT_SIZE]) -> u32
     ensures { λ r. ⌜ r ≡ flag (unitFits (unitOf (now (numbers .entry)))) ⌝ }
@@ -167,7 +167,7 @@ pub extern "C" fn fonddrys_order_mute(
     lending::order(numbers, side, band, Setting::Mute)
 }
 
-// Writes the strip sheet of the unit whose numbers are lent to the front of the buffer, and gives the count of its bytes, 1,128. From a
+// Writes the strip sheet of the unit whose numbers are lent to the front of the buffer, and gives the count of its bytes, 1,200. From a
 // shorter buffer, or for an unfit unit, the count is 0 and the buffer is as it was. Bytes behind the sheet keep their contents.
 #[no_mangle]
 pub extern "C" fn fonddrys_sheet_write(

@@ -14,7 +14,7 @@ use Rattle.bands.specs.declared.Band.{Band}
 use Rattle.levels.specs.declared.Level.{Level}
 use Rattle.levels.specs.Levels.{volumeSlope, moved}
 use Rattle.unit.specs.declared.Channel.{Channel}
-use Rattle.unit.specs.Frame.{channelFrame, exactMix}
+use Rattle.unit.specs.Frame.{feedsBack, channelFrame, exactMix}
 use Rattle.unit.specs.Fit.{isInput, VolumeFit, ChannelFit}
 use Rattle.unit.proofs.Mix.{shareSize, exact-mix-size}
 use Rattle.unit.proofs.Ranges.{input-size}
@@ -65,7 +65,7 @@ module _ (bands : List Band) (xs : ℕ → ℤ) (c : Channel) where
   unfolding channelPlayed channelFrame
   channel-sections zero h = h
   channel-sections (suc n) h =
-      frame-sections bands (xs n) (channelPlayed bands xs c n .x2) (channelPlayed bands xs c n .sections) (channel-sections n h)
+      frame-sections feedsBack bands (xs n) (channelPlayed bands xs c n .x2) (channelPlayed bands xs c n .sections) (channel-sections n h)
 
   -- T is small where the words are
   pub total-size : (n : ℕ) → length (c .sections) ≡ length bands → ((k : ℕ) → k < suc n → isInput (xs k) ≡ true) → ChannelFit c → natAbs (exactMix (channelPlayed bands xs c (suc n))) ≤ suc (length bands) * shareSize

@@ -67,6 +67,7 @@ channel-front e i a b h =
           y1 = h (e .section n) (omega (arith, i .section n l)) r;
           y2 = h (e .section n + 2) (omega (arith, i .section n l)) r;
           gain = record { present = h (e .section n + 4) (omega (arith, i .section n l)) r; target = h (e .section n + 6) (omega (arith, i .section n l)) r };
+          remainder = h (e .section n + 8) (omega (arith, i .section n l)) r;
         })
 
 -- ---- the channels of so many pairs

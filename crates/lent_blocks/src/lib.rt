@@ -1,4 +1,4 @@
-// Playing a block of frames through the unit of 118 lent numbers: they are tested and packed where they stand, and those of the unit after the block
+// Playing a block of frames through the unit of 138 lent numbers: they are tested and packed where they stand, and those of the unit after the block
 // are stored in their places.
 ghost use mathlib.Core.Path.{_≡_};
 ghost use Rattle.unit.specs.Sizes.{channelCount};

@@ -15,7 +15,7 @@ use Rattle.lists.proofs.Changed.{changed-tabulate}
 use Rattle.bands.specs.Bands.{bandSize, bandCount, setSize}
 use Rattle.unit.specs.Cleared.{bandsOf, clearedBandSection}
 use Rattle.orders.specs.Orders.{aimedSection, aimedChannel}
-use Rattle.numbers.specs.Layout.{channelSize, place, sectionAt, channelOf}
+use Rattle.numbers.specs.Layout.{sectionSize, channelSize, place, sectionAt, channelOf}
 
 module _ (l : List ℤ) (i : ℕ) (t : ℤ) where
   -- a number at another place
@@ -23,13 +23,14 @@ module _ (l : List ℤ) (i : ℕ) (t : ℤ) where
   kept j h = getD-set-other l i j t (pos 0) h
 
   -- a section whose numbers stand elsewhere
-  section-kept : (k : ℕ) → ((j : ℕ) → j < 4 → place k + j ≡ i → ⊥) → sectionAt (set l i t) k ≡ sectionAt l k
+  section-kept : (k : ℕ) → ((j : ℕ) → j < sectionSize → place k + j ≡ i → ⊥) → sectionAt (set l i t) k ≡ sectionAt l k
   section-kept k h =
       λ n.
       record {
         y1 = kept (place k) (λ e. h 0 (omega arith) (omega arith)) n;
         y2 = kept (place k + 1) (h 1 (omega arith)) n;
         gain = record { present = kept (place k + 2) (h 2 (omega arith)) n; target = kept (place k + 3) (h 3 (omega arith)) n };
+        remainder = kept (place k + 4) (h 4 (omega arith)) n;
       }
 
   -- a channel ahead of the place
@@ -70,6 +71,7 @@ module _ (l : List ℤ) (b : ℕ) (t : ℤ) (h : place b + 3 < length l) where
                   present = kept l (place b + 3) t (place k + 2) (λ p. omega arith) n;
                   target = (ap (λ (j : ℕ). getD (set l (place b + 3) t) j (pos 0)) same ∙ getD-set-same l (place b + 3) t (pos 0) h) n;
                 };
+            remainder = kept l (place b + 3) t (place k + 4) (λ p. omega arith) n;
           }
       go false e = section-kept l (place b + 3) t k (λ j f p. eqb-false b k e (omega arith))
 

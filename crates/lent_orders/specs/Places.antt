@@ -6,10 +6,10 @@ use Rattle.numbers.specs.Layout.{channelSize, leftPlace, place}
 abbrev pub channelPlace : ℕ → ℕ
 channelPlace channel = leftPlace + channelSize * channel
 
--- "S (y1, y2, gain, target)"
+-- "y1, y2, gain, target, remainder of each section"
 abbrev pub targetPlace : ℕ → ℕ → ℕ
 targetPlace channel band = channelPlace channel + (place band + 3)
 
--- "V (volume, target)"
+-- "the volume, its target"
 abbrev pub volumeTarget : ℕ
 volumeTarget = 1

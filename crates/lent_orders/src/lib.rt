@@ -1,4 +1,4 @@
-// Level orders on the 118 lent numbers of a unit: the targets that an order names are stored in their places, and nothing else is.
+// Level orders on the 138 lent numbers of a unit: the targets that an order names are stored in their places, and nothing else is.
 ghost use mathlib.Core.Path.{_≡_};
 ghost use mathlib.Core.Bool.{true, cond};
 ghost use Prim.Native.Nat.{_<_};

@@ -12,7 +12,7 @@ use Rattle.lists.proofs.Tabulate.{tabulate-cong}
 use Rattle.bands.specs.Bands.{bandCount}
 use Rattle.floats.specs.Whole.{wholeOf}
 use Rattle.engine.specs.Floats.{floatAt}
-use Rattle.engine.specs.Layout.{sectionFloats, pairFloats, Side, firstSide, secondSide, sectionAtSide, channelAtSide}
+use Rattle.engine.specs.Layout.{sectionFloats, x1Place, pairFloats, Side, firstSide, secondSide, sectionAtSide, channelAtSide}
 use Rattle.packing.specs.Packing.{PairFloatsGives}
 use Rattle.numbers.specs.Layout.{headSize, sectionSize, leftPlace, rightPlace, place, sectionAt, channelOf}
 use Rattle.lent_packing.specs.Runs.{numberAt, PutRunsGives, TakeRunsGives}
@@ -23,8 +23,8 @@ Stands l numbers j i = wholeOf (floatAt l j) ≡ numberAt numbers i
 
 -- the runs of both channels stand in the pair
 pub record Alike (l : List Float) (numbers : List ℤ) : Type 0 where
-  pub first-head : (i : ℕ) → i < headSize → Stands l numbers (80 + 2 * i) (leftPlace + i)
-  pub second-head : (i : ℕ) → i < headSize → Stands l numbers (80 + 2 * i + 1) (rightPlace + i)
+  pub first-head : (i : ℕ) → i < headSize → Stands l numbers (x1Place + 2 * i) (leftPlace + i)
+  pub second-head : (i : ℕ) → i < headSize → Stands l numbers (x1Place + 2 * i + 1) (rightPlace + i)
   pub first-sections : (i : ℕ) → i < sectionSize * bandCount → Stands l numbers (0 + 2 * i) (leftPlace + headSize + i)
   pub second-sections : (i : ℕ) → i < sectionSize * bandCount → Stands l numbers (0 + 2 * i + 1) (rightPlace + headSize + i)
 
@@ -48,6 +48,7 @@ module _ (l : List Float) (numbers : List ℤ) (e : Side) (start o : ℕ) where
                 present = at 2 (e .section b + 4) (place b + 2) (omega arith) (omega (arith, places b)) (omega arith) i;
                 target = at 3 (e .section b + 6) (place b + 3) (omega arith) (omega (arith, places b)) (omega arith) i;
               };
+          remainder = at 4 (e .section b + 8) (place b + 4) (omega arith) (omega (arith, places b)) (omega arith) i;
         }
       where
         at : (r j n : ℕ) → r < sectionSize → j ≡ 2 * (sectionSize * b + r) + o → n ≡ sectionSize * b + r + headSize → wholeOf (floatAt l j) ≡ numberAt mine n
@@ -78,7 +79,7 @@ module _ (l : List Float) (numbers : List ℤ) (a : Alike l numbers) where
 
 -- ---- the runs stored, in either direction
 
-pub channels-given : (numbers : List ℤ) (zeros l after : List Float) → length zeros ≡ pairFloats → PutRunsGives 0 (leftPlace + headSize) (rightPlace + headSize) (sectionSize * bandCount) zeros numbers l → PutRunsGives 80 leftPlace rightPlace headSize l numbers after → PairFloatsGives (channelOf (drop leftPlace numbers)) (channelOf (drop rightPlace numbers)) after
+pub channels-given : (numbers : List ℤ) (zeros l after : List Float) → length zeros ≡ pairFloats → PutRunsGives 0 (leftPlace + headSize) (rightPlace + headSize) (sectionSize * bandCount) zeros numbers l → PutRunsGives x1Place leftPlace rightPlace headSize l numbers after → PairFloatsGives (channelOf (drop leftPlace numbers)) (channelOf (drop rightPlace numbers)) after
 channels-given numbers zeros l after size g h =
     record {
       size = h .size ∙ g .size ∙ size;
@@ -96,7 +97,7 @@ channels-given numbers zeros l after size g h =
           second-sections = λ i e. ap wholeOf (h .outside (0 + 2 * i + 1) (λ u v. omega arith)) ∙ g .seconds i e;
         }
 
-module _ (pair : List Float) (numbers between after : List ℤ) (g : TakeRunsGives 0 (leftPlace + headSize) (rightPlace + headSize) (sectionSize * bandCount) numbers pair between) (h : TakeRunsGives 80 leftPlace rightPlace headSize between pair after) where
+module _ (pair : List Float) (numbers between after : List ℤ) (g : TakeRunsGives 0 (leftPlace + headSize) (rightPlace + headSize) (sectionSize * bandCount) numbers pair between) (h : TakeRunsGives x1Place leftPlace rightPlace headSize between pair after) where
   pub stored-alike : Alike pair after
   stored-alike =
       record {

@@ -13,6 +13,7 @@ use Rattle.bands.specs.Bands.{bandCount, setSize}
 use Rattle.floats.specs.Whole.{wholeOf}
 use Rattle.unit.specs.Cleared.{bandsOf}
 use Rattle.engine.specs.declared.FloatLevel.{FloatLevel}
+use Rattle.engine.specs.Layout.{x1Place}
 use Rattle.numbers.specs.Layout.{headSize, sectionSize, bandsPlace, leftPlace, rightPlace, unitSize, numbersOf, unitOf}
 use Rattle.numbers.proofs.Laws.{numbers-of-unit}
 use Rattle.lent_packing.specs.Runs.{numberAt, TakeRunsGives}
@@ -27,7 +28,7 @@ module _ (numbers : List ℤ) (size : length numbers ≡ unitSize) (volume : Flo
   one : List ℤ
   one = set numbers 0 present
 
-  module _ (between after : List ℤ) (g : TakeRunsGives 0 (leftPlace + headSize) (rightPlace + headSize) (sectionSize * bandCount) (withVolume numbers present target) pair between) (h : TakeRunsGives 80 leftPlace rightPlace headSize between pair after) where
+  module _ (between after : List ℤ) (g : TakeRunsGives 0 (leftPlace + headSize) (rightPlace + headSize) (sectionSize * bandCount) (withVolume numbers present target) pair between) (h : TakeRunsGives x1Place leftPlace rightPlace headSize between pair after) where
     ahead : (j : ℕ) → j < leftPlace → numberAt after j ≡ numberAt (withVolume numbers present target) j
     ahead = stored-ahead pair (withVolume numbers present target) between after g h
 

@@ -1,5 +1,5 @@
-// The engine's floats from the 118 numbers of a unit that are lent, and these numbers from the floats: docs/SPECIFICATION.md, The strip
-// sheet, has their order. The numbers of a channel's sections stand one behind the other in both orders, and so do the coefficients of all
+// The engine's floats from the 138 numbers of a unit that are lent, and these numbers from the floats: docs/SPECIFICATION.md, The C
+// library, has their order. The numbers of a channel's sections stand one behind the other in both orders, and so do the coefficients of all
 // bands.
 ghost use mathlib.Core.Path.{_≡_};
 ghost use lib.ListN.{drop};

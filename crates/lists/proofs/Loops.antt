@@ -1,6 +1,6 @@
 -- Loops over a list: a test of every entry, and a list that is filled from the front.
 use mathlib.Core.Path.{_≡_, refl, sym, ap, _∙_, subst}
-use mathlib.Core.Bool.{Bool, true, false, not}
+use mathlib.Core.Bool.{Bool, true, false, not, _&&_, and-assoc, and-true}
 use mathlib.Core.List.{List, [], _∷_, _++_}
 use Prim.Native.Nat.{ℕ, _+_, _≤_, _<_}
 use native.Mathlib.Numerals.{add-one}
@@ -47,6 +47,32 @@ module _ {A : Type 0} {test : A → Bool} {l : List A} {first i : ℕ} (from : E
     -- and passes
     pub every-passes : not t ≡ false → EveryFrom test l first (i + 1)
     every-passes p = record { left = next ∙ simp (sym tested ∙ not-false t p) }
+
+-- ---- a test of every entry, with no branch
+
+-- what is found of the entries from place `first` on is the test of those below i
+pub record EveryFound {A : Type 0} (test : A → Bool) (l : List A) (first : ℕ) (found : Bool) (i : ℕ) : Type 0 where
+  pub below : i ≤ length l
+  pub whole : every test (drop first l) ≡ found && every test (drop i l)
+
+pub found-begin : {A : Type 0} {test : A → Bool} {l : List A} {first : ℕ} → first ≤ length l → EveryFound test l first true first
+found-begin h = record { below = h; whole = refl }
+
+module _ {A : Type 0} {test : A → Bool} {l : List A} {first i : ℕ} {found : Bool} (so : EveryFound test l first found i) where
+  -- entry i is tested
+  pub found-next : (d : A) {t : Bool} → i < length l → t ≡ test (getD l i d) → EveryFound test l first (found && t) (i + 1)
+  found-next d {t} h e =
+      record {
+        below = omega arith;
+        whole =
+            so .whole
+            ∙ ap (λ (r : Bool). found && r) (rw (add-one, drop-cons l i d, e))
+            ∙ sym (and-assoc found t (every test (drop (i + 1) l)));
+      }
+
+  -- past the last entry
+  pub found-done : length l ≤ i → found ≡ every test (drop first l)
+  found-done h = sym (so .whole ∙ ap (λ (m : List A). found && every test m) (drop-of-length-le l h) ∙ and-true found)
 
 -- ---- a list of n entries that is filled from the front with f 0, f 1 and so on
 

@@ -1,4 +1,4 @@
--- The laws of the unit's flat numbers: 118 numbers are those of the unit that they stand for.
+-- The laws of the unit's flat numbers: 138 numbers are those of the unit that they stand for.
 use mathlib.Core.Path.{_≡_, refl, sym, ap, ap₂, _∙_}
 use mathlib.Core.List.{List, _++_, append-nil}
 use Prim.Native.Nat.{ℕ, zero, suc, _+_, _*_, _≤_}
@@ -7,10 +7,10 @@ use lib.IntN.{ℤ, pos}
 use lib.ListN.{length, take, drop, length-drop}
 use lib.Seq.{take-add, take-all, drop-drop}
 use Rattle.lists.specs.Lists.{tabulate, joined}
-use Rattle.lists.proofs.Parts.{take-two, take-three, take-four, piece}
+use Rattle.lists.proofs.Parts.{take-two, take-three, take-five, piece}
 use Rattle.lists.proofs.Joined.{joined-snoc}
 use Rattle.bands.specs.Bands.{bandCount, bandAt, setSize}
-use Rattle.numbers.specs.Layout.{channelSize, unitSize, bandsPlace, leftPlace, rightPlace, bandNumbers, sectionNumbers, channelNumbers, numbersOf, place, sectionAt, channelOf, unitOf}
+use Rattle.numbers.specs.Layout.{headSize, sectionSize, channelSize, unitSize, bandsPlace, leftPlace, rightPlace, bandNumbers, sectionNumbers, channelNumbers, numbersOf, place, sectionAt, channelOf, unitOf}
 
 module _ (l : List ℤ) where
   -- ---- the numbers of the bands and of a channel
@@ -26,30 +26,30 @@ module _ (l : List ℤ) where
       more : 3 * n + 3 ≡ 3 * suc n
       more = omega arith
 
-  pub sections-numbers : (n : ℕ) → place n ≤ length l → joined sectionNumbers (tabulate n (sectionAt l)) ≡ take (4 * n) (drop 3 l)
+  pub sections-numbers : (n : ℕ) → place n ≤ length l → joined sectionNumbers (tabulate n (sectionAt l)) ≡ take (sectionSize * n) (drop headSize l)
   sections-numbers zero h = refl
   sections-numbers (suc n) h =
       joined-snoc sectionNumbers (tabulate n (sectionAt l)) (sectionAt l n)
-      ∙ ap₂ _++_ (sections-numbers n (omega arith)) four
-      ∙ sym (take-add (4 * n) 4 (drop 3 l))
-      ∙ ap (λ (k : ℕ). take k (drop 3 l)) more
+      ∙ ap₂ _++_ (sections-numbers n (omega arith)) five
+      ∙ sym (take-add (sectionSize * n) sectionSize (drop headSize l))
+      ∙ ap (λ (k : ℕ). take k (drop headSize l)) more
     where
-      more : 4 * n + 4 ≡ 4 * suc n
+      more : sectionSize * n + sectionSize ≡ sectionSize * suc n
       more = omega arith
 
-      behind : place n ≡ 3 + 4 * n
+      behind : place n ≡ headSize + sectionSize * n
       behind = omega arith
 
-      four : sectionNumbers (sectionAt l n) ≡ take 4 (drop (4 * n) (drop 3 l))
-      four =
-          sym (take-four (pos 0) l (place n) (omega arith))
-          ∙ ap (take 4) (ap (λ (k : ℕ). drop k l) behind ∙ sym (drop-drop (4 * n) 3 l))
+      five : sectionNumbers (sectionAt l n) ≡ take sectionSize (drop (sectionSize * n) (drop headSize l))
+      five =
+          sym (take-five (pos 0) l (place n) (omega arith))
+          ∙ ap (take sectionSize) (ap (λ (k : ℕ). drop k l) behind ∙ sym (drop-drop (sectionSize * n) headSize l))
 
   channel-numbers : channelSize ≤ length l → channelNumbers (channelOf l) ≡ take channelSize l
   channel-numbers h =
-      ap₂ _++_ (sym (take-three (pos 0) l 0 (omega arith))) (sections-numbers bandCount (omega arith)) ∙ sym (take-add 3 40 l)
+      ap₂ _++_ (sym (take-three (pos 0) l 0 (omega arith))) (sections-numbers bandCount (omega arith)) ∙ sym (take-add headSize (sectionSize * bandCount) l)
 
--- ---- 118 numbers are those of their unit
+-- ---- 138 numbers are those of their unit
 
 pub numbers-of-unit : (l : List ℤ) → length l ≡ unitSize → numbersOf (unitOf l) ≡ l
 unfolding numbersOf unitOf

@@ -59,8 +59,11 @@ module _ (l : List ℤ) (i : ℕ) (h : length l ≡ unitSize) where
   pub put-three : {a b c v w x : ℤ} → i + 3 ≤ unitSize → v ≡ a → w ≡ b → x ≡ c → PutGives l i (a ∷ b ∷ c ∷ []) (i + 3) (set (set (set l i v) (i + 1) w) (i + 2) x)
   put-three k p q r = put-next (put-two (omega arith) p q) (omega arith) (i + 3) (omega arith) r
 
-  pub put-four : {a b c d v w x y : ℤ} → i + 4 ≤ unitSize → v ≡ a → w ≡ b → x ≡ c → y ≡ d → PutGives l i (a ∷ b ∷ c ∷ d ∷ []) (i + 4) (set (set (set (set l i v) (i + 1) w) (i + 2) x) (i + 3) y)
+  put-four : {a b c d v w x y : ℤ} → i + 4 ≤ unitSize → v ≡ a → w ≡ b → x ≡ c → y ≡ d → PutGives l i (a ∷ b ∷ c ∷ d ∷ []) (i + 4) (set (set (set (set l i v) (i + 1) w) (i + 2) x) (i + 3) y)
   put-four k p q r s = put-next (put-three (omega arith) p q r) (omega arith) (i + 4) (omega arith) s
+
+  pub put-five : {a b c d e v w x y z : ℤ} → i + 5 ≤ unitSize → v ≡ a → w ≡ b → x ≡ c → y ≡ d → z ≡ e → PutGives l i (a ∷ b ∷ c ∷ d ∷ e ∷ []) (i + 5) (set (set (set (set (set l i v) (i + 1) w) (i + 2) x) (i + 3) y) (i + 4) z)
+  put-five k p q r s t = put-next (put-four (omega arith) p q r s) (omega arith) (i + 5) (omega arith) t
 
 -- ---- what is joined of entries, one entry after the other
 

@@ -1,4 +1,4 @@
--- The laws of a unit of ten bands and two channels of ten sections: it has 118 numbers, and is the unit that they stand for.
+-- The laws of a unit of ten bands and two channels of ten sections: it has 138 numbers, and is the unit that they stand for.
 use mathlib.Core.Path.{_≡_, refl, sym, ap, ap₂, _∙_}
 use mathlib.Core.List.{List, [], _∷_, _++_, append-nil}
 use Prim.Native.Nat.{ℕ, zero, suc, _+_, _*_, _≤_, _<_}
@@ -17,7 +17,7 @@ use Rattle.unit.specs.declared.Unit.{Unit}
 use Rattle.unit.specs.Cleared.{bandsOf, clearedBandSection}
 use Rattle.unit.specs.Shaped.{TenSections, Shaped}
 use Rattle.unit.proofs.Sets.{set-bands}
-use Rattle.numbers.specs.Layout.{channelSize, unitSize, bandNumbers, sectionNumbers, channelNumbers, numbersOf, place, sectionAt, channelOf, unitOf}
+use Rattle.numbers.specs.Layout.{headSize, sectionSize, channelSize, unitSize, bandNumbers, sectionNumbers, channelNumbers, numbersOf, place, sectionAt, channelOf, unitOf}
 
 -- ---- how many numbers
 
@@ -25,7 +25,7 @@ bands-length : (bands : List Band) → length (joined bandNumbers bands) ≡ 3 *
 bands-length [] = refl
 bands-length (b ∷ bands) = omega (arith, bands-length bands)
 
-sections-length : (sections : List BandSection) → length (joined sectionNumbers sections) ≡ 4 * length sections
+sections-length : (sections : List BandSection) → length (joined sectionNumbers sections) ≡ sectionSize * length sections
 sections-length [] = refl
 sections-length (s ∷ sections) = omega (arith, sections-length sections)
 
@@ -60,21 +60,21 @@ unit-shaped l = record { bands = refl; channels = refl; sections = (refl, (refl,
 
 module _ (x1 x2 flag : ℤ) where
   -- behind the numbers of one section
-  past-section : (s : BandSection) (m : List ℤ) (i j : ℕ) → i ≡ j + 4 → 3 ≤ j → getD (x1 ∷ x2 ∷ flag ∷ (sectionNumbers s ++ m)) i (pos 0) ≡ getD (x1 ∷ x2 ∷ flag ∷ m) j (pos 0)
+  past-section : (s : BandSection) (m : List ℤ) (i j : ℕ) → i ≡ j + sectionSize → headSize ≤ j → getD (x1 ∷ x2 ∷ flag ∷ (sectionNumbers s ++ m)) i (pos 0) ≡ getD (x1 ∷ x2 ∷ flag ∷ m) j (pos 0)
   past-section s m i zero e h = absurd (omega arith)
   past-section s m i (suc zero) e h = absurd (omega arith)
   past-section s m i (suc (suc zero)) e h = absurd (omega arith)
-  past-section s m i (suc (suc (suc j))) e h = ap (λ (n : ℕ). getD (x1 ∷ x2 ∷ flag ∷ (sectionNumbers s ++ m)) n (pos 0)) seven
+  past-section s m i (suc (suc (suc j))) e h = ap (λ (n : ℕ). getD (x1 ∷ x2 ∷ flag ∷ (sectionNumbers s ++ m)) n (pos 0)) eight
     where
-      seven : i ≡ suc (suc (suc (suc (suc (suc (suc j))))))
-      seven = omega arith
+      eight : i ≡ suc (suc (suc (suc (suc (suc (suc (suc j)))))))
+      eight = omega arith
 
   section-of : (sections : List BandSection) (m : List ℤ) (k : ℕ) → k < length sections → sectionAt (x1 ∷ x2 ∷ flag ∷ (joined sectionNumbers sections ++ m)) k ≡ getD sections k clearedBandSection
   section-of [] m k h = absurd (omega arith)
   section-of (s ∷ sections) m zero h = refl
   section-of (s ∷ sections) m (suc k) h = next ∙ section-of sections m k (omega arith)
     where
-      past : (i j : ℕ) → i ≡ j + 4 → 3 ≤ j → getD (x1 ∷ x2 ∷ flag ∷ (joined sectionNumbers (s ∷ sections) ++ m)) i (pos 0) ≡ getD (x1 ∷ x2 ∷ flag ∷ (joined sectionNumbers sections ++ m)) j (pos 0)
+      past : (i j : ℕ) → i ≡ j + sectionSize → headSize ≤ j → getD (x1 ∷ x2 ∷ flag ∷ (joined sectionNumbers (s ∷ sections) ++ m)) i (pos 0) ≡ getD (x1 ∷ x2 ∷ flag ∷ (joined sectionNumbers sections ++ m)) j (pos 0)
       past i j e h = past-section s (joined sectionNumbers sections ++ m) i j e h
 
       next : sectionAt (x1 ∷ x2 ∷ flag ∷ (joined sectionNumbers (s ∷ sections) ++ m)) (suc k) ≡ sectionAt (x1 ∷ x2 ∷ flag ∷ (joined sectionNumbers sections ++ m)) k
@@ -88,6 +88,7 @@ module _ (x1 x2 flag : ℤ) where
                   present = past (place (suc k) + 2) (place k + 2) (omega arith) (omega arith) i;
                   target = past (place (suc k) + 3) (place k + 3) (omega arith) (omega arith) i;
                 };
+            remainder = past (place (suc k) + 4) (place k + 4) (omega arith) (omega arith) i;
           }
 
 -- a channel's numbers stand for it, whatever follows them
@@ -130,7 +131,7 @@ module _ (u : Unit) (s : Shaped channelCount u) where
   behind-bands : drop setSize (first ++ second) ≡ second
   behind-bands = drop-at first second setSize (omega (arith, bands-length (u .bands), s .bands))
 
-  behind-left : drop 73 (first ++ second) ≡ drop channelSize second
+  behind-left : drop (channelSize + setSize) (first ++ second) ≡ drop channelSize second
   behind-left = sym (drop-drop channelSize setSize (first ++ second)) ∙ ap (drop channelSize) behind-bands
 
   pub unit-of-numbers : unitOf (numbersOf u) ≡ u

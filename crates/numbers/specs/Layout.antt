@@ -20,9 +20,9 @@ use Rattle.unit.specs.Cleared.{bandsOf}
 abbrev pub headSize : ℕ
 headSize = 3
 
--- "y1, y2, gain, target of each section"
+-- "y1, y2, gain, target, remainder of each section"
 abbrev pub sectionSize : ℕ
-sectionSize = 4
+sectionSize = 5
 
 -- how many numbers a channel has
 abbrev pub channelSize : ℕ
@@ -52,11 +52,11 @@ volumeNumbers v = v .present ∷ v .target ∷ []
 abbrev pub bandNumbers : Band → List ℤ
 bandNumbers band = band .alpha ∷ band .beta ∷ band .gamma ∷ []
 
--- "y1, y2, gain, target of each section"
+-- "y1, y2, gain, target, remainder of each section"
 abbrev pub sectionNumbers : BandSection → List ℤ
-sectionNumbers s = s .y1 ∷ s .y2 ∷ s .gain .present ∷ s .gain .target ∷ []
+sectionNumbers s = s .y1 ∷ s .y2 ∷ s .gain .present ∷ s .gain .target ∷ s .remainder ∷ []
 
--- "x1, x2, flag, then y1, y2, gain, target of each section"
+-- "x1, x2, flag, then y1, y2, gain, target, remainder of each section"
 abbrev pub channelNumbers : Channel → List ℤ
 channelNumbers c = c .x1 ∷ c .x2 ∷ c .flag ∷ joined sectionNumbers (c .sections)
 
@@ -65,7 +65,7 @@ numbersOf u = volumeNumbers (u .volume) ++ (joined bandNumbers (u .bands) ++ joi
 
 -- ---- what the numbers stand for
 
--- the place of section b's y1 among a channel's numbers; y2, gain and target follow
+-- the place of section b's y1 among a channel's numbers; y2, gain, target and remainder follow
 abbrev pub place : ℕ → ℕ
 place b = sectionSize * b + headSize
 
@@ -76,6 +76,7 @@ sectionAt l b =
       y1 = getD l (place b) (pos 0);
       y2 = getD l (place b + 1) (pos 0);
       gain = record { present = getD l (place b + 2) (pos 0); target = getD l (place b + 3) (pos 0) };
+      remainder = getD l (place b + 4) (pos 0);
     }
 
 -- the channel that they stand for
@@ -88,7 +89,7 @@ channelOf l =
       sections = tabulate bandCount (sectionAt l);
     }
 
--- the unit that 118 numbers stand for
+-- the unit that 138 numbers stand for
 unfoldable pub unitOf : List ℤ → Unit
 unitOf l =
     record {

@@ -1,5 +1,5 @@
-// The unit as 118 numbers of 32 bits, in the order of the C library: the volume and its target; A, B, G of each band; then of the
-// left and of the right channel x1, x2, flag, and y1, y2, gain and target of each section.
+// The unit as 138 numbers of 32 bits, in the order of the C library: the volume and its target; A, B, G of each band; then of the
+// left and of the right channel x1, x2, flag, and y1, y2, gain, target and remainder of each section.
 ghost use mathlib.Core.Path.{_≡_};
 ghost use Prim.Native.Nat.{_*_, _+_, _<_, _≤_};
 ghost use lib.IntN.{pos};
@@ -14,12 +14,12 @@ use unit::BandSection;
 use unit::Channel;
 use unit::Unit;
 
-// A channel as numbers: x1, x2 and the flag, then four of each section.
+// A channel as numbers: x1, x2 and the flag, then five of each section.
 pub const FLAG: usize = 2;
 
 pub const HEAD_SIZE: usize = FLAG + 1;
 
-pub const SECTION_SIZE: usize = 4;
+pub const SECTION_SIZE: usize = 5;
 
 pub const CHANNEL_SIZE: usize = HEAD_SIZE + SECTION_SIZE * bands::BAND_COUNT;
 
@@ -82,6 +82,7 @@ fn sections_of(numbers: &[i32; UNIT_SIZE], start: usize) -> [BandSection; bands:
         y1: 0,
         y2: 0,
         gain: zero,
+        remainder: 0,
     };
     let mut sections = [empty; bands::BAND_COUNT];
     let mut b = 0;
@@ -104,7 +105,13 @@ fn section_at(numbers: &[i32; UNIT_SIZE], start: usize, b: usize) -> BandSection
     let present = number_at(numbers, at + 2);
     let target = number_at(numbers, at + 3);
     let gain = Level { present, target };
-    BandSection { y1, y2, gain }
+    let remainder = number_at(numbers, at + 4);
+    BandSection {
+        y1,
+        y2,
+        gain,
+        remainder,
+    }
 }
 
 // The number at a place.
@@ -219,8 +226,10 @@ fn put_section(out: &mut [i32; UNIT_SIZE], at: usize, section: BandSection)
     let y2 = section.y2 as i32;
     let present = section.gain.present as i32;
     let target = section.gain.target as i32;
+    let remainder = section.remainder as i32;
     out[at] = y1;
     out[at + 1] = y2;
     out[at + 2] = present;
     out[at + 3] = target;
+    out[at + 4] = remainder;
 }

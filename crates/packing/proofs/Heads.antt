@@ -1,7 +1,7 @@
 -- x1, x2 and the flag of both sides, stored first: with the sections stored they are two channels.
 use mathlib.Core.Path.{_≡_, refl, ap, _∙_}
 use mathlib.Core.List.{List}
-use Prim.Native.Nat.{_≤_}
+use Prim.Native.Nat.{_+_, _≤_}
 use lib.Dec.{lit≤}
 use lib.IntN.{ℤ, natAbs}
 use lib.ListN.{length, replicate, length-replicate}
@@ -10,7 +10,7 @@ use Rattle.unit.specs.declared.Channel.{Channel}
 use Rattle.floats.specs.Whole.{float}
 use Rattle.engine.specs.declared.Sides.{Sides}
 use Rattle.engine.specs.Floats.{largest, floatAt, WholeFloats}
-use Rattle.engine.specs.Layout.{pairFloats, sidesAt}
+use Rattle.engine.specs.Layout.{x1Place, x2Place, flagPlace, pairFloats, sidesAt}
 use Rattle.engine.proofs.Carry.{whole-is}
 use Rattle.engine.proofs.Store.{IsWhole, float-whole}
 use Rattle.engine.proofs.Read.{zeros-whole}
@@ -28,10 +28,10 @@ module _ (a b : Channel) where
   zeros = replicate pairFloats (ofBits binary64 0)
 
   abbrev pub heads : List Float
-  heads = putThree zeros 80 (floatSides (a .x1) (b .x1)) (floatSides (a .x2) (b .x2)) (floatSides (a .flag) (b .flag))
+  heads = putThree zeros x1Place (floatSides (a .x1) (b .x1)) (floatSides (a .x2) (b .x2)) (floatSides (a .flag) (b .flag))
 
   pub heads-size : length heads ≡ pairFloats
-  heads-size = three-length zeros 80 (floatSides (a .x1) (b .x1)) (floatSides (a .x2) (b .x2)) (floatSides (a .flag) (b .flag)) ∙ length-replicate pairFloats (ofBits binary64 0)
+  heads-size = three-length zeros x1Place (floatSides (a .x1) (b .x1)) (floatSides (a .x2) (b .x2)) (floatSides (a .flag) (b .flag)) ∙ length-replicate pairFloats (ofBits binary64 0)
 
   module _ (a-exact : Exact a) (b-exact : Exact b) where
     both-whole : (y z : ℤ) → natAbs y ≤ largest → natAbs z ≤ largest → IsWhole (float y) × IsWhole (float z)
@@ -39,21 +39,21 @@ module _ (a b : Channel) where
 
     pub heads-whole : WholeFloats heads
     heads-whole =
-        three-whole zeros 80 (floatSides (a .x1) (b .x1)) (floatSides (a .x2) (b .x2)) (floatSides (a .flag) (b .flag)) (zeros-whole pairFloats)
+        three-whole zeros x1Place (floatSides (a .x1) (b .x1)) (floatSides (a .x2) (b .x2)) (floatSides (a .flag) (b .flag)) (zeros-whole pairFloats)
         (both-whole (a .x1) (b .x1) (a-exact .x1) (b-exact .x1))
         (both-whole (a .x2) (b .x2) (a-exact .x2) (b-exact .x2))
         (both-whole (a .flag) (b .flag) (a-exact .flag) (b-exact .flag))
 
     -- with the sections stored they are the two channels
     module _ (l : List Float) (stored : PutSectionsGives heads (a .sections) (b .sections) l) where
-      x1s : sidesAt heads 80 ≡ floatSides (a .x1) (b .x1)
-      x1s = three-first zeros 80 (floatSides (a .x1) (b .x1)) (floatSides (a .x2) (b .x2)) (floatSides (a .flag) (b .flag)) (lit≤ tt)
+      x1s : sidesAt heads x1Place ≡ floatSides (a .x1) (b .x1)
+      x1s = three-first zeros x1Place (floatSides (a .x1) (b .x1)) (floatSides (a .x2) (b .x2)) (floatSides (a .flag) (b .flag)) (lit≤ tt)
 
-      x2s : sidesAt heads 82 ≡ floatSides (a .x2) (b .x2)
-      x2s = three-second zeros 80 (floatSides (a .x1) (b .x1)) (floatSides (a .x2) (b .x2)) (floatSides (a .flag) (b .flag)) (lit≤ tt)
+      x2s : sidesAt heads x2Place ≡ floatSides (a .x2) (b .x2)
+      x2s = three-second zeros x1Place (floatSides (a .x1) (b .x1)) (floatSides (a .x2) (b .x2)) (floatSides (a .flag) (b .flag)) (lit≤ tt)
 
-      flags : sidesAt heads 84 ≡ floatSides (a .flag) (b .flag)
-      flags = three-third zeros 80 (floatSides (a .x1) (b .x1)) (floatSides (a .x2) (b .x2)) (floatSides (a .flag) (b .flag)) (lit≤ tt)
+      flags : sidesAt heads flagPlace ≡ floatSides (a .flag) (b .flag)
+      flags = three-third zeros x1Place (floatSides (a .x1) (b .x1)) (floatSides (a .x2) (b .x2)) (floatSides (a .flag) (b .flag)) (lit≤ tt)
 
       pub channels : PairFloatsGives a b l
       channels =
@@ -63,17 +63,17 @@ module _ (a b : Channel) where
             first =
                 λ i.
                 record {
-                  x1 = whole-is (floatAt l 80) (a .x1) (stored .behind 80 (lit≤ tt) ∙ ap (λ (s : Sides). s .first) x1s) (a-exact .x1) i;
-                  x2 = whole-is (floatAt l 82) (a .x2) (stored .behind 82 (lit≤ tt) ∙ ap (λ (s : Sides). s .first) x2s) (a-exact .x2) i;
-                  flag = whole-is (floatAt l 84) (a .flag) (stored .behind 84 (lit≤ tt) ∙ ap (λ (s : Sides). s .first) flags) (a-exact .flag) i;
+                  x1 = whole-is (floatAt l x1Place) (a .x1) (stored .behind x1Place (lit≤ tt) ∙ ap (λ (s : Sides). s .first) x1s) (a-exact .x1) i;
+                  x2 = whole-is (floatAt l x2Place) (a .x2) (stored .behind x2Place (lit≤ tt) ∙ ap (λ (s : Sides). s .first) x2s) (a-exact .x2) i;
+                  flag = whole-is (floatAt l flagPlace) (a .flag) (stored .behind flagPlace (lit≤ tt) ∙ ap (λ (s : Sides). s .first) flags) (a-exact .flag) i;
                   sections = stored .first i;
                 };
             second =
                 λ i.
                 record {
-                  x1 = whole-is (floatAt l 81) (b .x1) (stored .behind 81 (lit≤ tt) ∙ ap (λ (s : Sides). s .second) x1s) (b-exact .x1) i;
-                  x2 = whole-is (floatAt l 83) (b .x2) (stored .behind 83 (lit≤ tt) ∙ ap (λ (s : Sides). s .second) x2s) (b-exact .x2) i;
-                  flag = whole-is (floatAt l 85) (b .flag) (stored .behind 85 (lit≤ tt) ∙ ap (λ (s : Sides). s .second) flags) (b-exact .flag) i;
+                  x1 = whole-is (floatAt l (x1Place + 1)) (b .x1) (stored .behind (x1Place + 1) (lit≤ tt) ∙ ap (λ (s : Sides). s .second) x1s) (b-exact .x1) i;
+                  x2 = whole-is (floatAt l (x2Place + 1)) (b .x2) (stored .behind (x2Place + 1) (lit≤ tt) ∙ ap (λ (s : Sides). s .second) x2s) (b-exact .x2) i;
+                  flag = whole-is (floatAt l (flagPlace + 1)) (b .flag) (stored .behind (flagPlace + 1) (lit≤ tt) ∙ ap (λ (s : Sides). s .second) flags) (b-exact .flag) i;
                   sections = stored .second i;
                 };
           }

@@ -1,34 +1,23 @@
 -- Sections stored one by one, one on each side.
-use mathlib.Core.Path.{_≡_, refl, ap, _∙_}
+use mathlib.Core.Path.{_≡_, ap, _∙_}
 use mathlib.Core.List.{List}
 use Prim.Native.Nat.{ℕ, _+_, _*_, _≤_, _<_}
-use native.Mathlib.Nat.{le-trans}
 use native.Mathlib.Omega.{arith}
-use lib.Dec.{lit≤}
-use lib.IntN.{ℤ}
-use mathlib.Core.Bool.{true}
 use lib.ListN.{length, getD}
 use lib.Ieee.{Float}
 use borrow.Author.Count.{below-more}
-use Rattle.words.specs.Words.{isWord}
-use Rattle.words.proofs.Laws.{word-size}
 use Rattle.bands.specs.Bands.{bandCount}
-use Rattle.floats.specs.Whole.{float}
 use Rattle.unit.specs.declared.BandSection.{BandSection}
 use Rattle.unit.specs.Cleared.{clearedBandSection}
 use Rattle.unit.specs.Fit.{SectionFit}
 use Rattle.engine.specs.Floats.{floatAt, WholeFloats, floatSection, bandSectionIn}
 use Rattle.engine.specs.Layout.{sectionFloats, pairFloats, firstSide, secondSide, putSection, sectionAtSide}
 use Rattle.engine.proofs.Carry.{section-back}
-use Rattle.engine.proofs.Store.{IsWhole, float-whole, section-whole, both-length, both-away, both-first, both-second, both-other}
+use Rattle.engine.proofs.Store.{fit-whole, section-whole, both-length, both-away, both-first, both-second, both-other}
 
 -- the floats of a fit section are whole
-word-whole : (z : ℤ) → isWord z ≡ true → IsWhole (float z)
-word-whole z w = float-whole (float z) z refl (le-trans (word-size z w) (lit≤ tt))
-
 put-whole : (l : List Float) (at : ℕ) (s : BandSection) → SectionFit s → WholeFloats l → WholeFloats (putSection l at (floatSection s))
-put-whole l at s f w =
-    section-whole l at (floatSection s) w (word-whole (s .y1) (f .y1)) (word-whole (s .y2) (f .y2)) (word-whole (s .gain .present) (f .present)) (word-whole (s .gain .target) (f .target))
+put-whole l at s f w = section-whole l at (floatSection s) w (fit-whole s f)
 
 -- the sections below n are stored, and what stands behind the sections is as it was in l
 pub record Filled (l : List Float) (a b : List BandSection) (n : ℕ) (m : List Float) : Type 0 where

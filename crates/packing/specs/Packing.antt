@@ -79,6 +79,7 @@ pub record SectionOfAsks (section : FloatSection) : Type 0 where
   pub y1-carries : Carries (section .y1) wordSize
   pub y2-carries : Carries (section .y2) wordSize
   pub gain-carries : LevelCarries (section .gain)
+  pub remainder-carries : Carries (section .remainder) wordSize
 
 -- the floats of a pair with a fit channel on that side
 pub record ChannelOfAsks (l : List Float) (side : ℕ) : Type 0 where

@@ -118,6 +118,7 @@ fn section_floats(section: BandSection) -> FloatSection
         y1: float_of(section.y1),
         y2: float_of(section.y2),
         gain,
+        remainder: float_of(section.remainder),
     }
 }
 
@@ -153,6 +154,7 @@ pub fn channel_of(pair: &[f64], side: usize) -> Channel
         y1: 0,
         y2: 0,
         gain: zero,
+        remainder: 0,
     };
     let mut sections = [empty; bands::BAND_COUNT];
     let mut b = 0;
@@ -183,6 +185,7 @@ fn section_of(section: FloatSection) -> BandSection
         y1: whole_of(section.y1),
         y2: whole_of(section.y2),
         gain,
+        remainder: whole_of(section.remainder),
     }
 }
 

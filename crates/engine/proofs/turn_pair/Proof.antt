@@ -72,15 +72,15 @@ returns c = (
     s : lts.Start (band-at-reads.Asked, band-at-reads.Learnt, section-at-reads.Asked, section-at-reads.Learnt, turn-reads.Asked, turn-reads.Learnt, put-section-reads.Asked, put-section-reads.Learnt) reads.Pre reads.Post
     s = c .before .before .before .before .before .before .before .before .before .before .before .before .before .before .before .before .before .before .before .before .before .before .before
 
-    first-is : c .before .before .before .before .before .before .before .before .before .before .before .before .before .before .before .before .turn .result ≡ firstTurned (now (s .args .bands)) (now (s .args .pair)) (s .args .b) (s .args .d) (s .args .tallies)
+    first-is : c .before .before .before .before .before .before .before .before .before .before .before .before .before .before .before .before .turn .result ≡ firstTurned (s .args .feeds) (now (s .args .bands)) (now (s .args .pair)) (s .args .b) (s .args .d) (s .args .tallies)
     first-is =
         c .before .before .before .before .before .before .before .before .before .before .before .before .before .before .before .before .turn .ensures
-        ∙ ap₂ (λ (k : FloatBand) (h : FloatSection). turned k h (s .args .d .first) (s .args .tallies .first)) (c .before .before .before .before .before .before .before .before .before .before .before .before .before .before .before .before .before .before .before .band-at .ensures) (c .before .before .before .before .before .before .before .before .before .before .before .before .before .before .before .before .before .section-at .ensures)
+        ∙ ap₂ (λ (k : FloatBand) (h : FloatSection). turned (s .args .feeds) k h (s .args .d .first) (s .args .tallies .first)) (c .before .before .before .before .before .before .before .before .before .before .before .before .before .before .before .before .before .before .before .band-at .ensures) (c .before .before .before .before .before .before .before .before .before .before .before .before .before .before .before .before .before .section-at .ensures)
 
-    second-is : c .before .before .before .before .before .before .before .before .before .before .before .before .turn2 .result ≡ secondTurned (now (s .args .bands)) (now (s .args .pair)) (s .args .b) (s .args .d) (s .args .tallies)
+    second-is : c .before .before .before .before .before .before .before .before .before .before .before .before .turn2 .result ≡ secondTurned (s .args .feeds) (now (s .args .bands)) (now (s .args .pair)) (s .args .b) (s .args .d) (s .args .tallies)
     second-is =
         c .before .before .before .before .before .before .before .before .before .before .before .before .turn2 .ensures
-        ∙ ap₂ (λ (k : FloatBand) (h : FloatSection). turned k h (s .args .d .second) (s .args .tallies .second)) (c .before .before .before .before .before .before .before .before .before .before .before .before .before .before .before .band-at2 .ensures) (c .before .before .before .before .before .before .before .before .before .before .before .before .before .section-at2 .ensures)
+        ∙ ap₂ (λ (k : FloatBand) (h : FloatSection). turned (s .args .feeds) k h (s .args .d .second) (s .args .tallies .second)) (c .before .before .before .before .before .before .before .before .before .before .before .before .before .before .before .band-at2 .ensures) (c .before .before .before .before .before .before .before .before .before .before .before .before .before .section-at2 .ensures)
 
 pub turn-pair-spec : {M : Type 1} → statement M
 turn-pair-spec =

@@ -1,20 +1,14 @@
 -- `lent_fitness::channel_fits` meets its contract: its four tests are those of the definition, of numbers behind the channel's start.
-use mathlib.Core.Path.{refl, sym, ap, _∙_}
-use mathlib.Core.List.{List}
-use Prim.Native.Nat.{_+_, _*_}
+use mathlib.Core.Path.{refl, ap, _∙_}
+use Prim.Native.Nat.{_+_}
 use native.Mathlib.Omega.{arith}
-use lib.IntN.{ℤ, pos}
-use lib.ListN.{getD, take, drop, length-drop}
-use lib.Seq.{drop-drop}
+use lib.IntN.{pos}
+use lib.ListN.{getD}
 use denote.Ref.{now}
 use mir.Syntax.{w32}
 use Rattle.integers.proofs.Machine.{test-back}
-use Rattle.lists.specs.Lists.{every}
 use Rattle.lists.proofs.Parts.{behind}
-use Rattle.words.specs.Words.{isWord}
-use Rattle.bands.specs.Bands.{bandCount}
 use Rattle.unit.specs.Fit.{isInput, isFlag}
-use Rattle.numbers.specs.Layout.{headSize, sectionSize}
 use Rattle.lent_fitness.proofs.Laws.{in-row, sections-fit}
 use borrow.Author.Needs.{needs}
 use Rattle.lent_fitness.proofs.channel_fits.Statement.{statement}
@@ -31,9 +25,7 @@ returns c =
     let flag = test-back isFlag w32 (getD l (start + 2) (pos 0)) (omega arith) (c .before .in-range-i32 .ensures) in
     in-row (x1 ∙ ap isInput (behind (pos 0) l start 0 start (omega arith))) (x2 ∙ ap isInput (behind (pos 0) l start 1 (start + 1) refl))
     (flag ∙ ap isFlag (behind (pos 0) l start 2 (start + 2) refl))
-    (c .are-words .ensures
-    ∙ ap (λ (m : List ℤ). every isWord (take (sectionSize * bandCount) m)) (sym (drop-drop headSize start l))
-    ∙ sections-fit (drop start l) (omega (arith, length-drop start l)))
+    (c .sections-fit .ensures)
 
 pub channel-fits-spec : {M : Type 1} → statement M
 channel-fits-spec =
@@ -50,6 +42,5 @@ channel-fits-spec =
     (λ c. search needs)
     (λ c. search needs)
     (λ c κs. search needs)
-    (λ c. search needs)
     (λ c κs. search needs)
     returns)

@@ -13,6 +13,7 @@ use Rattle.refusals.proofs.Laws.{passed, failed}
 use Rattle.unit.specs.Sizes.{channelCount}
 use Rattle.settings.specs.Settings.{bothSides, names}
 use Rattle.settings.proofs.Laws.{own-side}
+use Rattle.numbers.specs.Layout.{headSize, sectionSize, channelSize, leftPlace}
 use Rattle.lent_orders.specs.Places.{targetPlace}
 use borrow.Author.Needs.{needs}
 use Rattle.lent_orders.proofs.aim_named.Statement.{statement}
@@ -31,7 +32,7 @@ returns c =
 returns-2 : tie.Need-returns-2
 returns-2 c =
     let args = c .before .args in
-    let here : 32 + 43 * args .channel + 4 * args .band + 3 + 3 ≡ targetPlace (args .channel) (args .band) = omega arith in
+    let here : leftPlace + channelSize * args .channel + sectionSize * args .band + headSize + 3 ≡ targetPlace (args .channel) (args .band) = omega arith in
     ap₂ (set (now (args .numbers))) here (toZ-ofZ {w = w32} (c .before .fits .target))
     ∙ passed (names (args .side) (args .channel)) _ _ (names-is (args .side) (args .channel) (c .before .pre .1) ∙ not-false _ (c .if1 .left))
 

@@ -1,18 +1,20 @@
--- `numbers::put_section` meets its contract: four stores, one behind the other.
+-- `numbers::put_section` meets its contract: five stores, one behind the other.
 use Prim.Native.Nat.{_≤_}
+use native.Mathlib.Omega.{arith}
 use lib.IntN.{natAbs}
 use denote.Ref.{now}
 use Rattle.words.specs.Words.{wordSize}
 use Rattle.words.proofs.Laws.{word-size, narrow-need, narrow-reads}
 use Rattle.unit.specs.Fit.{SectionFit}
-use Rattle.numbers.proofs.Put.{put-four}
+use Rattle.unit.proofs.Ranges.{remainder-size}
+use Rattle.numbers.proofs.Put.{put-five}
 use borrow.Author.Needs.{needs}
 use Rattle.numbers.proofs.put_section.Statement.{statement}
 use Rattle.numbers.proofs.put_section.Tie as tie
 use Rattle.numbers.proofs.put_section.Reads as reads
 use Rattle.numbers.proofs.put_section.Lts as lts
 
--- ---- the section's numbers are words
+-- ---- the section's numbers are no larger than a word
 
 module _ (s : lts.Start reads.Pre reads.Post) where
   abbrev fit : SectionFit (s .args .section)
@@ -30,8 +32,11 @@ module _ (s : lts.Start reads.Pre reads.Post) where
   target-size : natAbs (s .args .section .gain .target) ≤ wordSize
   target-size = word-size (s .args .section .gain .target) (fit .target)
 
-abbrev start : lts.After-struct-told4 reads.Pre reads.Post → lts.Start reads.Pre reads.Post
-start c = c .before .before .before .before .before .before .before .before
+  the-remainder-size : natAbs (s .args .section .remainder) ≤ wordSize
+  the-remainder-size = omega (arith, remainder-size (s .args .section .remainder) (fit .remainder))
+
+abbrev start : lts.After-struct-told5 reads.Pre reads.Post → lts.Start reads.Pre reads.Post
+start c = c .before .before .before .before .before .before .before .before .before .before
 
 -- ---- the needs
 
@@ -45,15 +50,21 @@ cast-present : tie.Need-cast-present
 cast-present c = narrow-need (c .before .before .before .before .before .before .args .section .gain .present) (present-size (c .before .before .before .before .before .before))
 
 cast-target : tie.Need-cast-target
-cast-target c = narrow-need (start c .args .section .gain .target) (target-size (start c))
+cast-target c =
+    let s = c .before .before .before .before .before .before .before .before in
+    narrow-need (s .args .section .gain .target) (target-size s)
+
+cast-remainder : tie.Need-cast-remainder
+cast-remainder c = narrow-need (start c .args .section .remainder) (the-remainder-size (start c))
 
 returns : tie.Need-returns
 returns c =
-    put-four (now (start c .args .out)) (start c .args .at) (start c .pre .0) (start c .pre .1)
+    put-five (now (start c .args .out)) (start c .args .at) (start c .pre .0) (start c .pre .1)
     (narrow-reads (start c .args .section .y1) (y1-size (start c)))
     (narrow-reads (start c .args .section .y2) (y2-size (start c)))
     (narrow-reads (start c .args .section .gain .present) (present-size (start c)))
     (narrow-reads (start c .args .section .gain .target) (target-size (start c)))
+    (narrow-reads (start c .args .section .remainder) (the-remainder-size (start c)))
 
 pub put-section-spec : {M : Type 1} → statement M
 put-section-spec =
@@ -63,6 +74,10 @@ put-section-spec =
     cast-y2
     cast-present
     cast-target
+    cast-remainder
+    (λ c. search needs)
+    (λ c. search needs)
+    (λ c. search needs)
     (λ c. search needs)
     (λ c. search needs)
     (λ c. search needs)

@@ -17,7 +17,7 @@ use Rattle.numbers.proofs.put_sections.Statement.{statement}
 use Rattle.numbers.proofs.put_sections.Tie as tie
 
 abbrev Inv-loop : tie.InvT-loop
-Inv-loop out₀ start sections b₀ out b = (b ≤ bandCount) × PutGives out₀ start (joined sectionNumbers (take b sections)) (start + 4 * b) out
+Inv-loop out₀ start sections b₀ out b = (b ≤ bandCount) × PutGives out₀ start (joined sectionNumbers (take b sections)) (start + sectionSize * b) out
 
 abbrev μ-loop : tie.MeasureT-loop
 μ-loop out₀ start sections b₀ out b = bandCount - b
@@ -25,7 +25,7 @@ abbrev μ-loop : tie.MeasureT-loop
 loop-holds : tie.Need-loop-holds Inv-loop μ-loop
 loop-holds c = (search needs, subst (λ (n : ℕ). PutGives (now (c .args .out)) (c .args .start) [] n (now (c .args .out))) none (put-none (now (c .args .out)) (c .args .start) (c .pre .0)))
   where
-    none : c .args .start ≡ c .args .start + 4 * 0
+    none : c .args .start ≡ c .args .start + sectionSize * 0
     none = omega arith
 
 put-section-requires : tie.Need-put-section-requires Inv-loop μ-loop
@@ -39,7 +39,7 @@ loop-again : tie.Need-loop-again Inv-loop μ-loop
 loop-again c = (
   search needs,
   put-entry sectionNumbers (c .before .before .before .before .before .args .t3) clearedBandSection (c .before .before .before .before .loop .b) (omega arith) (c .before .before .before .before .loop .inv .1) (c .put-section .ensures)
-      (c .before .before .before .before .before .args .start + 4 * (c .before .before .before .before .loop .b + 1)) (omega arith),
+      (c .before .before .before .before .before .args .start + sectionSize * (c .before .before .before .before .loop .b + 1)) (omega arith),
 )
 
 returns : tie.Need-returns Inv-loop μ-loop

@@ -15,6 +15,7 @@ use Rattle.words.specs.Words.{wordSize}
 use Rattle.unit.specs.declared.Channel.{Channel}
 use Rattle.unit.specs.Fit.{ChannelFit}
 use Rattle.unit.proofs.Ranges.{input-size, flag-size}
+use Rattle.engine.specs.Layout.{x1Place}
 use Rattle.packing.specs.Packing.{floatSides, putThree, PutSectionsAsks, PutSectionsGives}
 use Rattle.packing.proofs.Heads.{Exact, zeros, heads, heads-size, heads-whole, channels}
 use Rattle.packing.proofs.pair_floats.Statement.{statement}
@@ -83,7 +84,7 @@ module _ (p : lts.After-put-three (sides-of-reads.Asked, sides-of-reads.Learnt, 
   heads-are =
       p .put-three .ensures
       ∙ (λ i.
-      putThree (zeros first second) 80
+      putThree (zeros first second) x1Place
       ((p .before .before .before .before .before .before .before .sides-of .ensures ∙ (λ j. floatSides (kept (first .x1) (x1-size first (s .pre .first-fit)) j) (kept (second .x1) (x1-size second (s .pre .second-fit)) j))) i)
       ((p .before .before .before .before .sides-of2 .ensures ∙ (λ j. floatSides (kept (first .x2) (x2-size first (s .pre .first-fit)) j) (kept (second .x2) (x2-size second (s .pre .second-fit)) j))) i)
       ((p .before .sides-of3 .ensures ∙ (λ j. floatSides (kept (first .flag) (the-flag-size first (s .pre .first-fit)) j) (kept (second .flag) (the-flag-size second (s .pre .second-fit)) j))) i))
