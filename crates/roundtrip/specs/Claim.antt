@@ -1,8 +1,9 @@
 -- The round trip of the strip sheet: docs/SPECIFICATION.md, The strip sheet. Definitions only; `RoundTrip`, at the end, is proved in
 -- proofs/Holds.antt.
 --
--- A written sheet reads back as the same unit, an accepted sheet is written again byte for byte, and "a unit is unfit when no accepted
--- sheet could carry its numbers". It is stated over the letters of the sides; `sideLetters`, L and R, are those of the unit.
+-- A written sheet reads back as the same unit, an accepted sheet of 1,200 bytes is written again byte for byte, and "a unit is unfit when no
+-- accepted sheet could carry its numbers". A sheet of 1,128 bytes "reads as the unit that the longer one with remainders 0 reads as". It is stated
+-- over the letters of the sides; `sideLetters`, L and R, are those of the unit.
 --
 -- What it rests on. `filledPart` (writing/specs/Written.antt) and `sheetRead` (reading/specs/Reading.antt) are what the contracts of
 -- `writing::fill`, `writing::write` and `reading::read` promise, for all inputs. Both are made of one form, the unit's, which gives the text, the
@@ -14,6 +15,7 @@
 use mathlib.Core.Path.{_≡_}
 use mathlib.Core.Bool.{true}
 use mathlib.Core.List.{List}
+use mathlib.Core.Logic.{_⊎_}
 use Prim.Native.Nat.{ℕ, _≤_}
 use lib.ListN.{length}
 use Rattle.refusals.specs.Numbers.{isAccepted}
@@ -21,7 +23,7 @@ use Rattle.refusals.specs.declared.Verdict.the-variants.{Accepted}
 use Rattle.unit.specs.declared.Unit.{Unit}
 use Rattle.unit.specs.Fit.{unitFits}
 use Rattle.unit.specs.Shaped.{Shaped}
-use Rattle.sheet.specs.Sheet.{sideLetters, sheetSize, sheetVerdict, carriedUnit, sheetOf}
+use Rattle.sheet.specs.Sheet.{sideLetters, sheetSize, shortSize, sheetVerdict, carriedUnit, sheetOf, shortSheetOf, PlainUnit}
 use Rattle.writing.specs.Written.{filledPart}
 use Rattle.reading.specs.Reading.{sheetRead}
 
@@ -40,20 +42,29 @@ module _ (letters : List ℕ) where
     pub reads : ReadsAs sheet u
 
   pub record RoundTrip : Type 0 where
-    -- each sheet has the length that is tested, with two sides "1,128 bytes"
+    -- each sheet has the length that is tested, with two sides "1,200 bytes"
     pub length-is : (u : Unit) → Shaped (length letters) u → length (sheetOf letters u) ≡ sheetSize letters
-    pub stereo-size : sheetSize sideLetters ≡ 1128
+    pub stereo-size : sheetSize sideLetters ≡ 1200
     -- a written sheet reads back as the same unit
     pub reads-back : (u : Unit) → Shaped (length letters) u → HasSheet u → ReadsAs (sheetOf letters u) u
     -- the part that the writer hands back, from a buffer with room for it, is such a sheet
     pub part-reads-back : (u : Unit) (room : ℕ) → Shaped (length letters) u → HasSheet u → sheetSize letters ≤ room → ReadsAs (filledPart letters u room) u
-    -- an accepted sheet is written again byte for byte: it reads as a unit, which is fit, and is that unit's sheet
+    -- an accepted sheet reads as a unit, which is fit; it has the length of a sheet, or of a short one
     pub accepted-reads : (bytes : List ℕ) → isAccepted (sheetVerdict letters bytes) ≡ true → ReadsAs bytes (carriedUnit letters bytes)
     pub accepted-shaped : (bytes : List ℕ) (u : Unit) → ReadsAs bytes u → Shaped (length letters) u
     pub accepted-fit : (bytes : List ℕ) (u : Unit) → ReadsAs bytes u → HasSheet u
-    pub written-again : (bytes : List ℕ) (u : Unit) → ReadsAs bytes u → sheetOf letters u ≡ bytes
+    pub accepted-length : (bytes : List ℕ) (u : Unit) → ReadsAs bytes u → (length bytes ≡ sheetSize letters) ⊎ (length bytes ≡ shortSize letters)
+    -- of the length of a sheet it is that unit's sheet: it is written again byte for byte
+    pub written-again : (bytes : List ℕ) (u : Unit) → ReadsAs bytes u → length bytes ≡ sheetSize letters → sheetOf letters u ≡ bytes
     -- so is the part that the writer hands back
-    pub part-again : (bytes : List ℕ) (u : Unit) (room : ℕ) → ReadsAs bytes u → sheetSize letters ≤ room → filledPart letters u room ≡ bytes
+    pub part-again : (bytes : List ℕ) (u : Unit) (room : ℕ) → ReadsAs bytes u → length bytes ≡ sheetSize letters → sheetSize letters ≤ room → filledPart letters u room ≡ bytes
+    -- of the length of a short one it is that unit's short sheet, and the unit's remainders are 0
+    pub short-again : (bytes : List ℕ) (u : Unit) → ReadsAs bytes u → length bytes ≡ shortSize letters → (shortSheetOf letters u ≡ bytes) × PlainUnit u
+    -- a unit whose remainders are 0 is what its short sheet reads as, which the longer one reads as too
+    pub short-reads : (u : Unit) → Shaped (length letters) u → HasSheet u → PlainUnit u → ReadsAs (shortSheetOf letters u) u
+    -- the short sheet of two sides: "A sheet of 1,128 bytes is still read"
+    pub short-length-is : (u : Unit) → Shaped (length letters) u → length (shortSheetOf letters u) ≡ shortSize letters
+    pub short-stereo-size : shortSize sideLetters ≡ 1128
     -- two units that have sheets are equal exactly when the sheets are
     pub same-unit : (u w : Unit) → Shaped (length letters) u → Shaped (length letters) w → HasSheet u → HasSheet w → sheetOf letters u ≡ sheetOf letters w → u ≡ w
     pub same-sheet : (u w : Unit) → u ≡ w → sheetOf letters u ≡ sheetOf letters w
