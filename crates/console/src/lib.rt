@@ -21,7 +21,7 @@ pub fn tell(request: Request, name: &[u8], usage: &[u8], help: &[u8]) {
     match request {
         Request::Plain => {}
         Request::Help => tell_both(usage, help),
-        Request::Version => tell_both(name, b" (Fonddrys) 1.4\n"),
+        Request::Version => tell_both(name, b" (Fonddrys) 1.5\n"),
         Request::Other => say_usage(usage),
     }
 }

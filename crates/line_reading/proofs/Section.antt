@@ -17,7 +17,7 @@ use Rattle.unit.specs.Fit.{isRemainder}
 use Rattle.fields.specs.Fields.{fieldSize, numberIn}
 use Rattle.forms.specs.Line.{fieldVerdict, fieldsVerdict, fieldNumbers}
 use Rattle.sheet.specs.Lines.{rowAt, fifthRange, sectionRanges}
-use Rattle.line_reading.specs.Gives.{ReadGives, FieldsGive, fiveOf, FifthGives, SectionGives}
+use Rattle.line_reading.specs.Gives.{FieldsGive, fiveOf, FifthGives, SectionGives}
 use Rattle.line_reading.proofs.Field.{refusal}
 
 -- ---- the fifth field

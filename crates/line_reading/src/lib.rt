@@ -36,7 +36,15 @@ pub fn read_volume(bytes: &[u8], at: usize, slots: &mut [i32]) -> Verdict
     if !refusals::accepted(front) {
         return front;
     }
-    let middle = read_fields(bytes, at + 1, sheet::VOLUME_FIELDS, 0, words::WORD_MOST, slots, 0);
+    let middle = read_fields(
+        bytes,
+        at + 1,
+        sheet::VOLUME_FIELDS,
+        0,
+        words::WORD_MOST,
+        slots,
+        0,
+    );
     if !refusals::accepted(middle) {
         return middle;
     }
@@ -44,7 +52,13 @@ pub fn read_volume(bytes: &[u8], at: usize, slots: &mut [i32]) -> Verdict
 }
 
 // Reads an S line from place at on, with the remainder or without it, into five slots.
-pub fn read_section(bytes: &[u8], at: usize, fifth: bool, slots: &mut [i32], place: usize) -> Verdict
+pub fn read_section(
+    bytes: &[u8],
+    at: usize,
+    fifth: bool,
+    slots: &mut [i32],
+    place: usize,
+) -> Verdict
     requires { ⌜ (at ≤ length (now bytes)) × (place + rowSize ≤ length (now slots)) ⌝ }
     ensures { λ r. ⌜ FormGives (sectionForm fifth) (sectionRow true) (drop at (now (bytes .entry))) (now (slots .entry)) place r (now (slots .exit)) ⌝ }
 {
@@ -83,7 +97,13 @@ fn read_section_fields(
     if !refusals::accepted(first) {
         return first;
     }
-    read_remainder(bytes, at + REMAINDER_AT, fifth, slots, place + sheet::PLAIN_FIELDS)
+    read_remainder(
+        bytes,
+        at + REMAINDER_AT,
+        fifth,
+        slots,
+        place + sheet::PLAIN_FIELDS,
+    )
 }
 
 // Reads the field of the remainder from place at on. Where the line has none, the remainder is 0.
@@ -95,7 +115,15 @@ fn read_remainder(bytes: &[u8], at: usize, fifth: bool, slots: &mut [i32], place
         slots[place] = 0;
         return Verdict::Accepted;
     }
-    read_fields(bytes, at, 1, unit::REMAINDER_LEAST, unit::REMAINDER_MOST, slots, place)
+    read_fields(
+        bytes,
+        at,
+        1,
+        unit::REMAINDER_LEAST,
+        unit::REMAINDER_MOST,
+        slots,
+        place,
+    )
 }
 
 // Reads a C line from place at on: 8 to 10 stand behind its fields and ahead of its line end.

@@ -28,7 +28,9 @@ pub const SECTION_LINE: usize = fields::FIELD_SIZE * SECTION_FIELDS + 2;
 pub const PLAIN_LINE: usize = fields::FIELD_SIZE * PLAIN_FIELDS + 2;
 
 // The bytes of a side's lines: an L or an R line, and ten S lines, with the remainder in the bands that feed it back. In the short sheet none has it.
-pub const SIDE_LINES: usize = HEAD_LINE + SECTION_LINE * unit::FEEDBACK_COUNT + PLAIN_LINE * (bands::BAND_COUNT - unit::FEEDBACK_COUNT);
+pub const SIDE_LINES: usize = HEAD_LINE
+    + SECTION_LINE * unit::FEEDBACK_COUNT
+    + PLAIN_LINE * (bands::BAND_COUNT - unit::FEEDBACK_COUNT);
 
 pub const SHORT_SIDE_LINES: usize = HEAD_LINE + PLAIN_LINE * bands::BAND_COUNT;
 

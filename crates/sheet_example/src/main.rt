@@ -1,7 +1,7 @@
 // The example of docs/SPECIFICATION.md, Figures to check: ten bands, all 31 Hz. Prints the sheet of the cleared unit, the sheet after the
-// frame (1000, 0), and that one again, of the unit that it is read as. Then three buffers of dots that were lent to `writing::write`, every
-// byte of them: one longer than the sheet, one lent with an unfit unit, and one that is too short. Of what stands behind the part that `write`
-// hands back its contract says nothing.
+// frame (1000, 0), and that one again, of the unit that it is read as; then the sheet of the unit that a short sheet on standard input is read as.
+// Then three buffers of dots that were lent to `writing::write`, every byte of them: one longer than the sheet, one lent with an unfit unit, and
+// one that is too short. Of what stands behind the part that `write` hands back its contract says nothing.
 use levels::Level;
 use unit::Unit;
 
@@ -49,6 +49,7 @@ fn main() {
     let loaded = loading::load(&set);
     let cleared = loaded.unit;
     print_sheets(cleared);
+    print_longer(cleared);
     let mut unfit = cleared;
     let below = Level {
         present: -1,
@@ -78,6 +79,17 @@ fn print_sheets(cleared: Unit) {
     let carried = read.unit;
     let again = writing::write(carried, &mut paper);
     io::write_all(1, again);
+}
+
+// Prints the sheet of the unit that the short sheet on standard input is read as.
+fn print_longer(cleared: Unit) {
+    let mut short = [0u8; sheet::SHORT_SIZE];
+    io::read_full(0, &mut short);
+    let read = reading::read(&short, cleared);
+    let carried = read.unit;
+    let mut paper = [0u8; sheet::SHEET_SIZE];
+    let part = writing::write(carried, &mut paper);
+    io::write_all(1, part);
 }
 
 // Has the unit's sheet written to the buffer, and prints the whole buffer and a line feed.

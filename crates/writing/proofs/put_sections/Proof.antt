@@ -28,8 +28,7 @@ put-section-requires : tie.Need-put-section-requires Inv-loop μ-loop
 put-section-requires c κs =
     let s = c .before .before .before .before .before in
     let l = c .before .before .before .loop in
-    let whole = sections-length true (s .args .t3) (omega arith) in
-    (
+    let whole = sections-length true (s .args .t3) (omega arith) in (
       omega (
         arith,
         onward-room (l .inv) false clearedBandSection (omega arith) (omega arith) (long-kind-at (l .i) (omega arith)) {room = length (now (s .args .out))} (omega (arith, s .pre .0, whole)),
