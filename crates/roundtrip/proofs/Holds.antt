@@ -198,7 +198,7 @@ module _ (letters : List ℕ) where
         written-again = written-again;
         part-again = λ bytes u room reads e h. part-again bytes u reads room e h;
         short-again = short-again;
-        short-reads = short-reads;
+        short-reads = λ u s has plain given. short-reads u s has plain given ∙ sym (sheet-reads u s has given);
         short-length-is = short-length letters;
         short-stereo-size = refl;
         same-unit = λ u w s t p q e.

@@ -60,8 +60,8 @@ module _ (letters : List ℕ) where
     pub part-again : (bytes : List ℕ) (u : Unit) (room : ℕ) → ReadsAs bytes u → length bytes ≡ sheetSize letters → sheetSize letters ≤ room → filledPart letters u room ≡ bytes
     -- of the length of a short one it is that unit's short sheet, and the unit's remainders are 0
     pub short-again : (bytes : List ℕ) (u : Unit) → ReadsAs bytes u → length bytes ≡ shortSize letters → (shortSheetOf letters u ≡ bytes) × PlainUnit u
-    -- a unit whose remainders are 0 is what its short sheet reads as, which the longer one reads as too
-    pub short-reads : (u : Unit) → Shaped (length letters) u → HasSheet u → PlainUnit u → ReadsAs (shortSheetOf letters u) u
+    -- a short sheet "reads as the unit that the longer one with remainders 0 reads as"
+    pub short-reads : (u : Unit) → Shaped (length letters) u → HasSheet u → PlainUnit u → (given : Unit) → sheetRead letters (shortSheetOf letters u) given ≡ sheetRead letters (sheetOf letters u) given
     -- the short sheet of two sides: "A sheet of 1,128 bytes is still read"
     pub short-length-is : (u : Unit) → Shaped (length letters) u → length (shortSheetOf letters u) ≡ shortSize letters
     pub short-stereo-size : shortSize sideLetters ≡ 1128
