@@ -62,7 +62,7 @@ module _ (letters : List ℕ) where
     pub short-again : (bytes : List ℕ) (u : Unit) → ReadsAs bytes u → length bytes ≡ shortSize letters → (shortSheetOf letters u ≡ bytes) × PlainUnit u
     -- a short sheet "reads as the unit that the longer one with remainders 0 reads as"
     pub short-reads : (u : Unit) → Shaped (length letters) u → HasSheet u → PlainUnit u → (given : Unit) → sheetRead letters (shortSheetOf letters u) given ≡ sheetRead letters (sheetOf letters u) given
-    -- the short sheet of two sides: "A sheet of 1,128 bytes is still read"
+    -- a short sheet has the length that is tested, with two sides "1,128 bytes"
     pub short-length-is : (u : Unit) → Shaped (length letters) u → length (shortSheetOf letters u) ≡ shortSize letters
     pub short-stereo-size : shortSize sideLetters ≡ 1128
     -- two units that have sheets are equal exactly when the sheets are
