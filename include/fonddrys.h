@@ -32,17 +32,19 @@ extern "C" {
 #endif
 
 enum {
-    FONDDRYS_BANDS = 10,              /* of a unit; each side has a section for each */
-    FONDDRYS_SET_NUMBERS = 30,        /* of a band set: A, B, G of each band in turn */
-    FONDDRYS_UNIT_NUMBERS = 118,      /* of a unit */
-    FONDDRYS_SHEET_BYTES = 1128,      /* of a strip sheet */
-    FONDDRYS_FRAME_BYTES = 4,         /* left, then right, signed 16 bits each, low byte first */
-    FONDDRYS_WAVE_HEADING_BYTES = 44, /* of a wave file as it is written */
+    FONDDRYS_BANDS = 10,               /* of a unit; each side has a section for each */
+    FONDDRYS_FEEDBACK_BANDS = 4,       /* those from band 0 on that feed their remainder back */
+    FONDDRYS_SET_NUMBERS = 30,         /* of a band set: A, B, G of each band in turn */
+    FONDDRYS_UNIT_NUMBERS = 138,       /* of a unit */
+    FONDDRYS_SHEET_BYTES = 1200,       /* of a strip sheet */
+    FONDDRYS_SHORT_SHEET_BYTES = 1128, /* of one without remainders, which is still read */
+    FONDDRYS_FRAME_BYTES = 4,          /* left, then right, signed 16 bits each, low byte first */
+    FONDDRYS_WAVE_HEADING_BYTES = 44,  /* of a wave file as it is written */
     FONDDRYS_WORD_MIN = -8388608,
     FONDDRYS_WORD_MAX = 8388607,
     FONDDRYS_POSITION_MAX = 31,
-    FONDDRYS_GAIN_SLOPE = 839,        /* how far a gain moves in a frame */
-    FONDDRYS_VOLUME_SLOPE = 419       /* how far the volume does */
+    FONDDRYS_GAIN_SLOPE = 839,         /* how far a gain moves in a frame */
+    FONDDRYS_VOLUME_SLOPE = 419        /* how far the volume does */
 };
 
 /* The side and the band that a level order names. */
@@ -66,7 +68,7 @@ enum {
     FONDDRYS_ALPHA = 8,         /* A isn't from 0 to 8,388,607 */
     FONDDRYS_BETA = 9,          /* B isn't from -4,194,303 to 4,194,303 */
     FONDDRYS_GAMMA = 10,        /* |G| isn't less than 4,194,304 + B */
-    FONDDRYS_SHEET_LENGTH = 11, /* a sheet that isn't 1,128 bytes */
+    FONDDRYS_SHEET_LENGTH = 11, /* a sheet that is neither 1,200 nor 1,128 bytes */
     FONDDRYS_LINE_MARK = 12,    /* wrong letter or line end */
     FONDDRYS_FIELD_FORM = 13,   /* field badly written */
     FONDDRYS_UNFIT = 14,        /* number outside its range, in a sheet or in a unit */
@@ -78,7 +80,7 @@ enum {
 
 /* ---- Units and band sets ------------------------------------------------------------------ */
 
-/* A unit: 118 numbers, in the order below. The library takes the address of the first number,
+/* A unit: 138 numbers, in the order below. The library takes the address of the first number,
  * which is the struct's own. A unit is copied by assignment, holds no pointer, and needs no
  * release. It is fit where each number has its range.
  *
@@ -87,9 +89,11 @@ enum {
  *      2  A, B, G of each of ten bands          an accepted band (8, 9 and 10 above)
  *     32  left: x1, x2                          words, multiples of 256
  *     34  left: flag                            0; 1 from the first time a section limited
- *     35  left: y1, y2, gain, its target,       words
- *         of each of ten sections
- *     75  right: the same 43 numbers as from 32 */
+ *     35  left, of each of ten sections:
+ *         y1, y2, gain, its target,             words
+ *         remainder                             -2,097,152 to 2,097,152 in bands 0 to 3;
+ *                                               0 in bands 4 to 9
+ *     85  right: the same 53 numbers as from 32 */
 typedef struct {
     int32_t numbers[FONDDRYS_UNIT_NUMBERS];
 } fonddrys_unit;
@@ -100,13 +104,14 @@ typedef struct {
 #define FONDDRYS_AT_ALPHA(band) (2 + 3 * (band))
 #define FONDDRYS_AT_BETA(band) (3 + 3 * (band))
 #define FONDDRYS_AT_GAMMA(band) (4 + 3 * (band))
-#define FONDDRYS_AT_X1(side) (32 + 43 * (side))
-#define FONDDRYS_AT_X2(side) (33 + 43 * (side))
-#define FONDDRYS_AT_FLAG(side) (34 + 43 * (side))
-#define FONDDRYS_AT_Y1(side, band) (35 + 43 * (side) + 4 * (band))
-#define FONDDRYS_AT_Y2(side, band) (36 + 43 * (side) + 4 * (band))
-#define FONDDRYS_AT_GAIN(side, band) (37 + 43 * (side) + 4 * (band))
-#define FONDDRYS_AT_GAIN_TARGET(side, band) (38 + 43 * (side) + 4 * (band))
+#define FONDDRYS_AT_X1(side) (32 + 53 * (side))
+#define FONDDRYS_AT_X2(side) (33 + 53 * (side))
+#define FONDDRYS_AT_FLAG(side) (34 + 53 * (side))
+#define FONDDRYS_AT_Y1(side, band) (35 + 53 * (side) + 5 * (band))
+#define FONDDRYS_AT_Y2(side, band) (36 + 53 * (side) + 5 * (band))
+#define FONDDRYS_AT_GAIN(side, band) (37 + 53 * (side) + 5 * (band))
+#define FONDDRYS_AT_GAIN_TARGET(side, band) (38 + 53 * (side) + 5 * (band))
+#define FONDDRYS_AT_REMAINDER(side, band) (39 + 53 * (side) + 5 * (band))
 
 /* 0 for an accepted band, else 8, 9 or 10. */
 uint32_t fonddrys_band_refusal(int32_t alpha, int32_t beta, int32_t gamma);
@@ -146,21 +151,23 @@ uint32_t fonddrys_order_mute(fonddrys_unit *unit, uint32_t side, uint32_t band);
 
 /* Plays a block of frames through the unit. input_count, in bytes, is a multiple of 4, and may be
  * 0; output_count is at least that. As many bytes of output are then the sound; those behind keep
- * their contents. A sound gives the same bytes however it is divided into blocks.
- * Answers 0, or 14, 5, 6. */
+ * their contents. A sound gives the same bytes however it is divided into blocks. The sections of
+ * bands 0 to 3 feed their remainder back: it is added to S in the next frame, and a frame in which
+ * the section limits leaves 0. Answers 0, or 14, 5, 6. */
 uint32_t fonddrys_block(fonddrys_unit *unit, const uint8_t *input, size_t input_count,
                         uint8_t *output, size_t output_count);
 
 /* ---- Strip sheets ------------------------------------------------------------------------- */
 
-/* Writes the unit's sheet to the front of buffer, and gives the count of its bytes, 1,128; those
+/* Writes the unit's sheet to the front of buffer, and gives the count of its bytes, 1,200; those
  * behind keep their contents. From a buffer of fewer bytes (count), or for an unfit unit, it gives
  * 0 and writes nothing. */
 size_t fonddrys_sheet_write(const fonddrys_unit *unit, uint8_t *buffer, size_t count);
 
-/* Reads a sheet of count bytes: unit, whose contents aren't read, is then the one it carries.
- * Answers 0, or 11; then, from the first byte on, 12, 13 or 14; a C line is tested for 8, 9, 10
- * after its three fields, in place of 14 and ahead of its line end. */
+/* Reads a sheet of count bytes, 1,200 or 1,128: unit, whose contents aren't read, is then the one
+ * that it carries. A sheet of 1,128 bytes carries no remainders, and they are 0. Answers 0, or 11;
+ * then, from the first byte on, 12, 13 or 14; a C line is tested for 8, 9, 10 after its three
+ * fields, in place of 14 and ahead of its line end. */
 uint32_t fonddrys_sheet_read(fonddrys_unit *unit, const uint8_t *bytes, size_t count);
 
 /* ---- Wave files --------------------------------------------------------------------------- */
@@ -217,7 +224,8 @@ typedef char fonddrys_step_is_four_numbers[sizeof(fonddrys_step) == 16 ? 1 : -1]
 
 /* Steps the section on x, a word. With S = A * (x - x2) + G * y1 - B * y2, y is S / 2^22, rounded,
  * then limited to a word. The remainder is S less 2^22 times the rounded number, before limiting;
- * the section doesn't keep it. Refusals: 8, 9, 10, then 15 where x, x1, x2, y1 or y2 is no word. */
+ * a section alone doesn't keep it, and feeds none back. Refusals: 8, 9, 10, then 15 where x, x1,
+ * x2, y1 or y2 is no word. */
 fonddrys_step fonddrys_section_step(fonddrys_section *section, int32_t x);
 
 /* ---- The floating preview ----------------------------------------------------------------- */

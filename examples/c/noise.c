@@ -12,7 +12,8 @@
  *   largest    the largest size
  *
  * in units of 2^-22 of a word's unit, so at most 2,097,152 in size; means are rounded to whole
- * numbers, halves to even.
+ * numbers, halves to even. These sections feed nothing back; those of bands 0 to 3 of a unit do:
+ * what rounding takes there is given to the next step.
  *
  * Exit status: 0, or the number of the refusal, with its band: 7, 8, 9, 10. A tail of one to three
  * bytes is 5, after the lines of the whole frames. 64 is wrong use, no frames among it, 74 an input

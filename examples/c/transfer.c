@@ -32,7 +32,7 @@ static const char *const reasons[] = {
     "A of a band outside its range",
     "B of a band outside its range",
     "G of a band outside its range",
-    "a sheet that isn't 1,128 bytes",
+    "a sheet that is neither 1,200 nor 1,128 bytes",
     "wrong letter or line end",
     "field badly written",
     "number outside its range",

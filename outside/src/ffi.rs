@@ -8,6 +8,7 @@ use crate::wave::Read;
 /// The functions as the static library `exports` gives them.
 pub mod raw {
     use crate::reference::Step;
+    use crate::unit::Numbers;
 
     extern "C" {
         pub fn fonddrys_nearest(v: i64, k: u32) -> i64;
@@ -16,20 +17,20 @@ pub mod raw {
         pub fn fonddrys_house_set(words: *mut [i32; 30]);
         pub fn fonddrys_section_step(section: *mut [i32; 7], x: i32) -> Step;
         pub fn fonddrys_level_moved(present: i32, target: i32, slope: u32) -> i32;
-        pub fn fonddrys_load(unit: *mut [i32; 118], set: *const i32, set_len: usize) -> u32;
-        pub fn fonddrys_unit_fit(unit: *const [i32; 118]) -> u32;
+        pub fn fonddrys_load(unit: *mut Numbers, set: *const i32, set_len: usize) -> u32;
+        pub fn fonddrys_unit_fit(unit: *const Numbers) -> u32;
         pub fn fonddrys_block(
-            unit: *mut [i32; 118],
+            unit: *mut Numbers,
             input: *const u8,
             input_len: usize,
             output: *mut u8,
             output_len: usize,
         ) -> u32;
-        pub fn fonddrys_order_position(unit: *mut [i32; 118], side: u32, band: u32, position: u8) -> u32;
-        pub fn fonddrys_order_factor(unit: *mut [i32; 118], side: u32, band: u32, factor: f32) -> u32;
-        pub fn fonddrys_order_mute(unit: *mut [i32; 118], side: u32, band: u32) -> u32;
-        pub fn fonddrys_sheet_write(unit: *const [i32; 118], buffer: *mut u8, buffer_len: usize) -> usize;
-        pub fn fonddrys_sheet_read(unit: *mut [i32; 118], bytes: *const u8, bytes_len: usize) -> u32;
+        pub fn fonddrys_order_position(unit: *mut Numbers, side: u32, band: u32, position: u8) -> u32;
+        pub fn fonddrys_order_factor(unit: *mut Numbers, side: u32, band: u32, factor: f32) -> u32;
+        pub fn fonddrys_order_mute(unit: *mut Numbers, side: u32, band: u32) -> u32;
+        pub fn fonddrys_sheet_write(unit: *const Numbers, buffer: *mut u8, buffer_len: usize) -> usize;
+        pub fn fonddrys_sheet_read(unit: *mut Numbers, bytes: *const u8, bytes_len: usize) -> u32;
         pub fn fonddrys_preview(
             alpha: i32,
             beta: i32,
@@ -81,12 +82,12 @@ pub fn level_moved(present: i32, target: i32, slope: u32) -> i32 {
 }
 
 pub fn load(unit: &mut Numbers, set: &[i32]) -> u32 {
-    // SAFETY: the unit is 118 numbers that nobody else holds; the set is read for its own length.
+    // SAFETY: the unit is 138 numbers that nobody else holds; the set is read for its own length.
     unsafe { raw::fonddrys_load(unit, set.as_ptr(), set.len()) }
 }
 
 pub fn unit_fit(unit: &Numbers) -> u32 {
-    // SAFETY: the pointer is to 118 numbers, which are only read.
+    // SAFETY: the pointer is to 138 numbers, which are only read.
     unsafe { raw::fonddrys_unit_fit(unit) }
 }
 
@@ -99,7 +100,7 @@ pub fn block(unit: &mut Numbers, input: &[u8], output: &mut [u8]) -> u32 {
 
 pub fn order(unit: &mut Numbers, order: &Order) -> u32 {
     let Order { side, band, .. } = *order;
-    // SAFETY: the unit is 118 numbers that nobody else holds; the rest are numbers, and each function is defined for
+    // SAFETY: the unit is 138 numbers that nobody else holds; the rest are numbers, and each function is defined for
     // all of them.
     unsafe {
         match order.setting {
@@ -116,7 +117,7 @@ pub fn sheet_write(unit: &Numbers, buffer: &mut [u8]) -> usize {
 }
 
 pub fn sheet_read(unit: &mut Numbers, bytes: &[u8]) -> u32 {
-    // SAFETY: the unit is 118 numbers that nobody else holds; the bytes are read for their own length.
+    // SAFETY: the unit is 138 numbers that nobody else holds; the bytes are read for their own length.
     unsafe { raw::fonddrys_sheet_read(unit, bytes.as_ptr(), bytes.len()) }
 }
 

@@ -2,6 +2,7 @@
 
 use crate::reference::Section;
 use crate::unit::orders::{FACTOR_NOT_FINITE, FACTOR_OUTSIDE};
+use crate::unit::sheet::FIELD;
 
 /// "S = 2,097,152 gives 0; 2,097,153 gives 1; 6,291,456 gives 2; -2,097,152 gives 0; -6,291,456 gives -2." And "S =
 /// 2,097,152 leaves the remainder 2,097,152; 2,097,153 leaves -2,097,151; 6,291,456 leaves -2,097,152; -2,097,152
@@ -64,6 +65,34 @@ pub const FIRST_TWO: [i32; 6] = [6_606, 4_181_093, 8_375_315, 13_191, 4_167_923,
 pub const RUN_WORDS: [i32; 3] = [256_000, 256_000, 0];
 pub const RUN_RESULTS: [i32; 3] = [403, 1_208, 1_607];
 pub const RUN_REMAINDERS: [i32; 3] = [831_488, -331_287, 1_017_513];
+/// In a unit band 0 feeds its remainder back: 831,488 - 331,287, and 500,201 + 1,017,513. The results are the same.
+pub const RUN_CARRIED: [i32; 3] = [831_488, 500_201, 1_517_714];
+
+/// "31 Hz as band 0 of a cleared unit, x = 256, 256, 0: y = 0, 1, 1; the remainders are 1,691,136, -812,032, 1,677,843.
+/// As band 4: y = 0, 0, 0; the remainders are 0, 0, 0." The samples, and y and the remainder of both bands after each.
+pub const QUIET_RUN: [(i16, [i32; 2], [i32; 2]); 3] =
+    [(1, [0, 1_691_136], [0, 0]), (1, [1, -812_032], [0, 0]), (0, [1, 1_677_843], [0, 0])];
+
+/// A step of a section in a unit: x, y1 and y2, and the remainder before it; whether it limits, y, and the remainder
+/// that it carries on.
+pub type FedStep = ([i32; 3], i32, bool, i32, i32);
+
+/// Steps about the ends of a word and about halves. With this band S is 2^22 × x + 2,097,151 × y1 + y2.
+pub const FED_BAND: [i32; 3] = [4_194_304, -1, 2_097_151];
+pub const FED_STEPS: [FedStep; 12] = [
+    ([8_388_352, 511, 510], 0, false, 8_388_607, 2_097_151),
+    ([8_388_352, 511, 510], 1, true, 8_388_607, 0),
+    ([8_388_352, 511, 510], 2_097_152, true, 8_388_607, 0),
+    ([8_388_352, 511, 510], -2_097_152, false, 8_388_607, -1),
+    ([-8_388_608, -1, -2], 0, true, -8_388_608, 0),
+    ([-8_388_608, -1, -2], 1, false, -8_388_608, -2_097_152),
+    ([-8_388_608, -1, -2], 2_097_152, false, -8_388_608, -1),
+    ([-8_388_608, -1, -2], -2_097_152, true, -8_388_608, 0),
+    ([0, 1, 0], 0, false, 0, 2_097_151),
+    ([0, 1, 0], 1, false, 0, 2_097_152),
+    ([0, 1, 0], 2, false, 1, -2_097_151),
+    ([0, 3, 0], 3, false, 2, -2_097_152),
+];
 
 /// "V = 419, gains 0, s = 32,767: output 2. V = 0: output 0." The volume's target, V after the first move towards it
 /// and the output.
@@ -120,29 +149,35 @@ pub const POSITIONS: [(u8, i32, i32); 6] = [
     (31, 8_380_215, 8_388_600),
 ];
 
-/// A sheet by its lines V, C, L, S, R and S; those of C and S stand ten times each.
-pub type Lines = [&'static str; 6];
+/// A sheet by its lines V and C; L, the S lines of the bands that feed back, and those of the others; R, and its S
+/// lines. C stands ten times, the S lines stand four times and six times.
+pub type Lines = [&'static str; 8];
 
 /// "Ten bands all 31 Hz, cleared."
 pub const CLEARED: Lines = [
     "V        0        0",
     "C     6606  4181093  8375315",
     "L        0        0        0",
+    "S        0        0        0        0        0",
     "S        0        0        0        0",
     "R        0        0        0",
+    "S        0        0        0        0        0",
     "S        0        0        0        0",
 ];
 
-/// "After the play program has taken the frame (1000, 0), bytes 232, 3, 0, 0, the sound is (0, 0), four zero bytes, the
-/// L line `L   256000        0        0`, left S lines `S      403        0        0        0`, the rest as before."
+/// "After `play` has taken the frame (1000, 0), bytes 232, 3, 0, 0, the sound is (0, 0), four zero bytes, the L line is
+/// `L   256000        0        0`, the left S lines are `S      403        0        0        0   831488` in bands 0 to
+/// 3 and `S      403        0        0        0` in bands 4 to 9, the rest is as before."
 pub const FRAME: [u8; 4] = [232, 3, 0, 0];
 pub const PLAYED: Lines = [
     CLEARED[0],
     CLEARED[1],
     "L   256000        0        0",
+    "S      403        0        0        0   831488",
     "S      403        0        0        0",
-    CLEARED[4],
     CLEARED[5],
+    CLEARED[6],
+    CLEARED[7],
 ];
 
 /// The ends of every range.
@@ -150,19 +185,26 @@ pub const ENDS: Lines = [
     "V  8388607        0",
     "C  8388607  4194303 -8388606",
     "L -8388608  8388352        1",
+    "S -8388608  8388607  8388607 -8388608  2097152",
     "S -8388608  8388607  8388607 -8388608",
     "R  8388352 -8388608        0",
+    "S  8388607 -8388608       -1       10 -2097152",
     "S  8388607 -8388608       -1       10",
 ];
 
 /// The bytes of a sheet.
 pub fn sheet(lines: Lines) -> Vec<u8> {
-    let times = [1, 10, 1, 10, 1, 10];
+    let times = [1, 10, 1, 4, 6, 1, 4, 6];
     let text: String = lines.iter().zip(times).map(|(line, times)| format!("{line}\n").repeat(times)).collect();
     text.into_bytes()
 }
 
-/// The sheets that are typed out here.
-pub fn typed_sheets() -> [Vec<u8>; 3] {
-    [CLEARED, PLAYED, ENDS].map(sheet)
+/// The bytes of the short sheet: no line has more than four fields.
+pub fn short_sheet(lines: Lines) -> Vec<u8> {
+    sheet(lines.map(|line| &line[..line.len().min(1 + 4 * FIELD)]))
+}
+
+/// The sheets that are typed out here, and the short ones of them.
+pub fn typed_sheets() -> Vec<Vec<u8>> {
+    [CLEARED, PLAYED, ENDS].into_iter().flat_map(|lines| [sheet(lines), short_sheet(lines)]).collect()
 }

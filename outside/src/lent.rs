@@ -8,7 +8,7 @@ use crate::ffi::{self, raw};
 use crate::reference::{Section, Step};
 use crate::subject::Subject;
 use crate::unit::orders::Order;
-use crate::unit::{house_unit, Numbers};
+use crate::unit::{house_unit, Numbers, UNIT_COUNT};
 use crate::wave::Read;
 use std::cell::Cell;
 use std::hint::black_box;
@@ -38,13 +38,13 @@ const GROUPS: [Group; 16] = [
 ];
 
 /// Sides and bands far away from those that there are.
-const FAR: [(u32, u32); 3] = [(2, 118), (2, 1 << 29), (u32::MAX, u32::MAX)];
+const FAR: [(u32, u32); 3] = [(2, UNIT_COUNT as u32), (2, 1 << 29), (u32::MAX, u32::MAX)];
 
 /// True where every function that takes a pointer leaves what lies around its own numbers and bytes as it was, and what
 /// it only reads too.
 pub fn keeps_to_its_numbers() -> bool {
     let lent = Lent { kept: Cell::new(true), turn: Cell::new(0) };
-    for unit in [house_unit(), [-1; 118]] {
+    for unit in [house_unit(), [-1; UNIT_COUNT]] {
         for (side, band) in FAR {
             let mut orders = vec![Order::mute(side, band)];
             orders.extend([0, 31, 32, 255].map(|position| Order::position(side, band, position)));

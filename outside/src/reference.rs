@@ -133,22 +133,30 @@ pub mod exact {
         a * (i128::from(x) - x2) + g * y1 - b * y2
     }
 
-    /// One step of a section. "y is S / 2^22 rounded, then limited to a word. The section has limited in this step
-    /// exactly when the rounded number was no word. The limited y is the one remembered." The remainder is "S less 2^22
-    /// times the rounded number, before limiting". After a refusal "the section is unchanged."
+    /// What S gives: "y is S / 2^22 rounded, then limited to a word. The section has limited in this step exactly when
+    /// the rounded number was no word." The remainder is "S less 2^22 times the rounded number, before limiting".
+    pub fn worked(sum: i128) -> Step {
+        let rounded = nearest(sum as i64, 22);
+        let remainder = (sum - 4_194_304 * i128::from(rounded)) as i32;
+        let y = limit(rounded, i64::from(WORD_MIN), i64::from(WORD_MAX)) as i32;
+        Step { y, remainder, limited: u32::from(rounded != i64::from(y)), refusal: ACCEPTED }
+    }
+
+    /// "x1 passes to x2 and x to x1, y1 to y2 and y to y1: the limited y is the one remembered."
+    pub fn pass_on(section: &mut Section, x: i32, y: i32) {
+        let [a, b, g, x1, _, y1, _] = *section;
+        *section = [a, b, g, x, x1, y, y1];
+    }
+
+    /// One step of a section alone. After a refusal "the section is unchanged."
     pub fn step(section: &mut Section, x: i32) -> Step {
         let refusal = step_refusal(section, x);
         if refusal != ACCEPTED {
             return Step::refused(refusal);
         }
-        let sum = sum(section, x);
-        let rounded = nearest(sum as i64, 22);
-        let remainder = (sum - 4_194_304 * i128::from(rounded)) as i32;
-        let y = limit(rounded, i64::from(WORD_MIN), i64::from(WORD_MAX)) as i32;
-        let limited = u32::from(rounded != i64::from(y));
-        let [a, b, g, x1, _, y1, _] = *section;
-        *section = [a, b, g, x, x1, y, y1];
-        Step { y, remainder, limited, refusal }
+        let step = worked(sum(section, x));
+        pass_on(section, x, step.y);
+        step
     }
 }
 

@@ -26,9 +26,9 @@ static void check(int line, size_t row, const char *what, int64_t got, int64_t w
     }
 }
 
-/* The cleared unit of ten bands of 31 Hz, but for the volume and its target, x1 on the left, and
- * each y1 on the left. A negative volume makes it unfit. */
-static fonddrys_unit unit_with(int32_t volume, int32_t x1, int32_t y1)
+/* The cleared unit of ten bands of 31 Hz, but for the volume and its target, x1 on the left, and on
+ * the left each y1 and the remainders that are fed back. A negative volume makes it unfit. */
+static fonddrys_unit unit_with(int32_t volume, int32_t x1, int32_t y1, int32_t remainder)
 {
     static const int32_t hz31[3] = {6606, 4181093, 8375315};
     fonddrys_unit unit = {{0}};
@@ -38,6 +38,9 @@ static fonddrys_unit unit_with(int32_t volume, int32_t x1, int32_t y1)
     for (int band = 0; band < FONDDRYS_BANDS; band++) {
         memcpy(unit.numbers + FONDDRYS_AT_ALPHA(band), hz31, sizeof hz31);
         unit.numbers[FONDDRYS_AT_Y1(FONDDRYS_LEFT, band)] = y1;
+    }
+    for (int band = 0; band < FONDDRYS_FEEDBACK_BANDS; band++) {
+        unit.numbers[FONDDRYS_AT_REMAINDER(FONDDRYS_LEFT, band)] = remainder;
     }
     return unit;
 }
@@ -68,8 +71,8 @@ static void test_bands(void)
     CHECK(0, memcmp(house.numbers + FONDDRYS_AT_ALPHA(0), first, sizeof first), 0);
     for (size_t i = 0; i < COUNT(rows); i++) {
         const int32_t *band = rows[i].band;
-        const fonddrys_unit loaded = unit_with(0, 0, 0);
-        fonddrys_unit unit = unit_with(-1, 1, 1);
+        const fonddrys_unit loaded = unit_with(0, 0, 0, 0);
+        fonddrys_unit unit = unit_with(-1, 1, 1, 1);
         int32_t set[31];
         memcpy(set, loaded.numbers + FONDDRYS_AT_ALPHA(0), sizeof set);
         memcpy(set + 27, band, 3 * sizeof band[0]);
@@ -113,9 +116,9 @@ static uint32_t give(const struct order *order, fonddrys_unit *unit)
 static void test_orders(void)
 {
     for (size_t i = 0; i < COUNT(orders); i++) {
-        const fonddrys_unit unfit = unit_with(-1, 0, 0);
+        const fonddrys_unit unfit = unit_with(-1, 0, 0, 1);
         fonddrys_unit refused = unfit;
-        fonddrys_unit unit = unit_with(7, 0, 0);
+        fonddrys_unit unit = unit_with(7, 0, 0, 1);
         unit.numbers[FONDDRYS_AT_GAIN_TARGET(0, 3)] = 7;
         fonddrys_unit want = unit;
         if (orders[i].want == 0) {
@@ -128,7 +131,7 @@ static void test_orders(void)
     }
 }
 
-/* The frame (1000, 0), at half the volume. */
+/* The frame (1000, 0), at half the volume, with a remainder to begin with. */
 static void test_blocks(void)
 {
     static const struct {
@@ -144,13 +147,54 @@ static void test_blocks(void)
     };
     static const uint8_t frame[4] = {232, 3, 0, 0};
     for (size_t i = 0; i < COUNT(rows); i++) {
-        fonddrys_unit unit = unit_with(rows[i].volume, 0, 0);
-        const fonddrys_unit want = rows[i].want == 0 ? unit_with(4194304, 256000, 403) : unit;
+        fonddrys_unit unit = unit_with(rows[i].volume, 0, 0, -1000);
+        const fonddrys_unit want =
+            rows[i].want == 0 ? unit_with(4194304, 256000, 403, 830488) : unit;
         uint8_t output[5] = {165, 165, 165, 165, 165};
         CHECK(i, fonddrys_block(&unit, frame, rows[i].count, output, rows[i].room), rows[i].want);
         SAME(i, output, rows[i].output);
         SAME(i, unit, want);
     }
+}
+
+/* Which remainders a fit unit may have. */
+static void test_remainders(void)
+{
+    static const struct {
+        int band;
+        int32_t remainder;
+        uint32_t want;
+    } rows[] = {
+        {0, -2097152, 1}, {3, 2097152, 1}, {0, -2097153, 0}, {3, 2097153, 0}, {4, 1, 0}, {9, -1, 0},
+    };
+    for (size_t i = 0; i < COUNT(rows); i++) {
+        for (int side = FONDDRYS_LEFT; side <= FONDDRYS_RIGHT; side++) {
+            fonddrys_unit unit = unit_with(0, 0, 0, 0);
+            unit.numbers[FONDDRYS_AT_REMAINDER(side, rows[i].band)] = rows[i].remainder;
+            CHECK(i, fonddrys_unit_fit(&unit), rows[i].want);
+        }
+    }
+}
+
+/* The short sheet of a unit, whose lines end after four fields, reads as it with remainders 0. */
+static void test_short_sheet(void)
+{
+    const fonddrys_unit unit = unit_with(0, 256000, 403, 831488);
+    const fonddrys_unit want = unit_with(0, 256000, 403, 0);
+    fonddrys_unit back = unit_with(-1, 1, 1, 1);
+    uint8_t sheet[FONDDRYS_SHEET_BYTES];
+    size_t column = 0, count = 0;
+    CHECK(0, fonddrys_sheet_write(&unit, sheet, sizeof sheet), FONDDRYS_SHEET_BYTES);
+    for (size_t i = 0; i < sizeof sheet; i++) {
+        const uint8_t byte = sheet[i];
+        if (column < 37 || byte == '\n') {
+            sheet[count++] = byte;
+        }
+        column = byte == '\n' ? 0 : column + 1;
+    }
+    CHECK(0, count, FONDDRYS_SHORT_SHEET_BYTES);
+    CHECK(0, fonddrys_sheet_read(&back, sheet, count), 0);
+    SAME(0, back, want);
 }
 
 /* A sheet is written and read back. Then a text is put over it, and it is refused. */
@@ -161,12 +205,14 @@ static void test_sheets(void)
         const char *text;
         uint32_t want;
     } rows[] = {
-        {0, 1127, "V", 11},          {0, 1128, "W", 12},          {1, 1128, "       00", 13},
-        {1, 1128, "       -1", 14},  {21, 1128, "       -1", 8},  {30, 1128, "  4194304", 9},
-        {39, 1128, "  8375397", 10}, {310, 1129, "L", 11},
+        {0, 1199, "V", 11},           {0, 1200, "W", 12},          {1, 1200, "       00", 13},
+        {1, 1200, "       -1", 14},   {21, 1200, "       -1", 8},  {30, 1200, "  4194304", 9},
+        {39, 1200, "  8375397", 10},  {310, 1201, "L", 11},        {376, 1200, "       -0", 13},
+        {376, 1200, "  2097153", 14}, {0, 1127, "V", 11},          {0, 1128, "V", 12},
+        {0, 1129, "V", 11},
     };
     static const uint8_t blank[FONDDRYS_SHEET_BYTES + 1];
-    const fonddrys_unit unfit = unit_with(-1, 0, 0), unit = unit_with(0, 256000, 403);
+    const fonddrys_unit unfit = unit_with(-1, 0, 0, 0), unit = unit_with(0, 256000, 403, 831488);
     fonddrys_unit back = unfit;
     uint8_t sheet[FONDDRYS_SHEET_BYTES + 1] = {0};
     CHECK(0, fonddrys_sheet_write(&unit, sheet, FONDDRYS_SHEET_BYTES - 1), 0);
@@ -174,6 +220,7 @@ static void test_sheets(void)
     SAME(0, sheet, blank);
     CHECK(0, fonddrys_sheet_write(&unit, sheet, sizeof sheet), FONDDRYS_SHEET_BYTES);
     CHECK(0, memcmp(sheet + 310, "L   256000        0        0\nS      403 ", 40), 0);
+    CHECK(0, memcmp(sheet + 376, "   831488\nS", 11), 0);
     CHECK(0, sheet[FONDDRYS_SHEET_BYTES], 0);
     CHECK(0, fonddrys_sheet_read(&back, sheet, FONDDRYS_SHEET_BYTES), 0);
     SAME(0, back, unit);
@@ -295,6 +342,8 @@ int main(void)
     test_bands();
     test_orders();
     test_blocks();
+    test_remainders();
+    test_short_sheet();
     test_sheets();
     test_waves();
     test_section();

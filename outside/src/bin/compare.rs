@@ -7,7 +7,7 @@ use outside::checks::groups::*;
 use outside::checks::report::report;
 use outside::checks::{Difference, Tally};
 use outside::exact_sound::judge::Distances;
-use outside::faults::{Wrong, RIGHT, WRONG};
+use outside::faults::{Wrong, RIGHT, RIGHT_FED, WRONG};
 use outside::flushed::{self, CARRIED, FLUSHED};
 use outside::lent;
 use outside::subject::{Form, FAST, LIBRARY};
@@ -90,12 +90,13 @@ fn sound_of(tally: &Tally) -> String {
 
 /// Lists that stay far within the bound would pass a wrong sound too.
 fn near_the_bound(distances: &Distances) -> Result<(), Difference> {
-    let Distances { largest, largest_of_sections, judged, .. } = distances;
+    let Distances { largest, largest_of_sections, largest_of_fed, judged, .. } = distances;
     println!(
         "  largest distance {largest:.6} of the bound over {judged} samples, \
-         {largest_of_sections:.6} where the part of the sections is most of it"
+         {largest_of_sections:.6} where the part of the sections is most of it, \
+         {largest_of_fed:.6} where that of the sections that feed back is"
     );
-    if largest.min(*largest_of_sections) < NEAR {
+    if largest.min(*largest_of_sections).min(*largest_of_fed) < NEAR {
         return Err(format!("no distance came to {NEAR} of the bound"));
     }
     Ok(())
@@ -104,9 +105,12 @@ fn near_the_bound(distances: &Distances) -> Result<(), Difference> {
 /// Every wrong implementation, and what they have in common: this must be right, or they would be found for something
 /// else than what is wrong in them.
 fn every_wrong_one() -> Result<(), Difference> {
-    let readers = [WAVES, WAVE_CASES, DAMAGED_WAVES, HUGE_WAVES];
-    for group in [LISTS, CORNERS, REFUSED, FITNESS, BLOCKS, FRAMES, CUTS, REFUSED_BLOCKS].into_iter().chain(readers) {
-        run(&group, &RIGHT).map_err(|difference| format!("nothing wrong, {difference}"))?;
+    let units = [FITNESS, BLOCKS, FRAMES, CUTS, REFUSED_BLOCKS];
+    let others = [LISTS, CORNERS, REFUSED, WAVES, WAVE_CASES, DAMAGED_WAVES, HUGE_WAVES];
+    for (form, groups) in [(RIGHT, &others[..]), (RIGHT, &units), (RIGHT_FED, &[BLOCKS, FRAMES])] {
+        for group in groups {
+            run(group, &form).map_err(|difference| format!("nothing wrong, {difference}"))?;
+        }
     }
     WRONG.iter().try_for_each(find)?;
     let found = run(&ONE_STEP, &FAST)?.answers;

@@ -101,17 +101,25 @@ fn fractions(run: &mut Run) -> Checked {
     run.same(true, close, inputs)
 }
 
-/// H after so many frames: with B = 0 the sum of |G / 2^22|^k, and one with a B by hand: 1 + |3/2| + |9/4 - 1/2|.
+/// H after so many frames, in quarters, of band 4 and of band 3, which feeds its remainder back. With B = 0, h(k) is (G
+/// / 2^22)^k, so H is 1 + 1/2 + 1/4 and for the other band 1 + |1/2 - 1| + |1/4 - 1/2|; with a minus 1 + |-1/2 - 1| +
+/// |1/4 + 1/2|. The last has h = 1, -3/2, 9/4 - 1/2.
 fn responses(run: &mut Run) -> Checked {
-    let figures =
-        [(0, 1 << 21, [4, 6, 7]), (0, -(1 << 21), [4, 6, 7]), (0, 0, [4, 4, 4]), (1 << 21, -3 << 21, [4, 10, 17])];
+    let figures = [
+        (0, 1 << 21, [[4, 6, 7], [4, 6, 7]]),
+        (0, -(1 << 21), [[4, 6, 7], [4, 10, 13]]),
+        (0, 0, [[4, 4, 4], [4, 8, 8]]),
+        (1 << 21, -3 << 21, [[4, 10, 17], [4, 14, 27]]),
+    ];
     for (b, g, quarters) in figures {
         let mut responses = Responses::new(&std::array::from_fn(|n| [1, b, g][n % 3]));
-        for quarter in quarters {
+        for frame in 0..3 {
             responses.grow();
-            let got = responses.weighted(&[4, 0, 0, 0, 0, 0, 0, 0, 0, 0]);
-            let equal = got.compared_with(&Fraction::whole(quarter)).is_eq();
-            run.same(true, equal, || format!("H of B = {b}, G = {g}"))?;
+            for (band, quarters) in [4, 3].into_iter().zip(quarters) {
+                let got = responses.weighted(&std::array::from_fn(|n| if n == band { 4 } else { 0 }));
+                let equal = got.compared_with(&Fraction::whole(quarters[frame])).is_eq();
+                run.same(true, equal, || format!("H of B = {b}, G = {g} in band {band}"))?;
+            }
         }
     }
     Ok(())

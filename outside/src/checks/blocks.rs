@@ -5,10 +5,10 @@
 use super::bands::slow_accepted;
 use super::run::{marks, Checked, Run};
 use super::sounds::{Sound, SOUNDS};
-use super::units::{half_unit, random_fit, strips};
+use super::units::{half_unit, random_fit, set_gain, strips};
 use crate::random::Random;
 use crate::reference::{ACCEPTED, WORD_MAX, WORD_MIN};
-use crate::unit::{cleared, house_unit, Numbers, BANDS, LEFT, OUTPUT_TOO_SHORT, PART_OF_A_FRAME};
+use crate::unit::{cleared, house_unit, Numbers, BANDS, GAIN, LEFT, OUTPUT_TOO_SHORT, PART_OF_A_FRAME};
 
 /// One block with a few bytes of room behind it.
 fn block(run: &mut Run, numbers: &mut Numbers, sound: Sound, frames: usize) -> Checked {
@@ -20,7 +20,7 @@ fn block(run: &mut Run, numbers: &mut Numbers, sound: Sound, frames: usize) -> C
 /// Sets every target anew.
 fn new_targets(run: &mut Run, numbers: &mut Numbers) {
     numbers[1] = run.random.between(0, WORD_MAX);
-    strips(numbers).for_each(|strip| strip[3] = run.random.word());
+    strips(numbers).for_each(|strip| strip[GAIN + 1] = run.random.word());
 }
 
 /// A long sound of twenty blocks, the targets set anew before each.
@@ -36,7 +36,7 @@ fn long_sound(run: &mut Run, numbers: &mut Numbers) -> Checked {
 fn loud(run: &mut Run, set: &[i32; 30], [gain, volume]: [i32; 2], sound: Sound) -> Checked {
     let mut numbers = cleared(set);
     numbers[..2].fill(volume);
-    strips(&mut numbers).for_each(|strip| strip[2..].fill(gain));
+    strips(&mut numbers).for_each(|strip| set_gain(strip, [gain; 2]));
     block(run, &mut numbers, sound, 1_000)?;
     block(run, &mut numbers, Sound::Silence, 500)
 }
@@ -116,7 +116,7 @@ fn sizes_of_every_kind(run: &mut Run, start: &Numbers) -> Checked {
     sizes(run, &limiting, Sound::Ends)?;
     let mut moving = *start;
     moving[..2].copy_from_slice(&[WORD_MAX, 0]);
-    strips(&mut moving).for_each(|strip| strip[2..].copy_from_slice(&[WORD_MIN, WORD_MAX]));
+    strips(&mut moving).for_each(|strip| set_gain(strip, [WORD_MIN, WORD_MAX]));
     sizes(run, &moving, Sound::Noise)?;
     let mut ringing = *start;
     ringing[..2].fill(WORD_MAX);

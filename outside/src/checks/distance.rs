@@ -10,6 +10,7 @@ use crate::calls::{Call, List};
 use crate::exact_sound::judge::judge;
 use crate::reference::house_set;
 use crate::subject::Subject;
+use crate::unit::UNIT_COUNT;
 use std::sync::atomic::{AtomicUsize, Ordering};
 use std::thread;
 
@@ -17,7 +18,7 @@ const THREADS: usize = 2;
 
 /// The outputs that a subject's blocks handed back, refused ones too.
 fn played(subject: &dyn Subject, list: &List) -> Vec<Vec<u8>> {
-    let mut numbers = [0; 118];
+    let mut numbers = [0; UNIT_COUNT];
     subject.load(&mut numbers, &list.set);
     let mut outputs = Vec::new();
     for call in &list.calls {

@@ -5,6 +5,8 @@ use super::makers::Maker;
 use super::sounds::Sound;
 use crate::calls::{Call, List};
 use crate::reference::house_set;
+use crate::unit::exact::{fed_step, increased};
+use crate::unit::feeds_back;
 use crate::unit::orders::{Order, VOLUME_BAND};
 
 /// Without memory, so that H stays 1 and the numbers stay short.
@@ -21,9 +23,19 @@ const CLINGING: [Band; 4] = [
     [2_097_152, 0, -4_194_303],
 ];
 
+/// Bands for steered lists, and the frames in which most of their response is heard: with A = 1 a sample can bring S to
+/// any place between two multiples of 2^22. One has the poles of the house set's 31 Hz, and the other's response
+/// changes its sign in every step.
+const STEERED: [(Band, usize); 2] = [([1, 4_181_093, 8_375_315], 2_000), ([1, 0, -4_185_915], 1_500)];
+
 /// Ten bands alike.
 fn alike(band: Band) -> [i32; 30] {
     std::array::from_fn(|n| band[n % 3])
+}
+
+/// Bands alike where they feed back, and silence in the others.
+fn fed_alike(band: Band) -> [i32; 30] {
+    std::array::from_fn(|n| if feeds_back(n / 3) { band[n % 3] } else { 0 })
 }
 
 /// Orders that send every gain to one factor and the volume to its highest.
@@ -50,6 +62,47 @@ fn clinging(band: Band, first: i16, frames: usize) -> List {
     let mut calls = levels(0.999);
     calls.push(held(first, second, frames));
     let set = alike(band);
+    List { set, calls }
+}
+
+/// The signs of h(k) - h(k-1), the last first: those of the remainders that add up in the last of so many frames.
+fn steering_signs([_, b, g]: Band, frames: usize) -> Vec<i64> {
+    let [b, g] = [b, g].map(|word| f64::from(word) / 4_194_304.0);
+    let (mut next, mut last) = (1.0, 0.0);
+    let mut sign = || {
+        let sign = if next < last { -1 } else { 1 };
+        (next, last) = (g * next - b * last, next);
+        sign
+    };
+    let mut signs: Vec<i64> = (0..frames).map(|_| sign()).collect();
+    signs.reverse();
+    signs
+}
+
+/// The samples with which each remainder of a band that feeds back is nearly a half, with these signs.
+fn steered_samples([a, b, g]: Band, signs: &[i64]) -> Vec<i16> {
+    let (mut section, mut remainder, mut samples) = ([a, b, g, 0, 0, 0, 0], 0, Vec::new());
+    for sign in signs {
+        // S with x = 0, and how many steps of 256 there are from it to just below the half.
+        let sum = increased(&section, 0, remainder, 0) as i64;
+        let steps = (sign * (2_097_152 - 256) - sum).div_euclid(256).rem_euclid(16_384);
+        let sample = if steps < 8_192 { steps } else { steps - 16_384 } as i16;
+        fed_step(&mut section, 0, &mut remainder, 256 * i32::from(sample));
+        samples.push(sample);
+    }
+    samples
+}
+
+/// Levels risen in silence, and then samples that bring every remainder to a half, so that all of them add up in the
+/// last frame; on the right with the signs turned.
+fn steered(band: Band, frames: usize) -> List {
+    let signs = steering_signs(band, frames);
+    let left = steered_samples(band, &signs);
+    let right = steered_samples(band, &signs.iter().map(|sign| -sign).collect::<Vec<i64>>());
+    let bytes = left.iter().zip(&right).flat_map(|(left, right)| [*left, *right].map(i16::to_le_bytes)).flatten();
+    let mut calls = levels(0.999);
+    calls.extend([silence(6_000), Call::block(bytes.collect())]);
+    let set = fed_alike(band);
     List { set, calls }
 }
 
@@ -92,6 +145,7 @@ pub fn lists(seed: u64) -> Vec<List> {
         let set = maker.set(turn);
         lists.push(maker.list(set, turn % 2 == 0, 12, 8));
     }
+    lists.extend(STEERED.map(|(band, frames)| steered(band, frames)));
     lists.push(maker.risen(HIGH, 0.999, 8_000, 100));
     for turn in 0..90 {
         let set = maker.set(turn);

@@ -1,15 +1,17 @@
 //! The figures of the specification, asked of a subject. Whatever is asked is compared with the reference as well.
 
 use super::run::{Checked, Run};
+use super::sheet_makers::without_remainders;
 use crate::figures::*;
 use crate::reference::{Section, Step, ACCEPTED};
 use crate::unit::orders::{Order, BOTH, VOLUME_BAND};
 use crate::unit::sheet::{exact, SHEET};
-use crate::unit::{cleared, house_unit, Numbers, LEFT, RIGHT, STRIPS, VOLUME};
+use crate::unit::{cleared, feeds_back, house_unit, strip_at, Numbers, VOLUME};
+use crate::unit::{FEEDBACK_COUNT, GAIN, LEFT, REMAINDER, RIGHT, STRIPS, UNIT_COUNT};
 
 /// The present gain of a band; its target stands behind it.
 fn gain(side: usize, band: usize) -> usize {
-    side + STRIPS + 4 * band + 2
+    strip_at(side, band) + GAIN
 }
 
 impl Run<'_> {
@@ -46,20 +48,58 @@ impl Run<'_> {
     /// Ten bands all 31 Hz, loaded, and the frame played.
     fn ten_alike(&mut self) -> Checked {
         let set: [i32; 30] = std::array::from_fn(|n| FIRST_TWO[n % 3]);
-        let mut numbers = [-1; 118];
+        let mut numbers = [-1; UNIT_COUNT];
         let answer = self.subject.load(&mut numbers, &set);
         let mut expected = cleared(&set);
         self.same((ACCEPTED, expected), (answer, numbers), || "ten bands all 31 Hz".to_string())?;
         let sound = self.block(&mut numbers, &FRAME, 4)?;
         expected[LEFT] = RUN_WORDS[0];
-        expected[LEFT + STRIPS..RIGHT].chunks_exact_mut(4).for_each(|strip| strip[0] = RUN_RESULTS[0]);
+        for band in 0..10 {
+            let strip = strip_at(LEFT, band);
+            expected[strip] = RUN_RESULTS[0];
+            expected[strip + REMAINDER] = if feeds_back(band) { RUN_REMAINDERS[0] } else { 0 };
+        }
         self.same((vec![0; 4], expected), (sound, numbers), || "ten bands after the frame (1000, 0)".to_string())
+    }
+
+    /// Quiet frames through ten bands all 31 Hz, the same on both sides.
+    fn quiet_run(&mut self) -> Checked {
+        let mut numbers = cleared(&std::array::from_fn(|n| FIRST_TWO[n % 3]));
+        for (place, (sample, fed, plain)) in QUIET_RUN.into_iter().enumerate() {
+            self.block(&mut numbers, [sample; 2].map(i16::to_le_bytes).as_flattened(), 4)?;
+            for (side, band) in [LEFT, RIGHT].into_iter().flat_map(|side| (0..10).map(move |band| (side, band))) {
+                let strip = strip_at(side, band);
+                let got = [numbers[strip], numbers[strip + REMAINDER]];
+                self.same(if feeds_back(band) { fed } else { plain }, got, || {
+                    format!("quiet frame {place}, band {band}")
+                })?;
+            }
+        }
+        Ok(())
+    }
+
+    /// A frame through four sections alike on a side, with this remainder each. The other bands are silent.
+    fn fed_step_gives(&mut self, side: usize, (given, remainder, limited, y, carried): FedStep) -> Checked {
+        let set = std::array::from_fn(|n| if feeds_back(n / 3) { FED_BAND[n % 3] } else { 0 });
+        let (mut numbers, mut expected) = (cleared(&set), cleared(&set));
+        let [x, y1, y2] = given;
+        expected[side] = x;
+        expected[side + 2] = limited.into();
+        for strip in (0..FEEDBACK_COUNT).map(|band| strip_at(side, band)) {
+            (numbers[strip], numbers[strip + 1], numbers[strip + REMAINDER]) = (y1, y2, remainder);
+            (expected[strip], expected[strip + 1], expected[strip + REMAINDER]) = (y, y1, carried);
+        }
+        let sample = (x / 256) as i16;
+        let frame = if side == LEFT { [sample, 0] } else { [0, sample] };
+        self.block(&mut numbers, frame.map(i16::to_le_bytes).as_flattened(), 4)?;
+        self.same(expected, numbers, || format!("x, y1, y2 = {given:?} with the remainder {remainder}"))
     }
 
     /// One order on a unit: the answer, and the unit with the target at exactly these places, or as it was.
     fn order_gives(&mut self, order: &Order, wanted: Wanted, targets: &[usize]) -> Checked {
         let mut expected = house_unit();
         (0..).zip(&mut expected[LEFT + STRIPS..RIGHT]).for_each(|(n, number)| *number = n);
+        (FEEDBACK_COUNT..10).for_each(|band| expected[strip_at(LEFT, band) + REMAINDER] = 0);
         expected[VOLUME + 1] = 7;
         let mut got = expected;
         if let Ok(target) = wanted {
@@ -81,16 +121,19 @@ impl Run<'_> {
         self.order_gives(&order(BOTH, VOLUME_BAND), of_volume, &[VOLUME + 1])
     }
 
-    /// A unit whose sheet must be these lines: written, and read back.
+    /// A unit whose sheet must be these lines: written, and read back; and read from the short sheet, without its
+    /// remainders.
     fn sheet_gives(&mut self, numbers: &Numbers, lines: Lines) -> Checked {
         let mut expected = sheet(lines);
         expected.extend([0xAA; 7]);
         let buffer = self.write(exact::write, numbers, &[0xAA; SHEET + 7])?;
         self.same(&expected, &buffer, || format!("sheet of {numbers:?}"))?;
-        self.read_into(&[-1; 118], &expected[..SHEET])?;
-        let mut read = [-1; 118];
-        let answer = self.subject.sheet_read(&mut read, &expected[..SHEET]);
-        self.same((ACCEPTED, *numbers), (answer, read), || format!("sheet of {numbers:?} read back"))
+        let unfit = [-1; UNIT_COUNT];
+        for (sheet, numbers) in [(sheet(lines), *numbers), (short_sheet(lines), without_remainders(numbers))] {
+            self.read_into(&unfit, &sheet)?;
+            self.leaves(&sheet, &unfit, (ACCEPTED, numbers))?;
+        }
+        Ok(())
     }
 }
 
@@ -139,14 +182,18 @@ pub fn of_units(run: &mut Run) -> Checked {
         run.slope(numbers, level, figure)?;
     }
     run.ten_alike()?;
+    run.quiet_run()?;
     for (side, frame) in [(LEFT, FRAME), (RIGHT, [0, 0, FRAME[0], FRAME[1]])] {
         let mut numbers = house_unit();
-        let mut results = Vec::new();
-        for input in [frame, frame, [0; 4]] {
+        let strip = strip_at(side, 0);
+        for (place, input) in [frame, frame, [0; 4]].into_iter().enumerate() {
             run.block(&mut numbers, &input, 4)?;
-            results.push(numbers[side + STRIPS]);
+            let got = [numbers[strip], numbers[strip + REMAINDER]];
+            run.same([RUN_RESULTS[place], RUN_CARRIED[place]], got, || {
+                format!("frame {place} through the 31 Hz band")
+            })?;
         }
-        run.same(&RUN_RESULTS[..], &results, || "three frames through the 31 Hz band".to_string())?;
+        FED_STEPS.into_iter().try_for_each(|step| run.fed_step_gives(side, step))?;
     }
     Ok(())
 }
@@ -175,16 +222,21 @@ pub fn of_orders(run: &mut Run) -> Checked {
     Ok(())
 }
 
-/// The numbers of a sheet, by the standard library.
+/// The numbers of a sheet, by the standard library; 0 for the remainder of an S line without one.
 fn numbers_of(lines: Lines) -> Numbers {
     let text = String::from_utf8(sheet(lines)).expect("a typed sheet");
-    let numbers = text.split_whitespace().filter_map(|field| field.parse().ok());
-    numbers.collect::<Vec<i32>>().try_into().expect("118 numbers")
+    let mut numbers: Vec<i32> = Vec::new();
+    for line in text.lines() {
+        let fields = line[1..].split_whitespace().map(|field| field.parse().expect("a number"));
+        let count = fields.clone().count();
+        numbers.extend(fields.chain((count == 4).then_some(0)));
+    }
+    numbers.try_into().expect("as many as a unit has")
 }
 
 /// The frame is played by a unit that comes from a sheet.
 pub fn of_sheets(run: &mut Run) -> Checked {
-    let mut numbers = [-1; 118];
+    let mut numbers = [-1; UNIT_COUNT];
     run.subject.load(&mut numbers, &FIRST_TWO[..3].repeat(10));
     run.sheet_gives(&numbers, CLEARED)?;
     run.subject.sheet_read(&mut numbers, &sheet(CLEARED));

@@ -4,7 +4,7 @@ use super::run::{marks, Checked, Run};
 use super::steps::wrong_numbers;
 use super::units::{kind, Kind};
 use crate::random::Random;
-use crate::unit::{exact, house_unit, Numbers, BANDS, UNFIT};
+use crate::unit::{exact, house_unit, Numbers, BANDS, UNFIT, UNIT_COUNT};
 
 /// Lengths of input and output: right ones, and those that are 5, 6 or both for a fit unit.
 const LENGTHS: [(usize, usize); 6] = [(0, 0), (4, 4), (8, 11), (3, 8), (8, 7), (7, 2)];
@@ -30,7 +30,9 @@ pub fn unfit_numbers(numbers: &Numbers, place: usize) -> Vec<i32> {
             -8_388_864, 8_388_608, 1, -1, 128, 255, 257, -255, 8_388_351, 8_388_353, 8_388_607, -8_388_607, -8_388_609,
         ],
         Kind::Flag => vec![-1, 2, 3, 256, 257, -256, 65_537, 8_388_607, -8_388_608],
-        Kind::Strip(_) => vec![-8_388_609, 8_388_608, 8_388_609, -16_777_216, 16_777_216],
+        Kind::Strip => vec![-8_388_609, 8_388_608, 8_388_609, -16_777_216, 16_777_216],
+        Kind::Remainder => vec![-2_097_153, 2_097_153, -4_194_304, 4_194_304, -8_388_608, 8_388_607],
+        Kind::NoRemainder => vec![-1, 1, 256, -65_536, -2_097_152, 2_097_152],
     };
     unfit.extend([i32::MIN, i32::MIN + 1, i32::MAX - 1, i32::MAX]);
     unfit
@@ -50,7 +52,9 @@ pub fn edge_numbers(numbers: &Numbers, place: usize) -> Vec<i32> {
         }
         Kind::Input => vec![-8_388_608, -8_388_352, -256, 0, 256, 8_388_096, 8_388_352],
         Kind::Flag => vec![0, 1],
-        Kind::Strip(_) => vec![-8_388_608, -8_388_607, -1, 0, 1, 8_388_606, 8_388_607],
+        Kind::Strip => vec![-8_388_608, -8_388_607, -1, 0, 1, 8_388_606, 8_388_607],
+        Kind::Remainder => vec![-2_097_152, -2_097_151, -1, 0, 1, 2_097_151, 2_097_152],
+        Kind::NoRemainder => vec![0],
     }
 }
 
@@ -58,7 +62,7 @@ pub fn edge_numbers(numbers: &Numbers, place: usize) -> Vec<i32> {
 pub fn spoilt(numbers: &Numbers, random: &mut Random) -> Numbers {
     let mut spoilt = *numbers;
     for _ in 0..=random.below(5) {
-        let place = random.below(118) as usize;
+        let place = random.below(UNIT_COUNT as u64) as usize;
         spoilt[place] = random.pick(&unfit_numbers(numbers, place));
     }
     spoilt
@@ -84,7 +88,7 @@ fn unfit(run: &mut Run, numbers: &Numbers) -> Checked {
 
 /// Each number of a fit unit in turn unfit in every way, and at its edges.
 fn each_number(run: &mut Run, numbers: &Numbers) -> Checked {
-    for place in 0..118 {
+    for place in 0..UNIT_COUNT {
         for number in unfit_numbers(numbers, place) {
             unfit(run, &with(numbers, place, number))?;
         }
@@ -111,10 +115,10 @@ pub fn units(run: &mut Run) -> Checked {
     }
     for turn in 0..50_000 {
         let numbers = run.fit_unit(turn);
-        let place = run.random.below(118) as usize;
+        let place = run.random.below(UNIT_COUNT as u64) as usize;
         let changed = with(&numbers, place, run.random.between(-8_400_000, 8_400_000));
         fit(run, &changed, exact::fit(&changed))?;
-        let anything = [(); 118].map(|()| run.random.any_i32());
+        let anything = [(); UNIT_COUNT].map(|()| run.random.any_i32());
         fit(run, &anything, exact::fit(&anything))?;
     }
     Ok(())

@@ -3,18 +3,18 @@
 use super::run::{Checked, Run};
 use super::steps::wrong_numbers;
 use crate::reference::{house_set, ACCEPTED, REFUSED_A};
-use crate::unit::{self, cleared, house_unit, Numbers, NOT_THIRTY};
+use crate::unit::{self, cleared, house_unit, Numbers, NOT_THIRTY, UNIT_COUNT};
 
-const WRONG_LENGTHS: [usize; 14] = [0, 1, 2, 3, 10, 27, 28, 29, 31, 32, 33, 60, 118, 300];
+const WRONG_LENGTHS: [usize; 14] = [0, 1, 2, 3, 10, 27, 28, 29, 31, 32, 33, 60, 138, 300];
 
 /// One loading compared with the reference: the answer and all numbers, whatever they were before. The unit that comes
 /// of it is fit.
 fn load(run: &mut Run, set: &[i32]) -> Checked<(u32, Numbers)> {
     let before = match run.random.below(4) {
-        0 => [i32::MIN; 118],
-        1 => [-1; 118],
+        0 => [i32::MIN; UNIT_COUNT],
+        1 => [-1; UNIT_COUNT],
         2 => cleared(&[7; 30]),
-        _ => [(); 118].map(|()| run.random.any_i32()),
+        _ => [(); UNIT_COUNT].map(|()| run.random.any_i32()),
     };
     let (mut expected, mut got) = (before, before);
     let number = unit::load(&mut expected, set);

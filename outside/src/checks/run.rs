@@ -59,8 +59,8 @@ impl<'a> Run<'a> {
         Ok(())
     }
 
-    /// One block into a buffer of `room` bytes: compares the answer, all 118 numbers and every byte of the buffer, and
-    /// gives the buffer.
+    /// One block into a buffer of `room` bytes: compares the answer, all numbers of the unit and every byte of the
+    /// buffer, and gives the buffer.
     pub fn block(&mut self, numbers: &mut Numbers, input: &[u8], room: usize) -> Checked<Vec<u8>> {
         let before = *numbers;
         let (mut expected, mut got, mut unit) = (marks(room), marks(room), before);
@@ -73,7 +73,7 @@ impl<'a> Run<'a> {
         Ok(expected)
     }
 
-    /// One order: compares the answer and all 118 numbers, and gives the answer.
+    /// One order: compares the answer and all numbers of the unit, and gives the answer.
     pub fn order(&mut self, numbers: &mut Numbers, order: &Order) -> Checked<u32> {
         let before = *numbers;
         let mut got = before;

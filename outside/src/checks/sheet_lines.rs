@@ -2,11 +2,10 @@
 //! gives the refusal, but "a C line tests 8 to 10 after its three fields, in place of 14 and ahead of its line end."
 
 use super::run::{Checked, Run};
-use super::sheet_makers::sheet_of;
 use super::sheet_texts::{outside_numbers, well_written};
 use crate::random::Random;
 use crate::reference::{ACCEPTED, REFUSED_A};
-use crate::unit::sheet::places::{Line, LINES};
+use crate::unit::sheet::places::{Length, Line, LENGTHS};
 use crate::unit::sheet::{BADLY_WRITTEN, LETTER_OR_END, LINE_FEED, OUTSIDE};
 use crate::unit::Numbers;
 
@@ -105,16 +104,22 @@ impl Wrong {
     }
 }
 
+/// Each line of the unit's sheet of this length.
+fn each_line(run: &mut Run, length: Length, numbers: &Numbers) -> Checked {
+    let right = length.sheet_of(numbers);
+    for line in length.lines {
+        for wrong in Wrong::every(line) {
+            let sheet = wrong.sheet(line, numbers, &right, run);
+            run.stated_sheet(&sheet, wrong.number(line))?;
+        }
+    }
+    Ok(())
+}
+
 pub fn every(run: &mut Run) -> Checked {
     for turn in 0..12 {
         let numbers = run.maker.unit(turn);
-        let right = sheet_of(&numbers);
-        for line in LINES {
-            for wrong in Wrong::every(&line) {
-                let sheet = wrong.sheet(&line, &numbers, &right, run);
-                run.stated_sheet(&sheet, wrong.number(&line))?;
-            }
-        }
+        LENGTHS.into_iter().try_for_each(|length| each_line(run, length, &numbers))?;
     }
     Ok(())
 }

@@ -5,13 +5,13 @@ use super::fitness::{spoilt, unfit_numbers, with};
 use super::run::{Checked, Run};
 use super::same_sheet::Writer;
 use crate::unit::sheet::{exact, fast, SHEET};
-use crate::unit::Numbers;
+use crate::unit::{Numbers, UNIT_COUNT};
 
 /// Units held against the exact form, and against the fast one, which takes less time: a million in all.
 const UNITS: u64 = 100_000;
 const MANY: u64 = 900_000;
 
-/// A sheet written into so many bytes, and read back into a given unit.
+/// A sheet written into so many bytes, and read back into a given unit, also from a short sheet.
 fn there_and_back(run: &mut Run, reference: Writer, numbers: &Numbers, room: usize) -> Checked {
     let (lent, given) = (run.maker.bytes(room), run.maker.given());
     run.write_and_read(reference, numbers, &lent, &given)
@@ -28,7 +28,7 @@ fn unwritten(run: &mut Run, reference: Writer, numbers: &Numbers, room: usize) -
 
 /// Each number of a fit unit in turn unfit in every way.
 fn each_number(run: &mut Run, numbers: &Numbers) -> Checked {
-    for place in 0..118 {
+    for place in 0..UNIT_COUNT {
         for number in unfit_numbers(numbers, place) {
             let behind = run.maker.random.below(20) as usize;
             for room in [SHEET, SHEET + behind, SHEET - 1] {

@@ -4,7 +4,7 @@ use crate::exact_sound::judge::Distances;
 use crate::reference::{exact, Section, Step, ACCEPTED};
 use crate::unit::exact::{Halves, Met};
 use crate::unit::orders::{Order, Setting};
-use crate::unit::sheet::SHEET;
+use crate::unit::sheet::{SHEET, SHORT_SHEET};
 use crate::wave;
 
 /// The largest S and the smallest: A, B and |G| as large as they may be, and words at their ends.
@@ -54,10 +54,11 @@ pub struct Tally {
     /// Frames of accepted blocks, and what they met.
     pub frames: u64,
     pub met: Met,
-    /// Blocks, orders, sheets and previews by their refusal; accepted ones at 0.
+    /// Blocks, orders, sheets, short sheets and previews by their refusal; accepted ones at 0.
     blocks: [u64; 16],
     orders: [u64; 16],
     sheets: [u64; 16],
+    short_sheets: [u64; 16],
     previews: [u64; 16],
     /// Accepted factors where f × 2^23 lay at a half.
     factor_halves: Halves,
@@ -119,9 +120,10 @@ impl Tally {
         }
     }
 
-    pub fn count_read(&mut self, refusal: u32) {
+    pub fn count_read(&mut self, bytes: usize, refusal: u32) {
         self.answers += 1;
-        self.sheets[refusal as usize] += 1;
+        let sheets = if bytes == SHORT_SHEET { &mut self.short_sheets } else { &mut self.sheets };
+        sheets[refusal as usize] += 1;
     }
 
     pub fn count_preview(&mut self, words: &[i32], refusal: u32) {
@@ -199,6 +201,12 @@ counts! {
     "sections limited at the upper end" (met.sections_high)
     "sections limited at the lower end" (met.sections_low)
     "flags raised" (met.flags_raised)
+    "remainders carried on at the upper end" (met.fed.highest)
+    "remainders carried on at the lower end" (met.fed.lowest)
+    "limited sections that carried on no remainder" (met.fed.dropped)
+    "results turned by what was fed back" (met.fed.turned)
+    "sections limited by what was fed back" (met.fed.into_limiting)
+    "sections kept from limiting by it" (met.fed.out_of_limiting)
     "outputs limited at the upper end" (met.outputs_high)
     "outputs limited at the lower end" (met.outputs_low)
     "halves of sections rounded up" (met.section_halves.up)
@@ -227,6 +235,13 @@ counts! {
     "sheets refused with 12" (sheets[12])
     "sheets refused with 13" (sheets[13])
     "sheets refused with 14" (sheets[14])
+    "accepted short sheets" (short_sheets[0])
+    "short sheets refused with 8" (short_sheets[8])
+    "short sheets refused with 9" (short_sheets[9])
+    "short sheets refused with 10" (short_sheets[10])
+    "short sheets refused with 12" (short_sheets[12])
+    "short sheets refused with 13" (short_sheets[13])
+    "short sheets refused with 14" (short_sheets[14])
     "accepted previews" (previews[0])
     "accepted previews of nothing" (empty)
     "words previewed" (words)

@@ -3,7 +3,8 @@
 use super::bands::{extreme_accepted, half_accepted, random_accepted, Band};
 use crate::random::Random;
 use crate::reference::{house_set, WORD_MAX, WORD_MIN};
-use crate::unit::{cleared, Numbers, BANDS, LEFT, RIGHT, STRIPS};
+use crate::unit::{cleared, feeds_back, Numbers, BANDS, GAIN, LEFT, RIGHT, STRIPS, STRIP_COUNT};
+use crate::unit::{REMAINDER, REMAINDER_SIZE};
 
 /// What a number of a unit stands for.
 #[derive(Clone, Copy, PartialEq)]
@@ -13,11 +14,14 @@ pub enum Kind {
     Coefficient(usize),
     Input,
     Flag,
-    /// 0 to 3: y1, y2, gain, target.
-    Strip(usize),
+    /// y1, y2, the gain or its target.
+    Strip,
+    /// The remainder of a band that feeds it back, and of one that doesn't.
+    Remainder,
+    NoRemainder,
 }
 
-/// What the number at a place of the 118 stands for.
+/// What the number at a place of a unit stands for.
 pub fn kind(place: usize) -> Kind {
     let side = if place < RIGHT { LEFT } else { RIGHT };
     match place {
@@ -25,7 +29,11 @@ pub fn kind(place: usize) -> Kind {
         _ if place < LEFT => Kind::Coefficient((place - BANDS) % 3),
         _ if place < side + 2 => Kind::Input,
         _ if place < side + STRIPS => Kind::Flag,
-        _ => Kind::Strip((place - side - STRIPS) % 4),
+        _ => match place - side - STRIPS {
+            place if place % STRIP_COUNT != REMAINDER => Kind::Strip,
+            place if feeds_back(place / STRIP_COUNT) => Kind::Remainder,
+            _ => Kind::NoRemainder,
+        },
     }
 }
 
@@ -67,6 +75,15 @@ fn word(random: &mut Random) -> i32 {
     }
 }
 
+/// Any remainder, and often one of the ends, zero or a small one.
+fn remainder(random: &mut Random) -> i32 {
+    match random.below(8) {
+        0 => random.pick(&[-REMAINDER_SIZE, 1 - REMAINDER_SIZE, REMAINDER_SIZE - 1, REMAINDER_SIZE, 0]),
+        1 => random.between(-1_000, 1_000),
+        _ => random.between(-REMAINDER_SIZE, REMAINDER_SIZE),
+    }
+}
+
 /// A fit unit with this band set, every other number anywhere in its range.
 pub fn random_fit(set: &[i32; 30], random: &mut Random) -> Numbers {
     let mut numbers = cleared(set);
@@ -76,21 +93,28 @@ pub fn random_fit(set: &[i32; 30], random: &mut Random) -> Numbers {
             Kind::Coefficient(_) => *number,
             Kind::Input => 256 * random.between(-32_768, 32_767),
             Kind::Flag => random.below(2) as i32,
-            Kind::Strip(_) => word(random),
+            Kind::Strip => word(random),
+            Kind::Remainder => remainder(random),
+            Kind::NoRemainder => 0,
         };
     }
     numbers
 }
 
-/// The ten S lines of both sides: y1, y2, gain, target.
+/// The ten sections of both sides: y1, y2, gain, target, remainder.
 pub fn strips(numbers: &mut Numbers) -> impl Iterator<Item = &mut [i32]> {
     let (left, right) = numbers[LEFT..].split_at_mut(RIGHT - LEFT);
-    let left = left[STRIPS..].chunks_exact_mut(4);
-    left.chain(right[STRIPS..].chunks_exact_mut(4))
+    let left = left[STRIPS..].chunks_exact_mut(STRIP_COUNT);
+    left.chain(right[STRIPS..].chunks_exact_mut(STRIP_COUNT))
 }
 
-/// A fit unit whose roundings often lie at a half: bands of multiples of 2^21, the volume at 2^22 or so, and gains of
-/// multiples of 2^22 or zero, at rest.
+/// Sets the gain of a section and its target.
+pub fn set_gain(strip: &mut [i32], levels: [i32; 2]) {
+    strip[GAIN..GAIN + 2].copy_from_slice(&levels);
+}
+
+/// A fit unit whose roundings often lie at a half: bands and remainders of multiples of 2^21, the volume at 2^22 or so,
+/// and gains of multiples of 2^22 or zero, at rest.
 pub fn half_unit(sets: &Sets, random: &mut Random) -> Numbers {
     let mut numbers = random_fit(&sets.draw(3, random), random);
     let volume = random.pick(&[1 << 21, 1 << 22, 3 << 21]);
@@ -98,7 +122,8 @@ pub fn half_unit(sets: &Sets, random: &mut Random) -> Numbers {
     let silent = random.below(3) == 0;
     for strip in strips(&mut numbers) {
         let gain = random.pick(&[-(1 << 23), -(1 << 22), 0, 1 << 22]);
-        strip[2..].fill(if silent { 0 } else { gain });
+        set_gain(strip, [if silent { 0 } else { gain }; 2]);
+        strip[REMAINDER] = strip[REMAINDER].signum() * random.pick(&[0, REMAINDER_SIZE]);
     }
     numbers
 }

@@ -5,7 +5,10 @@ use super::fraction::Fraction;
 use super::response::Responses;
 use super::{ExactSound, ONE};
 use crate::calls::{Call, List};
-use crate::reference::{exact, Section};
+use crate::reference::Section;
+use crate::unit::exact::fed_step;
+use crate::unit::feeds_back;
+use std::array::from_fn;
 
 /// What the frames of lists were found to be. A frame counts once a side.
 #[derive(Clone, Copy, Default)]
@@ -20,10 +23,11 @@ pub struct Distances {
     pub skipped_beyond: u64,
     /// Judged frames farther away than 1/2 + V / 2^32, so that the part of the sections is needed.
     pub need_sections: u64,
-    /// The largest distance as a part of the bound, and the largest where the part of the sections is more than the
-    /// rest of the bound.
+    /// The largest distance as a part of the bound; the largest where the part of the sections is more than the rest of
+    /// the bound; and the largest where that of the sections that feed back is more than all the rest.
     pub largest: f64,
     pub largest_of_sections: f64,
+    pub largest_of_fed: f64,
 }
 
 impl Distances {
@@ -31,28 +35,29 @@ impl Distances {
     pub fn widen(&mut self, other: &Distances) {
         self.largest = self.largest.max(other.largest);
         self.largest_of_sections = self.largest_of_sections.max(other.largest_of_sections);
+        self.largest_of_fed = self.largest_of_fed.max(other.largest_of_fed);
     }
 }
 
-/// The ten sections of both sides, stepped alone. Whether one has limited is "worked from the list by the rounding and
-/// limiting under Words and the section, and not read from the flag."
+/// The ten sections of both sides, each with its remainder. Whether one has limited is "worked from the list by the
+/// rounding and limiting under Words and the section, and not read from the flag; in bands 0 to 3 of the increased S."
 struct Limiting {
-    sides: [[Section; 10]; 2],
+    sides: [[(Section, i32); 10]; 2],
     /// Whether a section of a side has limited up to now.
     limited: [bool; 2],
 }
 
 impl Limiting {
     fn new(set: &[i32; 30]) -> Limiting {
-        let side = std::array::from_fn(|n| [set[3 * n], set[3 * n + 1], set[3 * n + 2], 0, 0, 0, 0]);
+        let side = from_fn(|n| ([set[3 * n], set[3 * n + 1], set[3 * n + 2], 0, 0, 0, 0], 0));
         Limiting { sides: [side; 2], limited: [false; 2] }
     }
 
     /// A frame of an accepted block.
     fn frame(&mut self, samples: [i16; 2]) {
-        for (place, sample) in samples.into_iter().enumerate() {
-            for section in &mut self.sides[place] {
-                self.limited[place] |= exact::step(section, 256 * i32::from(sample)).limited == 1;
+        for (place, x) in samples.map(|sample| 256 * i32::from(sample)).into_iter().enumerate() {
+            for (band, (section, remainder)) in self.sides[place].iter_mut().enumerate() {
+                self.limited[place] |= fed_step(section, band, remainder, x).limited == 1;
             }
         }
     }
@@ -82,7 +87,8 @@ impl Judge {
         }
         let (volume, gains) = self.sound.levels(side);
         let outer = Fraction::whole(ONE + (volume << 23));
-        let sections = self.responses.weighted(&gains.map(|gain| volume * gain.abs()));
+        let weights = gains.map(|gain| volume * gain.abs());
+        let sections = self.responses.weighted(&weights);
         let bound = Fraction::sum(&[(1, &outer), (1, &sections)]);
         let is_beyond = distance.compared_with(&bound).is_gt();
         if limited {
@@ -98,6 +104,10 @@ impl Judge {
         distances.largest = distances.largest.max(part);
         if sections.compared_with(&outer).is_gt() {
             distances.largest_of_sections = distances.largest_of_sections.max(part);
+            let fed = self.responses.weighted(&from_fn(|band| if feeds_back(band) { 2 * weights[band] } else { 0 }));
+            if fed.compared_with(&bound).is_gt() {
+                distances.largest_of_fed = distances.largest_of_fed.max(part);
+            }
         }
         Ok(())
     }

@@ -1,11 +1,16 @@
 //! Wrong implementations: the fast form with one thing spoiled. The comparison must find a difference in each, in every
 //! group named beside it; a comparison that passes one of them is itself wrong.
 
+mod feedback;
 mod sheets;
 pub mod sound;
 mod waves;
 
-use self::sheets::{exchanged, flag_2, four_blanks_for_eight, last_line_unread, letters_first};
+use self::feedback::{block_fed, clear_remainders, keep_remainders, narrowed, preview_fed, Feedback, FEEDBACK};
+use self::sheets::{
+    exchanged, flag_2, four_blanks_for_eight, last_line_unread, letters_first, remainders_unread, right_side_short,
+    wide_remainders, write_short,
+};
 use self::sound::{
     block_with, frames_with, halves_up, levels, mix, nine_first, order_with, output, output_unlimited, passes_and,
     past_target, preview_with, raise_flags, step_leaving, step_with, worked_again, wrapped, PASS,
@@ -18,12 +23,13 @@ use crate::reference::{
     band_refusal, house_set, is_word, Step, ACCEPTED, NO_WORD, REFUSED_A, REFUSED_G, TABLE_1, WORD_MAX, WORD_MIN,
 };
 use crate::subject::{Form, FAST};
-use crate::unit::fast::{block, level_moved};
+use crate::unit::fast::{block, fit, level_moved};
 use crate::unit::orders::fast::{order, refusal};
 use crate::unit::orders::{Order, Setting, BOTH, NO_SIDE_AND_BAND, POSITION_OVER_31};
 use crate::unit::sheet::fast::{read, write};
-use crate::unit::sheet::{BADLY_WRITTEN, OUTSIDE, SHEET};
-use crate::unit::{block_refusal, cleared, house_unit, load, OUTPUT_TOO_SHORT, PART_OF_A_FRAME, UNFIT};
+use crate::unit::sheet::{BADLY_WRITTEN, NOT_A_SHEET, OUTSIDE, SHEET, SHORT_SHEET};
+use crate::unit::{block_refusal, cleared, house_unit, load, strip_at, LEFT, REMAINDER};
+use crate::unit::{OUTPUT_TOO_SHORT, PART_OF_A_FRAME, UNFIT};
 use crate::wave::{read as read_wave, refused, walk, write as write_wave};
 use crate::wave::{FORMAT, HEADING, MOST, NO_DATA, NO_WAVE, OTHER_FORMAT};
 
@@ -45,7 +51,8 @@ macro_rules! wrong {
     };
 }
 
-/// What the wrong sections, units and readers have in common, with nothing wrong in it.
+/// What the wrong sections, units and readers have in common, with nothing wrong in it; and the units that go by other
+/// rules for their remainders.
 pub const RIGHT: Form = Form {
     section_step: |section, x| step_with(section, x, |products| nearest(products.iter().sum(), 22)),
     block: |unit, input, sound| {
@@ -56,6 +63,7 @@ pub const RIGHT: Form = Form {
     wave_read: |file| read_by(file, RULES),
     ..FAST
 };
+pub const RIGHT_FED: Form = Form { block: |unit, input, sound| block_fed(unit, input, sound, FEEDBACK), ..FAST };
 
 wrong! {
     "halves rounded upwards" [NEAREST LISTS CORNERS FIGURES]
@@ -161,6 +169,60 @@ wrong! {
                 (0..1 + u8::from(twice)).for_each(|_| _ = block(unit, rest, sound));
             })
         };
+    "no remainder fed back" [BLOCKS FRAMES CUTS UNIT_FIGURES LISTS_OF_CALLS DISTANCE]
+        block = |unit, input, sound| block_fed(unit, input, sound, Feedback {
+            feeds: |_| false,
+            carried: |_, _, _| 0,
+        });
+    "band 3 without feedback" [BLOCKS FRAMES CUTS UNIT_FIGURES LISTS_OF_CALLS DISTANCE]
+        block = |unit, input, sound| block_fed(unit, input, sound, Feedback {
+            feeds: |band| band < 3,
+            carried: |band, sums, limits| if band < 3 { (FEEDBACK.carried)(band, sums, limits) } else { 0 },
+        });
+    "band 4 with feedback" [BLOCKS FRAMES CUTS UNIT_FIGURES LISTS_OF_CALLS]
+        block = |unit, input, sound| block_fed(unit, input, sound, Feedback {
+            feeds: |band| band < 5,
+            carried: |band, sums, limits| (FEEDBACK.carried)(if band == 4 { 3 } else { band }, sums, limits),
+        });
+    "the remainder of a step that limits carried on" [BLOCKS FRAMES CUTS UNIT_FIGURES LISTS_OF_CALLS]
+        block = |unit, input, sound| block_fed(unit, input, sound, Feedback {
+            carried: |band, sums, _| (FEEDBACK.carried)(band, sums, false),
+            ..FEEDBACK
+        });
+    "the remainder of S without what was fed back" [BLOCKS FRAMES CUTS UNIT_FIGURES LISTS_OF_CALLS DISTANCE]
+        block = |unit, input, sound| block_fed(unit, input, sound, Feedback {
+            carried: |band, [sum, _], limits| (FEEDBACK.carried)(band, [sum; 2], limits),
+            ..FEEDBACK
+        });
+    "the remainder taken away in the next step" [BLOCKS FRAMES CUTS UNIT_FIGURES LISTS_OF_CALLS DISTANCE]
+        block = |unit, input, sound| block_fed(unit, input, sound, Feedback {
+            carried: |band, sums, limits| -(FEEDBACK.carried)(band, sums, limits),
+            ..FEEDBACK
+        });
+    "the remainder carried on, and not fed back" [BLOCKS FRAMES CUTS UNIT_FIGURES LISTS_OF_CALLS DISTANCE]
+        block = |unit, input, sound| block_fed(unit, input, sound, Feedback { feeds: |_| false, ..FEEDBACK });
+    "the remainders lost between two blocks" [BLOCKS FRAMES CUTS LISTS_OF_CALLS]
+        block = |unit, input, output| {
+            let mut begun = *unit;
+            clear_remainders(&mut begun);
+            let refusal = block(&mut begun, input, output);
+            if refusal == ACCEPTED && !input.is_empty() { *unit = begun; }
+            refusal
+        };
+    "the remainders cleared by a refused block" [REFUSED_BLOCKS FITNESS]
+        block = |unit, input, output| {
+            let refusal = block(unit, input, output);
+            if refusal != ACCEPTED { clear_remainders(unit); }
+            refusal
+        };
+    "a remainder one too large fit" [FITNESS]
+        unit_fit = |unit| fit(&narrowed(unit)).into();
+    "a remainder in band 4 fit" [FITNESS]
+        unit_fit = |unit| {
+            let mut other = *unit;
+            other[strip_at(LEFT, 4) + REMAINDER] = 0;
+            fit(&other).into()
+        };
     "bytes behind the block cleared" [BLOCKS FRAMES CUTS REFUSED_BLOCKS]
         block = |unit, input, output| {
             let behind = input.len().min(output.len());
@@ -187,6 +249,20 @@ wrong! {
         load = |unit, set| {
             let refusal = load(unit, set);
             *unit = cleared(set.try_into().unwrap_or(&house_set()));
+            refusal
+        };
+    "the remainders kept by a loading" [LOADS UNIT_FIGURES LISTS_OF_CALLS]
+        load = |unit, set| {
+            let given = *unit;
+            let refusal = load(unit, set);
+            keep_remainders(unit, &given);
+            refusal
+        };
+    "the remainders kept by a refused loading" [LOADS]
+        load = |unit, set| {
+            let given = *unit;
+            let refusal = load(unit, set);
+            if refusal != ACCEPTED { keep_remainders(unit, &given); }
             refusal
         };
     "the volume kept by a loading" [LOADS UNIT_FIGURES]
@@ -228,6 +304,18 @@ wrong! {
         order = |unit, given| match given.side {
             0 if given.is_volume() => order(unit, &Order { side: BOTH, ..*given }),
             _ => order(unit, given),
+        };
+    "the remainders cleared by an order" [ORDERS FACTORS ORDER_FIGURES LISTS_OF_CALLS]
+        order = |unit, given| {
+            let refusal = order(unit, given);
+            if refusal == ACCEPTED { clear_remainders(unit); }
+            refusal
+        };
+    "the remainders cleared by a refused order" [ORDERS FACTORS LISTS_OF_CALLS]
+        order = |unit, given| {
+            let refusal = order(unit, given);
+            if refusal != ACCEPTED { clear_remainders(unit); }
+            refusal
         };
     "2 tested ahead of 1" [ORDERS LISTS_OF_CALLS]
         order = |unit, given| match (order(unit, given), given.setting) {
@@ -284,6 +372,36 @@ wrong! {
         sheet_read = |unit, bytes| read(unit, &bytes[..bytes.len().min(SHEET)]);
     "the last line not read" [SHEETS SHEET_FIGURES SHEET_FIELDS SHEET_LINES DAMAGED_SHEETS SHEET_LISTS]
         sheet_read = last_line_unread;
+    "1,128 bytes written" [SHEETS SHEET_FIGURES SHEET_FIELDS SHEET_LINES DAMAGED_SHEETS SHEET_LISTS]
+        sheet_write = write_short;
+    "the remainders written as 0" [SHEETS SHEET_FIGURES SHEET_FIELDS SHEET_LINES DAMAGED_SHEETS SHEET_LISTS]
+        sheet_write = |unit, buffer| {
+            let mut other = *unit;
+            clear_remainders(&mut other);
+            if fit(unit) { write(&other, buffer) } else { 0 }
+        };
+    "the fifth fields not read" [SHEETS SHEET_FIGURES SHEET_FIELDS SHEET_LINES DAMAGED_SHEETS SHEET_LISTS]
+        sheet_read = remainders_unread;
+    "a remainder one too large accepted" [SHEET_FIELDS SHEET_LINES]
+        sheet_read = wide_remainders;
+    "short sheets refused" [SHEETS SHEET_FIGURES SHEET_FIELDS SHEET_LINES DAMAGED_SHEETS SHEET_LISTS]
+        sheet_read = |unit, bytes| if bytes.len() == SHORT_SHEET { NOT_A_SHEET } else { read(unit, bytes) };
+    "the given remainders kept by a short sheet"
+        [SHEETS SHEET_FIGURES SHEET_FIELDS SHEET_LINES DAMAGED_SHEETS SHEET_LISTS]
+        sheet_read = |unit, bytes| {
+            let given = *unit;
+            let refusal = read(unit, bytes);
+            if refusal == ACCEPTED && bytes.len() == SHORT_SHEET { keep_remainders(unit, &given); }
+            refusal
+        };
+    "a sheet with fifth fields on the left alone accepted" [SHEET_LENGTHS]
+        sheet_read = right_side_short;
+    "the remainders cleared by a refused sheet" [SHEET_FIELDS SHEET_LINES DAMAGED_SHEETS SHEET_LENGTHS]
+        sheet_read = |unit, bytes| {
+            let refusal = read(unit, bytes);
+            if refusal != ACCEPTED { clear_remainders(unit); }
+            refusal
+        };
     "the house unit given for a refused sheet" [SHEET_FIELDS SHEET_LINES DAMAGED_SHEETS SHEET_LENGTHS]
         sheet_read = |unit, bytes| {
             let refusal = read(unit, bytes);
@@ -295,6 +413,8 @@ wrong! {
         preview = |band, words, results, remainders| {
             preview_with(band, words, results, remainders, |results, _| results.fill(0))
         };
+    "a preview that feeds its remainders back" [PREVIEWS PREVIEW_LENGTHS PREVIEW_FIGURES PREVIEW_AND_SECTION]
+        preview = preview_fed;
     "no remainders from a preview" [PREVIEWS PREVIEW_LENGTHS PREVIEW_FIGURES PREVIEW_AND_SECTION]
         preview = |band, words, results, remainders| {
             preview_with(band, words, results, remainders, |_, remainders| remainders.fill(0))

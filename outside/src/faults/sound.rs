@@ -5,7 +5,7 @@ use crate::reference::fast::{nearest, step};
 use crate::reference::{band_refusal, exact, Section, Step, ACCEPTED, REFUSED_A, REFUSED_B, WORD_MAX, WORD_MIN};
 use crate::unit::fast::{block, fit};
 use crate::unit::orders::{fast as orders, Order};
-use crate::unit::{block_refusal, Numbers, GAIN_SLOPE, LEFT, RIGHT, STRIPS, VOLUME, VOLUME_SLOPE};
+use crate::unit::{block_refusal, strip_at, Numbers, GAIN, GAIN_SLOPE, LEFT, RIGHT, VOLUME, VOLUME_SLOPE};
 
 /// v / 2^k with its halves rounded upwards.
 pub fn halves_up(v: i64, k: u32) -> i64 {
@@ -130,8 +130,8 @@ pub fn worked_again(frame: &mut [u8], sample: impl Fn(usize) -> i16) {
 
 /// The mix of the last frame of a side, played with the gains of another unit.
 pub fn mix(gains: &Numbers, unit: &Numbers, side: usize) -> i64 {
-    let strips = (0..10).map(|band| side + STRIPS + 4 * band);
-    let products = strips.map(|y1| i64::from(gains[y1 + 2]) * i64::from(unit[y1]));
+    let strips = (0..10).map(|band| strip_at(side, band));
+    let products = strips.map(|y1| i64::from(gains[y1 + GAIN]) * i64::from(unit[y1]));
     nearest((i64::from(unit[side]) << 23) + products.sum::<i64>(), 23)
 }
 
@@ -147,8 +147,12 @@ pub fn output_unlimited(unit: &Numbers, m: i64) -> i16 {
 
 /// The places of the volume and the gains, with their slopes. Each target stands behind its level.
 pub fn levels() -> impl Iterator<Item = (usize, u32)> {
-    let gain = |n: usize| [LEFT, RIGHT][n / 10] + STRIPS + 4 * (n % 10) + 2;
-    (0..20).map(move |n| (gain(n), GAIN_SLOPE)).chain([(VOLUME, VOLUME_SLOPE)])
+    strips().map(|(_, strip)| (strip + GAIN, GAIN_SLOPE)).chain([(VOLUME, VOLUME_SLOPE)])
+}
+
+/// The band and the place of each section of both sides.
+pub fn strips() -> impl Iterator<Item = (usize, usize)> {
+    [LEFT, RIGHT].into_iter().flat_map(|side| (0..10).map(move |band| (band, strip_at(side, band))))
 }
 
 /// A level moved by the whole slope, however near its target is.

@@ -1,7 +1,8 @@
 //! The plain meaning of a unit: named numbers, i128, floor division.
 
-use super::{block_refusal, Band, Level, Numbers, Side, Strip, Unit, GAIN_SLOPE, VOLUME_SLOPE};
-use crate::reference::{band_refusal, exact, is_word, ACCEPTED, WORD_MAX, WORD_MIN};
+use super::{block_refusal, feeds_back, Band, Level, Numbers, Side, Strip, Unit};
+use super::{GAIN_SLOPE, REMAINDER_SIZE, VOLUME_SLOPE};
+use crate::reference::{band_refusal, exact, is_word, Section, Step, ACCEPTED};
 
 /// Roundings that lay at a half: the even number was above it or below.
 #[derive(Clone, Copy, Default)]
@@ -21,6 +22,33 @@ impl Halves {
     }
 }
 
+/// What sections that feed their remainder back met.
+#[derive(Clone, Copy, Default)]
+pub struct Fed {
+    /// Remainders carried on at the upper end of their range, and at the lower end.
+    pub highest: u64,
+    pub lowest: u64,
+    /// Steps that limited and carried on 0 in place of a remainder.
+    pub dropped: u64,
+    /// Steps that would have given another result without what was fed back; and of these, those that limited only for
+    /// it, and those that it kept from limiting.
+    pub turned: u64,
+    pub into_limiting: u64,
+    pub out_of_limiting: u64,
+}
+
+impl Fed {
+    /// Counts a step: what plain S would have given, what the increased S gives, and the remainder carried on.
+    fn count(&mut self, plain: Step, step: Step, carried: i32) {
+        self.highest += u64::from(carried == REMAINDER_SIZE);
+        self.lowest += u64::from(carried == -REMAINDER_SIZE);
+        self.dropped += u64::from(step.limited == 1 && step.remainder != 0);
+        self.turned += u64::from(plain.y != step.y || plain.limited != step.limited);
+        self.into_limiting += u64::from(plain.limited < step.limited);
+        self.out_of_limiting += u64::from(plain.limited > step.limited);
+    }
+}
+
 /// What the frames of a block met.
 #[derive(Clone, Copy, Default)]
 pub struct Met {
@@ -33,6 +61,7 @@ pub struct Met {
     pub output_halves: Halves,
     /// Flags that went from 0 to 1.
     pub flags_raised: u64,
+    pub fed: Fed,
 }
 
 /// A level moved "towards its target by" the slope, "or by the whole distance where that is less".
@@ -57,12 +86,19 @@ pub fn fit(numbers: &Numbers) -> bool {
         && sides.iter().all(side_is_fit)
 }
 
-/// "x1 and x2 are words and multiples of 256; a flag is 0 or 1." Results, gains and targets are words.
+/// "x1 and x2 are words and multiples of 256; a flag is 0 or 1."
 fn side_is_fit(side: &Side) -> bool {
-    let words = |strip: &Strip| [strip.y1, strip.y2, strip.gain.present, strip.gain.target].into_iter().all(is_word);
     [side.x1, side.x2].iter().all(|&x| is_word(x) && x % 256 == 0)
         && (side.flag == 0 || side.flag == 1)
-        && side.strips.iter().all(words)
+        && side.strips.iter().enumerate().all(|(band, strip)| strip_is_fit(band, strip))
+}
+
+/// "every y1, y2, gain and gain's target is a word, and a remainder is from -2,097,152 to 2,097,152 in bands 0 to 3 and
+/// 0 in bands 4 to 9."
+fn strip_is_fit(band: usize, strip: &Strip) -> bool {
+    let most = if feeds_back(band) { REMAINDER_SIZE } else { 0 };
+    [strip.y1, strip.y2, strip.gain.present, strip.gain.target].into_iter().all(is_word)
+        && (-most..=most).contains(&strip.remainder)
 }
 
 /// Rounded to nearest, halves to even; a half is counted.
@@ -71,22 +107,51 @@ fn rounded(v: i128, k: u32, halves: &mut Halves) -> i64 {
     exact::nearest(v as i64, k)
 }
 
+/// S of a section in a unit, given the remainder of the step before: "In bands 0 to 3 the remainder is added to S in
+/// the next step". "In bands 4 to 9 nothing is added to S".
+pub fn increased(section: &Section, band: usize, remainder: i32, x: i32) -> i128 {
+    exact::sum(section, x) + if feeds_back(band) { i128::from(remainder) } else { 0 }
+}
+
+/// What a step of the increased S carries on: its remainder, but "A step that limits" carries 0 on, and in bands 4 to 9
+/// "every step carries 0 on."
+fn carried_on(step: Step, band: usize) -> i32 {
+    if feeds_back(band) && step.limited == 0 {
+        step.remainder
+    } else {
+        0
+    }
+}
+
+/// A step of the section of a band as a unit takes it, with the remainder that it carries on.
+pub fn fed_step(section: &mut Section, band: usize, remainder: &mut i32, x: i32) -> Step {
+    let step = exact::worked(increased(section, band, *remainder, x));
+    exact::pass_on(section, x, step.y);
+    *remainder = carried_on(step, band);
+    step
+}
+
 /// One band of a side: its y, by "Words and the section". The flag is "1 from the first time one of its sections
 /// limits."
 fn section(band: &Band, side: &mut Side, place: usize, x: i32, met: &mut Met) -> i32 {
     let strip = &mut side.strips[place];
     let numbers = [band.a, band.b, band.g, side.x1, side.x2, strip.y1, strip.y2];
-    let number = rounded(exact::sum(&numbers, x), 22, &mut met.section_halves);
-    let y = exact::limit(number, i64::from(WORD_MIN), i64::from(WORD_MAX)) as i32;
-    if number != i64::from(y) {
-        met.sections_high += u64::from(y > 0);
-        met.sections_low += u64::from(y < 0);
+    let sum = increased(&numbers, place, strip.remainder, x);
+    let step = exact::worked(sum);
+    met.section_halves.count(sum, 22);
+    if step.limited == 1 {
+        met.sections_high += u64::from(step.y > 0);
+        met.sections_low += u64::from(step.y < 0);
         met.flags_raised += u64::from(side.flag == 0);
         side.flag = 1;
     }
+    strip.remainder = carried_on(step, place);
+    if feeds_back(place) {
+        met.fed.count(exact::worked(exact::sum(&numbers, x)), step, strip.remainder);
+    }
     strip.y2 = strip.y1;
-    strip.y1 = y;
-    y
+    strip.y1 = step.y;
+    step.y
 }
 
 /// "Each side works its ten sections on x. T = 2^23 × x + sum of g × y, exact. m = T / 2^23 rounded, not limited".

@@ -1,7 +1,7 @@
 //! The unit for use: i64, shifts, no division; the unit is held in i64 for the length of a block.
 
-use super::{block_refusal, Numbers, BANDS, LEFT, RIGHT, SIDE_COUNT, STRIPS, VOLUME};
-use super::{GAIN_SLOPE, VOLUME_SLOPE};
+use super::{block_refusal, Numbers, BANDS, LEFT, RIGHT, SIDE_COUNT, STRIPS, STRIP_COUNT, VOLUME};
+use super::{FEEDBACK_COUNT, GAIN_SLOPE, REMAINDER, REMAINDER_SIZE, VOLUME_SLOPE};
 use crate::reference::{band_refusal, is_word, ACCEPTED, WORD_MAX, WORD_MIN};
 use std::ops::RangeInclusive;
 
@@ -19,12 +19,14 @@ struct Section {
     target: i64,
 }
 
-/// A side: its two earlier inputs, whether a section has limited, and its ten sections.
+/// A side: its two earlier inputs, whether a section has limited, its ten sections, and the remainders of those that
+/// feed them back.
 struct Side {
     x1: i64,
     x2: i64,
     limited: bool,
     sections: [Section; 10],
+    remainders: [i64; FEEDBACK_COUNT],
 }
 
 /// A level after one move. The distance of two i32s is at most a u32.
@@ -60,7 +62,12 @@ pub fn fit(numbers: &Numbers) -> bool {
 fn side_is_fit(side: &[i32]) -> bool {
     side[..2].iter().all(|&x| is_word(x) && x & 0xFF == 0)
         && matches!(side[2], 0 | 1)
-        && side[STRIPS..].iter().copied().all(is_word)
+        && side[STRIPS..].chunks_exact(STRIP_COUNT).enumerate().all(strip_is_fit)
+}
+
+fn strip_is_fit((band, strip): (usize, &[i32])) -> bool {
+    let most = if band < FEEDBACK_COUNT { REMAINDER_SIZE } else { 0 };
+    strip[..REMAINDER].iter().copied().all(is_word) && (-most..=most).contains(&strip[REMAINDER])
 }
 
 impl Section {
@@ -69,40 +76,55 @@ impl Section {
         let [y1, y2, gain, target] = [0, 1, 2, 3].map(|n| strip[n].into());
         Section { a, b, g, y1, y2, gain, target }
     }
+
+    /// One step: the gain moves, the remainder is added to the sum, and gain × y is given.
+    #[inline(always)]
+    fn step(&mut self, difference: i64, remainder: &mut i64, limited: &mut bool) -> i64 {
+        self.gain = moved(self.gain, self.target, i64::from(GAIN_SLOPE));
+        let sum = self.a * difference + self.g * self.y1 - self.b * self.y2 + *remainder;
+        let mut number = rounded(sum, 22);
+        *remainder = sum - (number << 22);
+        if !WORDS.contains(&number) {
+            *limited = true;
+            number = number.clamp(*WORDS.start(), *WORDS.end());
+            *remainder = 0;
+        }
+        self.y2 = self.y1;
+        self.y1 = number;
+        self.gain * number
+    }
 }
 
 impl Side {
     fn read(bands: &[i32], side: &[i32]) -> Side {
-        let sections = std::array::from_fn(|n| Section::read(&bands[3 * n..], &side[STRIPS + 4 * n..]));
-        Side { x1: side[0].into(), x2: side[1].into(), limited: side[2] != 0, sections }
+        let sections = std::array::from_fn(|n| Section::read(&bands[3 * n..], &side[STRIPS + STRIP_COUNT * n..]));
+        let remainders = std::array::from_fn(|n| side[STRIPS + STRIP_COUNT * n + REMAINDER].into());
+        Side { x1: side[0].into(), x2: side[1].into(), limited: side[2] != 0, sections, remainders }
     }
 
     fn write(&self, side: &mut [i32]) {
         side[..3].copy_from_slice(&[self.x1 as i32, self.x2 as i32, self.limited.into()]);
-        for (section, strip) in self.sections.iter().zip(side[STRIPS..].chunks_exact_mut(4)) {
+        for (section, strip) in self.sections.iter().zip(side[STRIPS..].chunks_exact_mut(STRIP_COUNT)) {
             strip[..3].copy_from_slice(&[section.y1 as i32, section.y2 as i32, section.gain as i32]);
+        }
+        for (remainder, strip) in self.remainders.iter().zip(side[STRIPS..].chunks_exact_mut(STRIP_COUNT)) {
+            strip[REMAINDER] = *remainder as i32;
         }
     }
 
-    /// One sample of this side: its gains move, its sections step, and the mix is brought to the volume.
+    /// One sample of this side: its sections step, and the mix is brought to the volume.
     #[inline(always)]
     fn play(&mut self, s: i16, volume: i64) -> i16 {
         let x = 256 * i64::from(s);
         let difference = x - self.x2;
         let mut total = x << 23;
-        for section in &mut self.sections {
-            section.gain = moved(section.gain, section.target, i64::from(GAIN_SLOPE));
-            let sum = section.a * difference + section.g * section.y1 - section.b * section.y2;
-            let number = rounded(sum, 22);
-            let y = if WORDS.contains(&number) {
-                number
-            } else {
-                self.limited = true;
-                number.clamp(*WORDS.start(), *WORDS.end())
-            };
-            section.y2 = section.y1;
-            section.y1 = y;
-            total += section.gain * y;
+        let (fed, plain) = self.sections.split_at_mut(FEEDBACK_COUNT);
+        for (section, remainder) in fed.iter_mut().zip(&mut self.remainders) {
+            total += section.step(difference, remainder, &mut self.limited);
+        }
+        // The others have nothing to add, and carry nothing on.
+        for section in plain {
+            total += section.step(difference, &mut 0, &mut self.limited);
         }
         self.x2 = self.x1;
         self.x1 = x;

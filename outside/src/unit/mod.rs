@@ -12,19 +12,31 @@ pub mod sheet;
 use crate::reference::{band_refusal, house_set, ACCEPTED};
 use std::array::from_fn;
 
-/// A unit as it crosses the C ABI, in the order of the strip sheet: "V (volume, target); ten C (A, B, G); L (x1, x2,
-/// flag); ten S (y1, y2, gain, target); R as L; ten S."
-pub type Numbers = [i32; 118];
+/// A unit as it crosses the C ABI: "the volume, its target; A, B, G of each band; for the left side x1, x2, flag, then
+/// y1, y2, gain, target, remainder of each section; as many for the right side."
+pub type Numbers = [i32; UNIT_COUNT];
+pub const UNIT_COUNT: usize = 138;
 
 /// Where the parts of a unit begin.
 pub const VOLUME: usize = 0;
 pub const BANDS: usize = 2;
 pub const LEFT: usize = 32;
-pub const RIGHT: usize = 75;
+pub const RIGHT: usize = 85;
 
-/// The numbers of a side, and where its ten S lines begin.
-pub const SIDE_COUNT: usize = 43;
+/// The numbers of a side, where its ten sections begin, and the numbers of a section.
+pub const SIDE_COUNT: usize = 53;
 pub const STRIPS: usize = 3;
+pub const STRIP_COUNT: usize = 5;
+
+/// Where the gain and the remainder stand among the numbers of a section; the gain's target is behind the gain.
+pub const GAIN: usize = 2;
+pub const REMAINDER: usize = 4;
+
+/// How many bands, from band 0 on, feed their remainder back: "In bands 0 to 3 the remainder is added to S in the next
+/// step".
+pub const FEEDBACK_COUNT: usize = 4;
+/// The largest size of a remainder: "from -2,097,152 to 2,097,152".
+pub const REMAINDER_SIZE: i32 = 2_097_152;
 
 /// "5 input bytes no multiple of four; 6 output shorter than input."
 pub const PART_OF_A_FRAME: u32 = 5;
@@ -53,12 +65,13 @@ pub struct Band {
     pub g: i32,
 }
 
-/// What an S line carries: a section's results and its gain.
+/// What an S line carries: a section's results, its gain, and the remainder that it feeds back.
 #[derive(Clone, Copy)]
 pub struct Strip {
     pub y1: i32,
     pub y2: i32,
     pub gain: Level,
+    pub remainder: i32,
 }
 
 /// What an L or R line and its ten S lines carry.
@@ -82,18 +95,23 @@ impl Unit {
     pub fn from_numbers(numbers: &Numbers) -> Unit {
         let level = |at: usize| Level { present: numbers[at], target: numbers[at + 1] };
         let band = |at: usize| Band { a: numbers[at], b: numbers[at + 1], g: numbers[at + 2] };
-        let strip = |at: usize| Strip { y1: numbers[at], y2: numbers[at + 1], gain: level(at + 2) };
+        let strip = |at: usize| Strip {
+            y1: numbers[at],
+            y2: numbers[at + 1],
+            gain: level(at + GAIN),
+            remainder: numbers[at + REMAINDER],
+        };
         let side = |at: usize| Side {
             x1: numbers[at],
             x2: numbers[at + 1],
             flag: numbers[at + 2],
-            strips: from_fn(|n| strip(at + STRIPS + 4 * n)),
+            strips: from_fn(|band| strip(strip_at(at, band))),
         };
         Unit { volume: level(VOLUME), bands: from_fn(|n| band(BANDS + 3 * n)), sides: [LEFT, RIGHT].map(side) }
     }
 
     pub fn to_numbers(&self) -> Numbers {
-        let mut numbers = Vec::with_capacity(118);
+        let mut numbers = Vec::with_capacity(UNIT_COUNT);
         numbers.extend([self.volume.present, self.volume.target]);
         for band in &self.bands {
             numbers.extend([band.a, band.b, band.g]);
@@ -102,16 +120,27 @@ impl Unit {
             numbers.extend([side.x1, side.x2, side.flag]);
             for strip in &side.strips {
                 let Level { present, target } = strip.gain;
-                numbers.extend([strip.y1, strip.y2, present, target]);
+                numbers.extend([strip.y1, strip.y2, present, target, strip.remainder]);
             }
         }
-        numbers.try_into().expect("118 numbers")
+        numbers.try_into().expect("as many as a unit has")
     }
 }
 
-/// "A cleared unit holds a band set; all inputs, results, gains, targets, the volume and the flags are zero."
+/// Where the section of a band begins, on the side that begins here.
+pub const fn strip_at(side: usize, band: usize) -> usize {
+    side + STRIPS + STRIP_COUNT * band
+}
+
+/// True for a band that feeds its remainder back.
+pub const fn feeds_back(band: usize) -> bool {
+    band < FEEDBACK_COUNT
+}
+
+/// "A cleared unit holds a band set; all inputs, results, remainders, gains, targets, the volume and the flags are
+/// zero."
 pub fn cleared(set: &[i32; 30]) -> Numbers {
-    let mut numbers = [0; 118];
+    let mut numbers = [0; UNIT_COUNT];
     numbers[BANDS..LEFT].copy_from_slice(set);
     numbers
 }

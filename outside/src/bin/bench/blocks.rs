@@ -6,7 +6,7 @@ use outside::reference::{ACCEPTED, WORD_MAX};
 use outside::subject::Form;
 use outside::timer::{fold, timed, within, Goal};
 use outside::unit::exact::Met;
-use outside::unit::{cleared, exact, house_unit, Numbers, LEFT, RIGHT, STRIPS, VOLUME};
+use outside::unit::{cleared, exact, house_unit, strip_at, Numbers, GAIN, LEFT, RIGHT, VOLUME};
 
 use super::processes::best_of_all;
 use super::{best, race, told, NO_GOAL, ROUNDS, SEED, WITH_RUST};
@@ -62,7 +62,7 @@ pub const PLAYED: [Played; 3] = [MOVING, LOUD, SINGLE];
 
 /// The places of the twenty gains; each target stands behind its gain.
 fn gains() -> impl Iterator<Item = usize> {
-    [LEFT, RIGHT].into_iter().flat_map(|side| (0..10).map(move |band| side + STRIPS + 4 * band + 2))
+    [LEFT, RIGHT].into_iter().flat_map(|side| (0..10).map(move |band| strip_at(side, band) + GAIN))
 }
 
 /// The house unit, with the volume so high that it never comes back to 0.

@@ -18,7 +18,7 @@ use outside::subject::{Form, FAST, LIBRARY};
 use outside::timer::{fold, in_turns, status, timed, within, Goal, NO_GOAL};
 use outside::unit::orders::Order;
 use outside::unit::sheet::SHEET;
-use outside::unit::{house_unit, Numbers};
+use outside::unit::{house_unit, Numbers, UNIT_COUNT};
 
 const SEED: u64 = 0xF0DD_00BE;
 const ROUNDS: usize = 11;
@@ -173,7 +173,7 @@ fn run_writes(form: &Form, units: &[Numbers]) -> (f64, u64) {
 
 /// Each sheet in turn read into its own unit.
 fn run_reads(form: &Form, sheets: &[[u8; SHEET]]) -> (f64, u64) {
-    let mut units = vec![[0; 118]; sheets.len()];
+    let mut units = vec![[0; UNIT_COUNT]; sheets.len()];
     let mut read_all = || units.iter_mut().zip(sheets).all(|(unit, sheet)| (form.sheet_read)(unit, sheet) == ACCEPTED);
     let (time, read) = timed(|| (0..SHEETS / sheets.len()).all(|_| read_all()));
     assert!(read);

@@ -5,7 +5,7 @@ use outside::reference::ACCEPTED;
 use outside::unit::exact::{self, Met};
 use outside::unit::orders::{exact as orders, Order};
 use outside::unit::sheet::{exact as sheet, FIELD};
-use outside::unit::{house_unit, Numbers, PART_OF_A_FRAME};
+use outside::unit::{house_unit, Numbers, PART_OF_A_FRAME, UNIT_COUNT};
 use outside::wave::{heading, walk, MOST, NO_DATA};
 
 use super::folder::{and_file, file_in, Contents, NEW_NAME, SHEET_NAME};
@@ -29,7 +29,7 @@ pub fn line(number: u32) -> String {
 
 /// The unit that a sheet carries, or its refusal.
 fn unit_of(bytes: &[u8]) -> Result<Numbers, u32> {
-    let mut unit = [0; 118];
+    let mut unit = [0; UNIT_COUNT];
     match sheet::read(&mut unit, bytes) {
         ACCEPTED => Ok(unit),
         refusal => Err(refusal),

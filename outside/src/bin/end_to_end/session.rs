@@ -106,6 +106,18 @@ impl Session {
         true
     }
 
+    /// Waits for the end of the program, its input still open; false where it did not come.
+    pub fn wait_for_end(&mut self, patience: Duration) -> bool {
+        let begun = Instant::now();
+        while !self.has_ended() {
+            if begun.elapsed() > patience {
+                return false;
+            }
+            thread::sleep(GLANCE);
+        }
+        true
+    }
+
     /// The bytes of sound up to now.
     pub fn sound_count(&self) -> usize {
         self.sound.as_ref().map_or(0, |sound| sound.count.load(Ordering::Relaxed))
@@ -133,13 +145,9 @@ impl Session {
     }
 
     fn wait(&mut self) -> Result<ExitStatus, Difference> {
-        let begun = Instant::now();
-        while !self.has_ended() {
-            if begun.elapsed() > LIMIT {
-                self.kill();
-                return Err(format!("it ran longer than {LIMIT:?}"));
-            }
-            thread::sleep(GLANCE);
+        if !self.wait_for_end(LIMIT) {
+            self.kill();
+            return Err(format!("it ran longer than {LIMIT:?}"));
         }
         self.child.wait().map_err(|error| format!("can't be waited for: {error}"))
     }

@@ -22,7 +22,7 @@ bytes() { printf "$(printf '\\%03o' $(($1 & 255)) $(($1 >> 8 & 255)) $(($1 >> 16
 const ALL: &[&str] = &[PLAY, HOUSE, DESK];
 
 #[rustfmt::skip]
-pub const WRONG: [Wrong; 49] = [
+pub const WRONG: [Wrong; 56] = [
     ("filled-tail", "three zero bytes stand behind the input", &[PLAY], "tails, chunks",
         r#"{ cat; head -c 3 /dev/zero; } | "$0" "$@""#),
     ("silent-tail", "a tail is not told", &[PLAY], "tails, chunks, live",
@@ -50,7 +50,13 @@ pub const WRONG: [Wrong; 49] = [
     ("lost-flag", "the flags are not written", &[PLAY], "sounds",
         r#""$0" "$@"; [ ! -f strip.new ] || sed -i 's/^\([LR].*\)1$/\10/' strip.new"#),
     ("gain-at-target", "every gain is written as its target", &[PLAY], "figures, continued",
-        r#""$0" "$@"; [ ! -f strip.new ] || sed -i 's/^\(S.\{18\}\).\{9\}\(.\{9\}\)$/\1\2\2/' strip.new"#),
+        r#""$0" "$@"; [ ! -f strip.new ] || sed -i 's/^\(S.\{18\}\).\{9\}\(.\{9\}\)/\1\2\2/' strip.new"#),
+    ("lost-remainder", "every remainder is written as 0", &[PLAY], "figures, sounds, continued, wave continued",
+        r#""$0" "$@"; [ ! -f strip.new ] || sed -i 's/^\(S.\{36\}\).\{9\}$/\1        0/' strip.new"#),
+    ("short-new", "strip.new has no fifth fields", &[PLAY], "figures, tails, sounds",
+        r#""$0" "$@"; [ ! -f strip.new ] || sed -i 's/^\(S.\{36\}\).\{9\}$/\1/' strip.new"#),
+    ("short-refused", "a strip.sht of 1,128 bytes is refused", &[PLAY], "figures, tails",
+        r#"[ ! -f strip.sht ] || [ "$(wc -c <strip.sht)" != 1128 ] || { echo 11 >&2; exit; }; exec "$0" "$@""#),
     ("high-byte-first", "the sound's samples have their high byte first", &[PLAY], "figures, sounds",
         r#""$0" "$@" | dd conv=swab status=none"#),
     ("waits-for-more", "64 KiB are waited for before they are played", &[PLAY], "live, live waves",
@@ -83,6 +89,14 @@ pub const WRONG: [Wrong; 49] = [
         exec "$0" $list "$@""#),
     ("desk-one-read", "desk takes what one read gives as the sheet", &[DESK], "desk orders",
         r#"dd bs=4K count=1 status=none 2>/dev/null | "$0" "$@""#),
+    ("desk-waits", "desk waits for the end of its input", &[DESK], "desk refusals",
+        r#"cat 2>/dev/null | "$0" "$@""#),
+    ("desk-cut", "bytes behind 1,200 are not looked at", &[DESK], "desk orders",
+        r#"head -c 1200 2>/dev/null | "$0" "$@""#),
+    ("desk-short-refused", "desk refuses a sheet of 1,128 bytes", &[DESK], "desk orders",
+        r#"cat >"$kept"; [ "$(wc -c <"$kept")" != 1128 ] || { echo 11 >&2; exit; }; exec "$0" "$@" <"$kept""#),
+    ("short-written", "the sheet that is written has no fifth fields", &[HOUSE, DESK], "house, desk orders, chains",
+        r#""$0" "$@" | sed 's/^\(S.\{36\}\).\{9\}$/\1/'"#),
     ("desk-reversed", "the last of several orders comes first", &[DESK], "desk orders, desk refusals",
         r#"list=; while [ $# -gt 2 ]; do list="$1 $2 $3 $list"; shift 3; done; exec "$0" $list "$@""#),
     ("written-refusal", "a sheet is written after a refused order", &[DESK], "desk refusals",

@@ -2,7 +2,7 @@
 
 use super::{refusal_by, target_by, Order, FACTOR_NOT_FINITE, FACTOR_OUTSIDE};
 use crate::reference::{ACCEPTED, WORD_MAX};
-use crate::unit::{fast::fit, Numbers, LEFT, RIGHT, STRIPS, UNFIT, VOLUME};
+use crate::unit::{fast::fit, strip_at, Numbers, GAIN, LEFT, RIGHT, UNFIT, VOLUME};
 
 fn factor_refusal(f: f32, volume: bool) -> u32 {
     let lowest = if volume { 0.0 } else { -1.0 };
@@ -44,10 +44,9 @@ pub fn set(numbers: &mut Numbers, order: &Order, target: i32) {
         numbers[VOLUME + 1] = target;
         return;
     }
-    let place = STRIPS + 4 * order.band as usize + 3;
     for (side, begin) in [LEFT, RIGHT].into_iter().enumerate() {
         if order.names(side) {
-            numbers[begin + place] = target;
+            numbers[strip_at(begin, order.band as usize) + GAIN + 1] = target;
         }
     }
 }

@@ -1,8 +1,8 @@
 //! The plain meaning of a sheet: a field is a number as it is formatted, and a sheet is read from its first byte on.
 
-use super::{BADLY_WRITTEN, FIELD, LETTER_OR_END, LINE_FEED, NOT_A_SHEET, OUTSIDE, SHEET};
+use super::{BADLY_WRITTEN, FIELD, LETTER_OR_END, LINE_FEED, NOT_A_SHEET, OUTSIDE, SHEET, SHORT_SHEET};
 use crate::reference::{band_refusal, is_word, ACCEPTED};
-use crate::unit::{exact::fit, Level, Numbers, Unit};
+use crate::unit::{exact::fit, feeds_back, Level, Numbers, Unit, UNIT_COUNT};
 use std::fmt::Write;
 
 /// "each a letter, fields of nine columns with decimal numbers right-justified in blanks, and a line feed".
@@ -14,7 +14,8 @@ fn write_line(text: &mut String, letter: char, numbers: &[i32]) {
     text.push('\n');
 }
 
-/// "In order: V (volume, target); ten C (A, B, G); L (x1, x2, flag); ten S (y1, y2, gain, target); R as L; ten S."
+/// "In order: V (volume, target); ten C (A, B, G); L (x1, x2, flag); ten S (y1, y2, gain, target); R as L; ten S. The S
+/// lines of bands 0 to 3 have a fifth field at the end, the remainder."
 fn text(unit: &Unit) -> String {
     let mut text = String::with_capacity(SHEET);
     let Level { present, target } = unit.volume;
@@ -24,9 +25,10 @@ fn text(unit: &Unit) -> String {
     }
     for (letter, side) in ['L', 'R'].into_iter().zip(&unit.sides) {
         write_line(&mut text, letter, &[side.x1, side.x2, side.flag]);
-        for strip in &side.strips {
+        for (band, strip) in side.strips.iter().enumerate() {
             let Level { present, target } = strip.gain;
-            write_line(&mut text, 'S', &[strip.y1, strip.y2, present, target]);
+            let numbers = [strip.y1, strip.y2, present, target, strip.remainder];
+            write_line(&mut text, 'S', if feeds_back(band) { &numbers } else { &numbers[..4] });
         }
     }
     text
@@ -61,6 +63,8 @@ const INPUT: Range = |number| is_word(number) && number % 256 == 0;
 const FLAG: Range = |number| number == 0 || number == 1;
 /// Results, gains and targets.
 const WORD: Range = is_word;
+/// "the remainder from -2,097,152 to 2,097,152".
+const REMAINDER: Range = |number| (-2_097_152..=2_097_152).contains(&number);
 /// "a C line tests 8 to 10 after its three fields, in place of 14".
 const LATER: Range = |_| true;
 
@@ -72,7 +76,7 @@ struct Reading<'a> {
 
 impl Reading<'_> {
     fn byte(&mut self, wanted: u8) -> Result<(), u32> {
-        let (byte, rest) = self.rest.split_first().expect("1,128 bytes");
+        let (byte, rest) = self.rest.split_first().expect("a whole sheet");
         self.rest = rest;
         (*byte == wanted).then_some(()).ok_or(LETTER_OR_END)
     }
@@ -97,6 +101,17 @@ impl Reading<'_> {
         self.byte(LINE_FEED)
     }
 
+    /// An S line with a fifth field, or without one: then the remainder is 0. "Of 1,128 bytes every S line is read with
+    /// four fields."
+    fn strip(&mut self, has_remainder: bool) -> Result<(), u32> {
+        if has_remainder {
+            return self.line(b'S', &[WORD, WORD, WORD, WORD, REMAINDER]);
+        }
+        self.line(b'S', &[WORD; 4])?;
+        self.numbers.push(0);
+        Ok(())
+    }
+
     /// A C line, with 8 to 10 "ahead of its line end."
     fn band(&mut self) -> Result<(), u32> {
         self.fields(b'C', &[LATER; 3])?;
@@ -110,15 +125,15 @@ impl Reading<'_> {
 
 /// The numbers of a sheet, or its refusal.
 fn sheet(bytes: &[u8]) -> Result<Vec<i32>, u32> {
-    if bytes.len() != SHEET {
+    if ![SHEET, SHORT_SHEET].contains(&bytes.len()) {
         return Err(NOT_A_SHEET);
     }
-    let mut reading = Reading { rest: bytes, numbers: Vec::with_capacity(118) };
+    let mut reading = Reading { rest: bytes, numbers: Vec::with_capacity(UNIT_COUNT) };
     reading.line(b'V', &[VOLUME; 2])?;
     (0..10).try_for_each(|_| reading.band())?;
     for letter in [b'L', b'R'] {
         reading.line(letter, &[INPUT, INPUT, FLAG])?;
-        (0..10).try_for_each(|_| reading.line(b'S', &[WORD; 4]))?;
+        (0..10).try_for_each(|band| reading.strip(bytes.len() == SHEET && feeds_back(band)))?;
     }
     Ok(reading.numbers)
 }

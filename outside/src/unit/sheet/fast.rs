@@ -1,9 +1,10 @@
-//! The sheet for use: lines and fields stand where a table says, and nothing is allocated.
+//! The sheet for use: its columns are filled and read one by one, and nothing is allocated.
 
-use super::places::{LETTERS, LINES};
+use super::places::Length;
 use super::{BADLY_WRITTEN, FIELD, LETTER_OR_END, LINE_FEED, NOT_A_SHEET, OUTSIDE, SHEET};
 use crate::reference::{band_refusal, is_word, ACCEPTED, WORD_MAX};
-use crate::unit::{fast::fit, Numbers};
+use crate::unit::{fast::fit, Numbers, BANDS, LEFT, RIGHT, STRIPS, STRIP_COUNT, UNIT_COUNT, VOLUME};
+use crate::unit::{FEEDBACK_COUNT, REMAINDER, REMAINDER_SIZE};
 
 /// Writes a number of at most eight columns.
 fn write_field(field: &mut [u8; FIELD], number: i32) {
@@ -28,27 +29,31 @@ pub fn write(numbers: &Numbers, buffer: &mut [u8]) -> usize {
     if buffer.len() < SHEET || !fit(numbers) {
         return 0;
     }
-    let (mut rest, mut numbers) = (buffer, numbers.as_slice());
-    for &letter in LETTERS {
-        rest = match letter {
-            b'V' => write_line::<2>(rest, letter, &mut numbers),
-            b'S' => write_line::<4>(rest, letter, &mut numbers),
-            _ => write_line::<3>(rest, letter, &mut numbers),
-        };
+    let mut rest = write_line::<2>(buffer, b'V', &numbers[VOLUME..]);
+    for band in numbers[BANDS..LEFT].chunks_exact(3) {
+        rest = write_line::<3>(rest, b'C', band);
+    }
+    for (letter, side) in [(b'L', &numbers[LEFT..RIGHT]), (b'R', &numbers[RIGHT..])] {
+        rest = write_line::<3>(rest, letter, side);
+        let (fed, plain) = side[STRIPS..].split_at(FEEDBACK_COUNT * STRIP_COUNT);
+        for strip in fed.chunks_exact(STRIP_COUNT) {
+            rest = write_line::<5>(rest, b'S', strip);
+        }
+        for strip in plain.chunks_exact(STRIP_COUNT) {
+            rest = write_line::<4>(rest, b'S', strip);
+        }
     }
     SHEET
 }
 
-/// Writes a line of N numbers to the front of the bytes, and gives the bytes behind it.
+/// Writes a line of the first N numbers to the front of the bytes, and gives the bytes behind it.
 #[inline(always)]
-fn write_line<'a, const N: usize>(bytes: &'a mut [u8], letter: u8, numbers: &mut &[i32]) -> &'a mut [u8] {
+fn write_line<'a, const N: usize>(bytes: &'a mut [u8], letter: u8, numbers: &[i32]) -> &'a mut [u8] {
     let (line, rest) = bytes.split_at_mut(2 + N * FIELD);
-    let (now, behind) = numbers.split_at(N);
-    *numbers = behind;
     line[0] = letter;
     let (fields, _) = line[1..].as_chunks_mut();
     for n in 0..N {
-        write_field(&mut fields[n], now[n]);
+        write_field(&mut fields[n], numbers[n]);
     }
     line[1 + N * FIELD] = LINE_FEED;
     rest
@@ -84,6 +89,7 @@ fn is_inside(letter: u8, column: usize, number: i32) -> bool {
         (b'C', _) => true,
         (b'L' | b'R', 2) => matches!(number, 0 | 1),
         (b'L' | b'R', _) => is_word(number) && number & 0xFF == 0,
+        (b'S', REMAINDER) => (-REMAINDER_SIZE..=REMAINDER_SIZE).contains(&number),
         _ => is_word(number),
     }
 }
@@ -110,17 +116,16 @@ fn read_line<const N: usize>(line: &[u8], letter: u8, numbers: &mut [i32]) -> Re
 }
 
 fn read_sheet(bytes: &[u8]) -> Result<Numbers, u32> {
-    if bytes.len() != SHEET {
-        return Err(NOT_A_SHEET);
-    }
-    let mut numbers = [0; 118];
-    for line in &LINES {
+    let length = Length::of(bytes.len()).ok_or(NOT_A_SHEET)?;
+    let mut numbers = [0; UNIT_COUNT];
+    for line in length.lines {
         let (bytes, numbers) = (&bytes[line.begin..=line.end()], &mut numbers[line.first..][..line.count]);
-        match line.letter {
-            b'V' => read_line::<2>(bytes, b'V', numbers),
-            b'S' => read_line::<4>(bytes, b'S', numbers),
-            b'C' => read_line::<3>(bytes, b'C', numbers),
-            letter => read_line::<3>(bytes, letter, numbers),
+        match (line.letter, line.count) {
+            (b'V', _) => read_line::<2>(bytes, b'V', numbers),
+            (b'S', 4) => read_line::<4>(bytes, b'S', numbers),
+            (b'S', _) => read_line::<5>(bytes, b'S', numbers),
+            (b'C', _) => read_line::<3>(bytes, b'C', numbers),
+            (letter, _) => read_line::<3>(bytes, letter, numbers),
         }?;
     }
     Ok(numbers)

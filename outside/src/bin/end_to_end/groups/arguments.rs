@@ -89,7 +89,7 @@ pub fn not_taken(test: &mut Test, program: &'static str, arguments: &[&[u8]]) ->
 /// What every program answers alike.
 pub fn every(test: &mut Test, program: &'static str) -> Result<(), Difference> {
     answered(test, program, &[b"--help"], usage(program), false)?;
-    answered(test, program, &[b"--version"], &format!("{program} (Fonddrys) 1.4\n"), true)?;
+    answered(test, program, &[b"--version"], &format!("{program} (Fonddrys) 1.5\n"), true)?;
     unread(test, program, &[b"--help"])?;
     unread(test, program, &[b"--version"])?;
     for arguments in NOT_TAKEN {

@@ -2,13 +2,15 @@
 
 use outside::checks::Difference;
 use outside::random::Random;
+use outside::unit::sheet::places::LENGTHS;
+use outside::unit::sheet::{NOT_A_SHEET, SHEET};
 
 use super::arguments::shown;
 use super::bad_sheets::{damaged, refused, DAMAGED};
 use crate::expected::{self, line, MOST_ORDERS};
-use crate::folder::other_files;
-use crate::run::{Input, Output, Run, DESK};
-use crate::seen::Seen;
+use crate::folder::{other_files, system_fault, Folder};
+use crate::run::{seen, Input, Output, Run, DESK};
+use crate::seen::{same, Seen};
 use crate::test::Test;
 
 /// Runs desk with nothing wrong but the arguments, the sheet or an order; the sheet comes from a file or through a pipe
@@ -54,14 +56,15 @@ pub fn any_orders(count: usize, random: &mut Random) -> Vec<String> {
     (0..count).map(|_| any_order(random)).collect()
 }
 
-/// Orders to a random fit sheet.
+/// Orders to a random fit sheet of any length.
 fn accepted(test: &mut Test, orders: &str) -> Result<(), Difference> {
-    let sheet = test.maker.sheet(test.runs);
+    let sheet = test.maker.any_sheet(test.runs);
     plain(test, &split(orders), &sheet)
 }
 
-/// Pieces in which a sheet comes.
-const PIECES: [&[usize]; 6] = [&[1], &[2, 7], &[100, 1], &[1_127, 1], &[1, 1_127], &[564]];
+/// Pieces in which a sheet comes, of either length.
+const PIECES: [&[usize]; 10] =
+    [&[1], &[2, 7], &[100, 1], &[564], &[600], &[1_127, 1], &[1, 1_127], &[1_128, 72], &[1_199, 1], &[1, 1_199]];
 
 /// Lists in which a later order goes to the place of an earlier one.
 const MEETING: [&str; 6] = [
@@ -77,10 +80,12 @@ const MEETING: [&str; 6] = [
 fn pieces(test: &mut Test) -> Result<(), Difference> {
     let arguments: [&[u8]; 6] = [b"1", b"7", b"29", b"2", b"10", b"3"];
     for (turn, lengths) in (1..).zip(PIECES) {
-        let fit = test.maker.sheet(turn);
-        for sheet in [&fit[..], &[&fit[..], b"\n"].concat()] {
-            let run = Run { arguments: &arguments[..3], ..Run::of(DESK, Input::Pieces(sheet, lengths)) };
-            expect(test, run, &expected::desk(run.arguments, sheet, &other_files()))?;
+        let unit = test.maker.unit(turn);
+        for fit in LENGTHS.map(|length| length.sheet_of(&unit)) {
+            for sheet in [&fit[..], &[&fit[..], b"\n"].concat()] {
+                let run = Run { arguments: &arguments[..3], ..Run::of(DESK, Input::Pieces(sheet, lengths)) };
+                expect(test, run, &expected::desk(run.arguments, sheet, &other_files()))?;
+            }
         }
     }
     let sheet = test.maker.sheet(3);
@@ -117,9 +122,9 @@ const POSITIONS: [u32; 10] = [32, 33, 127, 128, 255, 256, 287, 65_536, 16_777_21
 const SIDES: [u32; 8] = [3, 4, 10, 255, 256, 258, 65_536, 999_999_999];
 const BANDS: [u32; 8] = [11, 12, 32, 255, 256, 266, 65_546, 999_999_999];
 
-/// Orders that are refused on a random fit sheet.
+/// Orders that are refused on a random fit sheet of any length.
 fn refused_order(test: &mut Test, orders: &str, number: u32) -> Result<(), Difference> {
-    let sheet = test.maker.sheet(test.runs);
+    let sheet = test.maker.any_sheet(test.runs);
     told(test, &split(orders), &sheet, &line(number))
 }
 
@@ -162,8 +167,9 @@ fn refused_in_lists(test: &mut Test) -> Result<(), Difference> {
 /// Refused sheets, with orders that are accepted and that are not; any damage with any orders.
 fn refused_sheets(test: &mut Test) -> Result<(), Difference> {
     let others = ["0 3 32", "1 10 mute", "0 3 20 2 10 26", "2 10 26 0 3 32"];
-    let sheets = refused(&test.maker.sheet(0));
-    for ((case, sheet, number), other) in sheets.into_iter().zip(others.iter().cycle()) {
+    let unit = test.maker.unit(0);
+    let sheets = LENGTHS.into_iter().flat_map(|length| refused(&length.sheet_of(&unit)));
+    for ((case, sheet, number), other) in sheets.zip(others.iter().cycle()) {
         for orders in ["0 3 20", other] {
             told(test, &split(orders), &sheet, &line(number)).map_err(|difference| format!("{case}: {difference}"))?;
         }
@@ -200,9 +206,24 @@ fn streams(test: &mut Test) -> Result<(), Difference> {
     Ok(())
 }
 
+/// An input of one byte more than a sheet is refused while it stays open.
+fn too_long_at_once(test: &mut Test) -> Result<(), Difference> {
+    let folder = Folder::new(&other_files()).map_err(system_fault)?;
+    let arguments = split("2 10 25");
+    let run = Run { arguments: &arguments, ..Run::of(DESK, Input::Pipe(&[])) };
+    let mut session = run.start(test.setup.words(DESK, &arguments), &folder)?;
+    test.runs += 1;
+    session.send(&test.maker.bytes(SHEET + 1));
+    if !session.wait_for_end(test.setup.patience) {
+        return Err("more than a sheet was waited for".to_string());
+    }
+    same(&Seen::nothing_but(&line(NOT_A_SHEET), &other_files()), &seen(session.end(&[])?, &folder)?)
+}
+
 /// Refused sheets and orders, and streams that fail: one line on standard error and nothing on standard output. The
 /// sheet's number comes ahead of the orders'.
 pub fn refusals(test: &mut Test) -> Result<(), Difference> {
+    too_long_at_once(test)?;
     streams(test)?;
     refused_in_lists(test)?;
     refused_alone(test)?;

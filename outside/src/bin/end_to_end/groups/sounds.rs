@@ -15,7 +15,7 @@ const BEFORE_A_TAIL: [usize; 14] = [0, 1, 2, 3, 250, 1_023, 1_024, 2_048, 4_096,
 /// Inputs of every length by four: 5 is told after the whole frames are played and the sheet is written.
 pub fn tails(test: &mut Test) -> Result<(), Difference> {
     for (turn, frames) in (3..).zip(BEFORE_A_TAIL) {
-        let [without, with_old] = without_and_with_old(&with_sheet(&test.maker.sheet(turn)));
+        let [without, with_old] = without_and_with_old(&with_sheet(&test.maker.any_sheet(turn)));
         let noise = test.sound(Sound::Noise, frames + 1);
         for tail in 0..4 {
             let bytes = &noise[..4 * frames + tail];
