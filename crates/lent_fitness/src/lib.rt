@@ -13,8 +13,8 @@ ghost use Rattle.lent_fitness.specs.Remainders.{remainderWithin};
 // How many numbers the sections of a channel have.
 const SECTIONS_SIZE: usize = numbers::SECTION_SIZE * bands::BAND_COUNT;
 
-// Where a section's remainder stands, behind the first number of the section.
-const REMAINDER: usize = 4;
+// Where a section's remainder stands among the numbers of the section: it is the last.
+const REMAINDER: usize = numbers::SECTION_SIZE - 1;
 
 // Whether the unit is fit.
 pub fn is_fit(numbers: &[i32; numbers::UNIT_SIZE]) -> bool

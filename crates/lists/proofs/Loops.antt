@@ -12,13 +12,13 @@ use Rattle.lists.specs.Lists.{tabulate, every}
 
 -- ---- what is told of a list, entry by entry: from entry i on
 
-module _ {A B : Type 0} (of : List A → B) (l : List A) (i : ℕ) (e : of l ≡ of (drop i l)) where
+module _ {A B : Type 0} (of : List A → B) (l : List A) (i : ℕ) {told : B} (e : told ≡ of (drop i l)) where
   -- entry i, and what follows it
-  pub told-next : (d : A) → i < length l → of l ≡ of (getD l i d ∷ drop (i + 1) l)
+  pub told-next : (d : A) → i < length l → told ≡ of (getD l i d ∷ drop (i + 1) l)
   told-next d h = e ∙ rw (add-one, drop-cons l i d)
 
   -- past the last entry
-  pub told-done : length l ≤ i → of l ≡ of []
+  pub told-done : length l ≤ i → told ≡ of []
   told-done h = e ∙ ap of (drop-of-length-le l h)
 
 -- ---- a test of every entry
@@ -33,20 +33,17 @@ every-begin = record { left = refl }
 module _ {A : Type 0} {test : A → Bool} {l : List A} {first i : ℕ} (from : EveryFrom test l first i) where
   -- past the last entry
   pub every-done : length l ≤ i → true ≡ every test (drop first l)
-  every-done h = sym (from .left ∙ ap (every test) (drop-of-length-le l h))
+  every-done h = sym (told-done (every test) l i (from .left) h)
 
   -- entry i is tested
   module _ (d : A) {t : Bool} (h : i < length l) (tested : t ≡ test (getD l i d)) where
-    next : every test (drop first l) ≡ every test (getD l i d ∷ drop (i + 1) l)
-    next = from .left ∙ rw (add-one, drop-cons l i d)
-
     -- and fails
     pub every-fails : not t ≡ true → false ≡ every test (drop first l)
-    every-fails f = sym (next ∙ simp (sym tested ∙ not-true t f))
+    every-fails f = sym (told-next (every test) l i (from .left) d h ∙ simp (sym tested ∙ not-true t f))
 
     -- and passes
     pub every-passes : not t ≡ false → EveryFrom test l first (i + 1)
-    every-passes p = record { left = next ∙ simp (sym tested ∙ not-false t p) }
+    every-passes p = record { left = told-next (every test) l i (from .left) d h ∙ simp (sym tested ∙ not-false t p) }
 
 -- ---- a test of every entry, with no branch
 
@@ -65,14 +62,14 @@ module _ {A : Type 0} {test : A → Bool} {l : List A} {first i : ℕ} {found : 
       record {
         below = omega arith;
         whole =
-            so .whole
-            ∙ ap (λ (r : Bool). found && r) (rw (add-one, drop-cons l i d, e))
+            told-next (λ (m : List A). found && every test m) l i (so .whole) d h
+            ∙ ap (λ (u : Bool). found && (u && every test (drop (i + 1) l))) (sym e)
             ∙ sym (and-assoc found t (every test (drop (i + 1) l)));
       }
 
   -- past the last entry
   pub found-done : length l ≤ i → found ≡ every test (drop first l)
-  found-done h = sym (so .whole ∙ ap (λ (m : List A). found && every test m) (drop-of-length-le l h) ∙ and-true found)
+  found-done h = sym (told-done (λ (m : List A). found && every test m) l i (so .whole) h ∙ and-true found)
 
 -- ---- a list of n entries that is filled from the front with f 0, f 1 and so on
 
