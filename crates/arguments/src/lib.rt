@@ -1,4 +1,5 @@
 // What the arguments of a program stand for: what the program is asked for, and one argument as a number or the word "mute".
+#![tactic(auto)]
 ghost use Rattle.std.specs.Prelude.{◌≡◌, ◌++◌, ◌-◌, ◌≤◌, length, take};
 ghost use Rattle.fields.specs.Fields.{same_bytes};
 ghost use Rattle.arguments.specs.Meaning.{request_of, asks_wave, is_plain, asks_text, unsigned_of, argument_number, meaning_of};
@@ -12,7 +13,7 @@ pub const NONE: u32 = fields::NO_NUMBER as u32;
 pub const MUTE: u32 = NONE + 1;
 
 // What a program is asked for: what it does, its help, its version, or something else.
-#[derive(Drop)]
+#[derive(Clone, Copy)]
 pub enum Request {
     Plain,
     Help,

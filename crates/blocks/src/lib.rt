@@ -1,5 +1,6 @@
 // Playing a block of frames through the unit. A frame is four bytes: left then right, low byte first.
 // Where a sample goes: from `play` to `run`, which holds the unit as floats, and to `frames::frames`.
+#![tactic(auto)]
 ghost use Rattle.std.specs.Prelude.{◌≡◌, true, length};
 ghost use Rattle.refusals.specs.Numbers.{is_accepted};
 ghost use Rattle.unit.specs.Sizes.{channel_count};
@@ -15,7 +16,7 @@ use unit::{Channel, Unit};
 pub const PAIR_COUNT: usize = unit::CHANNEL_COUNT / engine::SIDE_COUNT;
 
 // What a block answers, and the unit after it.
-#[derive(Drop)]
+#[derive(Clone, Copy)]
 pub struct Played {
     pub verdict: Verdict,
     pub unit: Unit,

@@ -1,4 +1,5 @@
 // What the programs share: what they tell of themselves, a refusal's line, and reading and writing that says what failed.
+#![tactic(auto)]
 ghost use Rattle.std.specs.Prelude.{◌≡◌, ◌≤◌, min, length};
 ghost use Rattle.io.specs.Counts.{IsPrefixLen};
 ghost use Rattle.console.specs.Answers.{SayAsks};
@@ -8,7 +9,7 @@ use arguments::Request;
 use refusals::Verdict;
 
 // What reading leaves: the count of bytes at the front of the buffer, whether more may come, and whether a read failed.
-#[derive(Drop)]
+#[derive(Clone, Copy)]
 pub struct Received {
     pub count: usize,
     pub is_open: bool,

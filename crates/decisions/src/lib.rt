@@ -1,5 +1,6 @@
 // What the programs decide, on values: play for the bytes of a sheet, for the data of a wave file and at the end of a sound, desk for the numbers
 // that arguments stand for and for a sheet. The programs read, ask here, and write what is answered.
+#![tactic(auto)]
 ghost use Rattle.std.specs.Prelude.{◌≡◌};
 ghost use Rattle.order_lists.specs.Lists.{orders_in};
 ghost use Rattle.decisions.specs.Decisions.{opened, ending_of, can_play, wave_verdict, wave_ending_of, is_call, desk_verdict, desk_sheet};
@@ -9,7 +10,7 @@ use refusals::Verdict;
 use wave_reading::Located;
 
 // How a pass ends: whether the sheet is written, and what is answered behind it.
-#[derive(Drop)]
+#[derive(Clone, Copy)]
 pub struct PassEnd {
     pub is_saved: bool,
     pub verdict: Verdict,

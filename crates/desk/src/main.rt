@@ -2,6 +2,7 @@
 // The arguments are side (0 left, 1 right, 2 both), band (0 to 9, or 10 for the volume) and position (0 to 31, or "mute"), again and again; all
 // orders are given or none. A refusal is one line on standard error, its number, and nothing is written. What the arguments mean is decided in
 // `arguments` and `order_lists`, and what is answered in `decisions`; here it is followed.
+#![tactic(auto)]
 ghost use Rattle.std.specs.Prelude.{◌≡◌, true, false};
 ghost use Rattle.io.specs.Counts.{IsPrefixLen};
 ghost use Rattle.arguments.specs.Meaning.{request_of};

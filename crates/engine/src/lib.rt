@@ -1,6 +1,7 @@
 // A frame of two sides, in f64: docs/ARCHITECTURE.md, The engine. Every number here is whole and below 2^53, so that products, sums and
 // differences are exact; what is rounded and limited is said at each function. specs/Layout.antt is where each number stands.
 // The sides of a pair are neighbours, and one function serves both: the compiler works them together.
+#![tactic(auto)]
 ghost use Rattle.std.specs.Prelude.{◌≡◌, ◌+◌, ◌-◌, ◌<◌, length};
 ghost use Rattle.rounding.specs.Rounding.{nearest};
 ghost use Rattle.floats.specs.Whole.{whole_of};
@@ -47,7 +48,7 @@ const SAMPLE_LOW: f64 = -32768.0;
 const SAMPLE_HIGH: f64 = 32767.0;
 
 // A band's coefficients.
-#[derive(Drop)]
+#[derive(Clone, Copy)]
 pub struct FloatBand {
     pub alpha: f64,
     pub beta: f64,
@@ -55,14 +56,14 @@ pub struct FloatBand {
 }
 
 // A level: its present number and its target.
-#[derive(Drop)]
+#[derive(Clone, Copy)]
 pub struct FloatLevel {
     pub present: f64,
     pub target: f64,
 }
 
 // A section of a channel: its two earlier results, its gain, and the remainder that is added to the next S.
-#[derive(Drop)]
+#[derive(Clone, Copy)]
 pub struct FloatSection {
     pub y1: f64,
     pub y2: f64,
@@ -71,28 +72,28 @@ pub struct FloatSection {
 }
 
 // A number of each side of a pair.
-#[derive(Drop)]
+#[derive(Clone, Copy)]
 pub struct Sides {
     pub first: f64,
     pub second: f64,
 }
 
 // What a channel's sections add up in a frame: T as far as it goes, and the flag, 1 once a section has limited, else 0.
-#[derive(Drop)]
+#[derive(Clone, Copy)]
 pub struct Tally {
     pub total: f64,
     pub flag: f64,
 }
 
 // The tallies of a pair.
-#[derive(Drop)]
+#[derive(Clone, Copy)]
 pub struct Tallies {
     pub first: Tally,
     pub second: Tally,
 }
 
 // A section after its turn, and the channel's tally.
-#[derive(Drop)]
+#[derive(Clone, Copy)]
 pub struct Turned {
     pub section: FloatSection,
     pub tally: Tally,

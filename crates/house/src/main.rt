@@ -1,4 +1,5 @@
 // Writes the strip sheet of the cleared house unit to standard output.
+#![tactic(auto)]
 ghost use Rattle.std.specs.Prelude.{◌≡◌, true};
 ghost use Rattle.bands.specs.House.{house_set};
 ghost use Rattle.loading.specs.Loading.{loaded};

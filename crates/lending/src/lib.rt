@@ -1,4 +1,5 @@
 // What the functions of the static library share: calls on a unit, or on a section, whose numbers are lent.
+#![tactic(auto)]
 ghost use Rattle.std.specs.Prelude.{◌≡◌};
 ghost use Rattle.refusals.specs.Numbers.{number_of};
 ghost use Rattle.section.specs.Step.{stepped};
@@ -15,7 +16,7 @@ pub const SECTION_NUMBERS: usize = 7;
 
 // What a step gives, as numbers: y, the remainder, 1 where the section has limited, else 0, and the refusal's number, 0 where there is none.
 #[repr(C)]
-#[derive(Drop)]
+#[derive(Clone, Copy)]
 pub struct StepAnswer {
     pub y: i32,
     pub remainder: i32,

@@ -1,6 +1,7 @@
 // The engine's floats from the 138 numbers of a unit that are lent, and these numbers from the floats: docs/SPECIFICATION.md, The C
 // library, has their order. The numbers of a channel's sections stand one behind the other in both orders, and so do the coefficients of all
 // bands.
+#![tactic(auto)]
 ghost use Rattle.std.specs.Prelude.{◌≡◌, drop};
 ghost use Rattle.words.specs.Words.{word_size};
 ghost use Rattle.floats.specs.Whole.{whole_of};

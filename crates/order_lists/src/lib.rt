@@ -1,4 +1,5 @@
 // Level orders as a list of numbers, three for each: which lists are orders, and all of them given to a unit in turn.
+#![tactic(auto)]
 ghost use Rattle.std.specs.Prelude.{◌≡◌, ◌+◌, ◌≤◌, length, get_or};
 ghost use Rattle.unit.specs.Sizes.{channel_count};
 ghost use Rattle.orders.specs.Orders.{ordered};
@@ -19,7 +20,7 @@ const PLACES: usize = (settings::BOTH_SIDES as usize + 1) * bands::BAND_COUNT + 
 pub const LIST_ROOM: usize = ORDER_SIZE * PLACES;
 
 // A level order.
-#[derive(Drop)]
+#[derive(Clone, Copy)]
 pub struct DeskOrder {
     pub side: u32,
     pub band: u32,

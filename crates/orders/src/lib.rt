@@ -1,4 +1,5 @@
 // Level orders: the desk sets the targets of gains and of the volume.
+#![tactic(auto)]
 ghost use Rattle.std.specs.Prelude.{◌≡◌, true, cond, ◌||◌, ◌<◌, eqb};
 ghost use Rattle.lists.specs.Lists.{changed};
 ghost use Rattle.bands.specs.Bands.{band_count};
@@ -13,7 +14,7 @@ use settings::Setting;
 use unit::{BandSection, Channel, Unit};
 
 // What an order gives: the answer, and the unit after it.
-#[derive(Drop)]
+#[derive(Clone, Copy)]
 pub struct Ordered {
     pub verdict: Verdict,
     pub unit: Unit,

@@ -1,4 +1,5 @@
 // The unit's bands, channels and levels as the floats that the engine works on, and back.
+#![tactic(auto)]
 ghost use Rattle.std.specs.Prelude.{◌≡◌, ◌+◌, ◌≤◌, ◌<◌, nat_abs, length};
 ghost use Rattle.words.specs.Words.{word_size};
 ghost use Rattle.floats.specs.Whole.{float, whole_of};

@@ -1,6 +1,7 @@
 // Plays a sound through a strip sheet: the sheet from strip.sht, frames from standard input to standard output, and the sheet after them
 // to strip.new; asked for wave files, their data. A refusal is one line on standard error, its number. What is answered is decided in `decisions`; here it
 // is followed.
+#![tactic(auto)]
 ghost use Rattle.std.specs.Prelude.{◌≡◌};
 ghost use Rattle.sheet.specs.Sheet.{side_letters};
 ghost use Rattle.roundtrip.specs.Claim.{ReadsAs};

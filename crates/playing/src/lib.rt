@@ -1,4 +1,5 @@
 // Playing standard input to standard output.
+#![tactic(auto)]
 ghost use Rattle.std.specs.Prelude.{take};
 ghost use Rattle.playing.specs.Turns.{IsSound, SoundAsks, SoundGives, TurnAsks, TurnGives, PlayAsks, PlayGives};
 
@@ -6,7 +7,7 @@ use unit::Unit;
 
 // A stream between two reads: the unit, the count of bytes of a frame that is not whole yet, how many may still be read, whether more may come, and whether
 // sound was lost on its way out.
-#[derive(Drop)]
+#[derive(Clone, Copy)]
 pub struct Progress {
     pub unit: Unit,
     pub held: usize,
@@ -16,7 +17,7 @@ pub struct Progress {
 }
 
 // What playing some bytes leaves: the unit, the count of bytes of a frame that is not whole, and whether the sound was written.
-#[derive(Drop)]
+#[derive(Clone, Copy)]
 struct Sounded {
     unit: Unit,
     held: usize,

@@ -3,6 +3,7 @@
 //     y = S / 2^22, rounded half to even, then saturated to a word
 //     remainder = S less 2^22 times the rounded number, ahead of saturation: whole too, so exact
 // Its results and remainders are the integer section's. A call that is refused leaves both buffers unchanged.
+#![tactic(auto)]
 ghost use Rattle.std.specs.Prelude.{◌≡◌, true, length};
 ghost use Rattle.rounding.specs.Rounding.{limit};
 ghost use Rattle.words.specs.Words.{word_low, word_high};
@@ -16,7 +17,7 @@ use bands::Band;
 use refusals::Verdict;
 
 // A section's numbers as floats: its three coefficients, the two earlier inputs and the two earlier results ("delayed words").
-#[derive(Drop)]
+#[derive(Clone, Copy)]
 pub struct Preview {
     pub alpha: f64,
     pub beta: f64,
@@ -28,7 +29,7 @@ pub struct Preview {
 }
 
 // What a step gives: the preview of the section after it, whose y1 is the result, and what the rounding took.
-#[derive(Drop)]
+#[derive(Clone, Copy)]
 pub struct PreviewStep {
     pub preview: Preview,
     pub remainder: f64,

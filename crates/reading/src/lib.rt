@@ -1,5 +1,6 @@
 // Reading the strip sheet: the unit that it carries, or the first refusal, with the given unit as it was.
 // A routine that reads a part of the sheet stops at the first refusal; what it gives besides the verdict is then of no use.
+#![tactic(auto)]
 ghost use Rattle.std.specs.Prelude.{◌≡◌, cond, ◌≤◌, length, drop};
 ghost use Rattle.lists.specs.Lists.{joined};
 ghost use Rattle.refusals.specs.Numbers.{is_accepted};
@@ -18,14 +19,14 @@ use refusals::Verdict;
 use unit::{Channel, Unit};
 
 // What reading a sheet gives.
-#[derive(Drop)]
+#[derive(Clone, Copy)]
 pub struct SheetRead {
     pub verdict: Verdict,
     pub unit: Unit,
 }
 
 // What reading the sides gives: the verdict, and where it is accepted the place behind them, and their channels.
-#[derive(Drop)]
+#[derive(Clone, Copy)]
 pub struct SidesRead {
     pub verdict: Verdict,
     pub next: usize,

@@ -1,4 +1,5 @@
 // Writing strip.new: the sheet goes to a file beside it, which then takes its name. So an old strip.new is never half overwritten.
+#![tactic(auto)]
 ghost use Rattle.std.specs.Prelude.{◌≡◌, pos};
 ghost use Rattle.std.specs.Int.Signed.{lt_z};
 ghost use Rattle.unit.specs.Fit.{Fit};

@@ -1,4 +1,5 @@
 // What a level order asks: a place and a level. Which are refused, and the target that an accepted level stands for.
+#![tactic(auto)]
 ghost use Rattle.std.specs.Prelude.{◌≡◌, true, leb};
 ghost use Rattle.refusals.specs.Numbers.{is_accepted, unless};
 ghost use Rattle.floats.specs.Value.{is_factor};
@@ -30,7 +31,7 @@ const MUTED_GAIN: i64 = words::WORD_LOW;
 const MUTED_VOLUME: i64 = 0;
 
 // "A level is a position, a factor as an f32, or mute": what an order asks for.
-#[derive(Drop)]
+#[derive(Clone, Copy)]
 pub enum Setting {
     Position(u8),
     Factor(f32),

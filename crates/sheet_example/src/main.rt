@@ -2,6 +2,7 @@
 // frame (1000, 0), and that one again, of the unit that it is read as; then the sheet of the unit that a short sheet on standard input is read as.
 // Then three buffers of dots that were lent to `writing::write`, every byte of them: one longer than the sheet, one lent with an unfit unit, and
 // one that is too short. Of what stands behind the part that `write` hands back its contract says nothing.
+#![tactic(auto)]
 use levels::Level;
 use unit::Unit;
 

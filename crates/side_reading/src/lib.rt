@@ -1,5 +1,6 @@
 // Reading a side of the strip sheet from a running place: the head and ten S lines, into slots of their own, and the channel that they carry.
 // A routine stops at the first refusal; what it gives besides the verdict is then of no use.
+#![tactic(auto)]
 ghost use Rattle.std.specs.Prelude.{◌≡◌, true, ◌+◌, ◌*◌, ◌≤◌, ◌<◌, length, drop};
 ghost use Rattle.lists.specs.Lists.{joined};
 ghost use Rattle.bands.specs.Bands.{band_count};
@@ -19,7 +20,7 @@ const FLAG: usize = sheet::HEAD_FIELDS - 1;
 const SECTION_SLOTS: usize = sheet::SECTION_FIELDS * bands::BAND_COUNT;
 
 // What reading a side gives: the verdict, and where it is accepted the place behind the side, and its channel.
-#[derive(Drop)]
+#[derive(Clone, Copy)]
 pub struct SideRead {
     pub verdict: Verdict,
     pub next: usize,

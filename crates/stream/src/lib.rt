@@ -1,5 +1,6 @@
 // Playing a stream: input that comes in pieces, cut anywhere. Whole frames are played at once, and the bytes of a frame that is not whole yet
 // are held until more come.
+#![tactic(auto)]
 ghost use Rattle.std.specs.Prelude.{◌≡◌, ◌+◌, ◌≤◌, length};
 ghost use Rattle.unit.specs.Sizes.{channel_count};
 ghost use Rattle.frames.specs.Bytes.{frame_size};
@@ -9,7 +10,7 @@ use refusals::Verdict;
 use unit::Unit;
 
 // What playing a piece answers: the unit after it, the count of bytes that were played, and of those behind them, which are held.
-#[derive(Drop)]
+#[derive(Clone, Copy)]
 pub struct Advanced {
     pub verdict: Verdict,
     pub unit: Unit,

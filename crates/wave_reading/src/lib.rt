@@ -1,4 +1,5 @@
 // Reading a wave file: its chunks are walked over up to the data, which is handed back as a part of the file.
+#![tactic(auto)]
 ghost use Rattle.std.specs.Prelude.{◌≡◌, false, ◌||◌, ◌+◌, ◌-◌, ◌≤◌, length};
 ghost use Rattle.wave.specs.Chunks.{chunk_heading, file_heading, format_size};
 ghost use Rattle.wave_reading.specs.Walk.{has_heading, says_format, format_fits, misfits, data_from, chunks, refused as refusedBy, located};
@@ -7,7 +8,7 @@ ghost use Rattle.wave_reading.specs.Reading.{data_verdict, found, data_of, data_
 use refusals::Verdict;
 
 // Where data lies: the place of the first byte, and how many there are. Both are 0 after a refusal.
-#[derive(Drop)]
+#[derive(Clone, Copy)]
 pub struct Located {
     pub verdict: Verdict,
     pub from: usize,

@@ -1,4 +1,5 @@
 // Writing a wave file: the plain heading of 44 bytes, and the frames behind it.
+#![tactic(auto)]
 ghost use Rattle.std.specs.Prelude.{◌≡◌, length, ◌≤◌};
 ghost use Rattle.wave_writing.specs.Writing.{heading as headingOf, most_data, size_verdict, write_verdict, written};
 

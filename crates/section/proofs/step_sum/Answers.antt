@@ -9,11 +9,7 @@ use Rattle.integers.proofs.Machine.{Num, below-fits, widened, widen_need}
 use Rattle.words.specs.Words.{word_size}
 use Rattle.bands.specs.Bands.{band_of}
 use Rattle.section.specs.Equation.{exact_sum}
-use Rattle.section.proofs.step_sum.Statement.{statement}
-use Rattle.section.proofs.step_sum.Tie as tie
-use Rattle.section.proofs.step_sum.Reads as reads
-use Rattle.section.proofs.step_sum.Lts as lts
-use Rattle.section.proofs.exact_sum.Reads as exact-sum-reads
+use Rattle.section.proofs.step_sum.Goals as goal
 
 small : {z : ℤ} → nat_abs z ≤ word_size → SFits w32 z
 small h = below-fits h tt
@@ -22,30 +18,30 @@ small h = below-fits h tt
 abbrev operand : (z : ℤ) → nat_abs z ≤ word_size → Num w64
 operand z h = widened tt z (small h)
 
-module _ (s : lts.Start (exact-sum-reads.Asked, exact-sum-reads.Learnt) reads.Pre reads.Post) where
+module _ (s : goal.Start) where
   abbrev X : Num w64
   X = operand s.args.x s.requires.x_size
 
   abbrev X2 : Num w64
-  X2 = operand s.args.x2 s.pre.x2_size
+  X2 = operand s.args.x2 s.requires.x2_size
 
   abbrev Y1 : Num w64
-  Y1 = operand s.args.y1 s.pre.y1_size
+  Y1 = operand s.args.y1 s.requires.y1_size
 
   abbrev Y2 : Num w64
-  Y2 = operand s.args.y2 s.pre.y2_size
+  Y2 = operand s.args.y2 s.requires.y2_size
 
   abbrev A : Num w64
-  A = operand s.args.band.alpha s.pre.alpha_size
+  A = operand s.args.band.alpha s.requires.alpha_size
 
   abbrev B : Num w64
-  B = operand s.args.band.beta s.pre.beta_size
+  B = operand s.args.band.beta s.requires.beta_size
 
   abbrev G : Num w64
-  G = operand s.args.band.gamma s.pre.gamma_size
+  G = operand s.args.band.gamma s.requires.gamma_size
 
 -- the function's entry, from where all three coefficients have been read
-abbrev start : lts.After-struct-told3 (exact-sum-reads.Asked, exact-sum-reads.Learnt) reads.Pre reads.Post → lts.Start (exact-sum-reads.Asked, exact-sum-reads.Learnt) reads.Pre reads.Post
+abbrev start : goal.After-struct_told-3-1 → goal.Start
 start c = c.before.before.before.before.before.before
 
 cast-alpha : tie.Need-overflow-cast-alpha
@@ -70,30 +66,37 @@ cast-exact-sum-3 c = widen_need tt (start c).args.y1 (small (start c).requires.y
 cast-exact-sum-4 : tie.Need-overflow-cast-exact-sum-4
 cast-exact-sum-4 c = widen_need tt (start c).args.y2 (small (start c).requires.y2_size)
 
-exact-sum-requires : tie.Need-exact-sum-requires
-exact-sum-requires c κs =
+pub exact_sum-requires : goal.exact_sum-requires
+exact_sum-requires c =
     let s = start c in
-    simp ((A s).reads, (B s).reads, (G s).reads, (X s).reads, (X2 s).reads, (Y1 s).reads, (Y2 s).reads) s.pre
+    simp ((A s).reads, (B s).reads, (G s).reads, (X s).reads, (X2 s).reads, (Y1 s).reads, (Y2 s).reads) s.requires
 
-returns : tie.Need-returns
+pub returns : goal.returns
 returns c =
-    to_z-of_z (record { sfits = c.exact-sum.type-inv })
+    to_z-of_z (record { sfits = c.exact-sum.type_inv })
     ∙ c.exact-sum.ensures
     ∙ (λ i. exact_sum (band_of ((A s).reads i) ((B s).reads i) ((G s).reads i)) ((X s).reads i) ((X2 s).reads i) ((Y1 s).reads i) ((Y2 s).reads i))
   where
-    s : lts.Start (exact-sum-reads.Asked, exact-sum-reads.Learnt) reads.Pre reads.Post
+    s : goal.Start
     s = start c.before
 
-pub step-sum-spec : {M : Type 1} → statement M
-step-sum-spec =
-    tie.close
-    (tie.spec
-    cast-alpha
-    cast-beta
-    cast-gamma
-    cast-exact-sum
-    cast-exact-sum-2
-    cast-exact-sum-3
-    cast-exact-sum-4
-    exact-sum-requires
-    returns)
+pub overflow_cast-alpha : goal.overflow_cast-alpha
+overflow_cast-alpha = cast-alpha
+
+pub overflow_cast-beta : goal.overflow_cast-beta
+overflow_cast-beta = cast-beta
+
+pub overflow_cast-gamma : goal.overflow_cast-gamma
+overflow_cast-gamma = cast-gamma
+
+pub overflow_cast-x : goal.overflow_cast-x
+overflow_cast-x = cast-exact-sum
+
+pub overflow_cast-x2 : goal.overflow_cast-x2
+overflow_cast-x2 = cast-exact-sum-2
+
+pub overflow_cast-y1 : goal.overflow_cast-y1
+overflow_cast-y1 = cast-exact-sum-3
+
+pub overflow_cast-y2 : goal.overflow_cast-y2
+overflow_cast-y2 = cast-exact-sum-4

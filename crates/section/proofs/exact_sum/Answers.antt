@@ -5,35 +5,32 @@ use mir.Syntax.{w64}
 use Rattle.integers.proofs.Machine.{Bounded, num, below-fits, sum, difference, product, result, result_need}
 use Rattle.words.specs.Words.{word_size}
 use Rattle.section.specs.Equation.{exact_sum}
-use Rattle.section.proofs.exact_sum.Statement.{statement}
-use Rattle.section.proofs.exact_sum.Tie as tie
-use Rattle.section.proofs.exact_sum.Reads as reads
-use Rattle.section.proofs.exact_sum.Lts as lts
+use Rattle.section.proofs.exact_sum.Goals as goal
 
 abbrev operand : (z : ℤ) → nat_abs z ≤ word_size → Bounded w64
 operand z h = record { held = num z (below-fits h tt); bound = word_size; within = h }
 
-module _ (s : lts.Start reads.Pre reads.Post) where
+module _ (s : goal.Start) where
   abbrev X : Bounded w64
   X = operand s.args.x s.requires.x_size
 
   abbrev X2 : Bounded w64
-  X2 = operand s.args.x2 s.pre.x2_size
+  X2 = operand s.args.x2 s.requires.x2_size
 
   abbrev Y1 : Bounded w64
-  Y1 = operand s.args.y1 s.pre.y1_size
+  Y1 = operand s.args.y1 s.requires.y1_size
 
   abbrev Y2 : Bounded w64
-  Y2 = operand s.args.y2 s.pre.y2_size
+  Y2 = operand s.args.y2 s.requires.y2_size
 
   abbrev A : Bounded w64
-  A = operand s.args.alpha s.pre.alpha_size
+  A = operand s.args.alpha s.requires.alpha_size
 
   abbrev B : Bounded w64
-  B = operand s.args.beta s.pre.beta_size
+  B = operand s.args.beta s.requires.beta_size
 
   abbrev G : Bounded w64
-  G = operand s.args.gamma s.pre.gamma_size
+  G = operand s.args.gamma s.requires.gamma_size
 
   abbrev Change : Bounded w64
   Change = result difference X X2 tt
@@ -71,18 +68,24 @@ mul-result-3 c = result_need product (B c) (Y2 c) tt
 sub-result-2 : tie.Need-overflow-sub-result-2
 sub-result-2 c = result_need difference (Both c) (Back2 c) tt
 
-returns : tie.Need-returns
+pub returns : goal.returns
 unfolding exact_sum
 returns c = (Whole c).held.reads
 
-pub exact-sum-spec : {M : Type 1} → statement M
-exact-sum-spec =
-    tie.close
-    (tie.spec
-    sub-result
-    mul-result
-    mul-result-2
-    add-result
-    mul-result-3
-    sub-result-2
-    returns)
+pub overflow_sub-result : goal.overflow_sub-result
+overflow_sub-result = sub-result
+
+pub overflow_mul-result : goal.overflow_mul-result
+overflow_mul-result = mul-result
+
+pub overflow_mul-result-2 : goal.overflow_mul-result-2
+overflow_mul-result-2 = mul-result-2
+
+pub overflow_add-result : goal.overflow_add-result
+overflow_add-result = add-result
+
+pub overflow_mul-result-3 : goal.overflow_mul-result-3
+overflow_mul-result-3 = mul-result-3
+
+pub overflow_sub-result-2 : goal.overflow_sub-result-2
+overflow_sub-result-2 = sub-result-2

@@ -11,20 +11,17 @@ use Rattle.rounding.proofs.Nearest.{nearest-size}
 use Rattle.section.specs.Equation.{sum_shift, worked}
 use Rattle.section.specs.Asks.{sum_size}
 use Rattle.section.proofs.Laws.{remainder-size}
-use Rattle.section.proofs.remainder_of.Statement.{statement}
-use Rattle.section.proofs.remainder_of.Tie as tie
-use Rattle.section.proofs.remainder_of.Reads as reads
-use Rattle.section.proofs.remainder_of.Lts as lts
+use Rattle.section.proofs.remainder_of.Goals as goal
 
-module _ (s : lts.Start reads.Pre reads.Post) where
+module _ (s : goal.Start) where
   abbrev S : ℤ
   S = s.args.sum
 
   rounded-size : nat_abs s.args.rounded ≤ 2 ^ 26
-  rounded-size = subst (λ (z : ℤ). nat_abs z ≤ 2 ^ 26) (sym s.pre.rounded_is) (nearest-size S sum_shift (2 ^ 26) s.pre.small)
+  rounded-size = subst (λ (z : ℤ). nat_abs z ≤ 2 ^ 26) (sym s.requires.rounded_is) (nearest-size S sum_shift (2 ^ 26) s.requires.small)
 
   abbrev Sum : Bounded w64
-  Sum = record { held = num S (below-fits s.pre.small tt); bound = sum_size; within = s.pre.small }
+  Sum = record { held = num S (below-fits s.requires.small tt); bound = sum_size; within = s.requires.small }
 
   abbrev Rounded : Bounded w64
   Rounded = record { held = num s.args.rounded (below-fits rounded-size tt); bound = 2 ^ 26; within = rounded-size }
@@ -40,7 +37,7 @@ module _ (s : lts.Start reads.Pre reads.Post) where
 
   left_is : S -ℤ pos (2 ^ sum_shift) *ℤ s.args.rounded ≡ taken S sum_shift
   unfolding taken
-  left_is = ap (λ (z : ℤ). S -ℤ pos (2 ^ sum_shift) *ℤ z) s.pre.rounded_is
+  left_is = ap (λ (z : ℤ). S -ℤ pos (2 ^ sum_shift) *ℤ z) s.requires.rounded_is
 
   left-fits : SFits w32 (S -ℤ pos (2 ^ sum_shift) *ℤ s.args.rounded)
   unfolding worked
@@ -55,8 +52,14 @@ sub-result c = result_need difference (Sum c) (Whole c) tt
 cast-result : tie.Need-overflow-cast-result
 cast-result c = unary_need (λ (z : ℤ). z) (Left c).held (left-fits c)
 
-returns : tie.Need-returns
+pub returns : goal.returns
 returns c = (unary (λ (z : ℤ). z) (Left c).held (left-fits c)).reads ∙ left_is c
 
-pub remainder-of-spec : {M : Type 1} → statement M
-remainder-of-spec = tie.close (tie.spec mul-result sub-result cast-result returns)
+pub overflow_mul-result : goal.overflow_mul-result
+overflow_mul-result = mul-result
+
+pub overflow_sub-result : goal.overflow_sub-result
+overflow_sub-result = sub-result
+
+pub overflow_cast-result : goal.overflow_cast-result
+overflow_cast-result = cast-result
