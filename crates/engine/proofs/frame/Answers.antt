@@ -1,0 +1,156 @@
+-- `engine::frame` meets its contract: the turns of the bands that feed back, those of the others (proofs/Pair.antt), and the inputs and flags stored.
+use mathlib.Core.Path.{◌≡◌, sym, ap, ap₂, ◌∙◌, subst}
+use mathlib.Core.Bool.{true, false}
+use mathlib.Core.List.{List}
+use native.Mathlib.Omega.{arith}
+use lib.ListN.{length}
+use lib.Ieee.{Float, binary64, sub}
+use borrow.Author.Tests.{lt-ltb, le-ltb}
+use Rattle.bands.specs.Bands.{band_count}
+use Rattle.unit.specs.Frame.{feedback_count}
+use Rattle.engine.specs.declared.Sides.{Sides}
+use Rattle.engine.specs.declared.Tallies.{Tallies}
+use Rattle.engine.specs.Layout.{x1_place, x2_place, flag_place, pair_floats, sides_at, put_sides}
+use Rattle.engine.specs.Frame.{between, FrameGives}
+use Rattle.engine.proofs.Store.{sides-length}
+use Rattle.engine.proofs.Pair.{ways, Turning, tallies_before, begins, bands_may_turn, bands_turned, ended, ends}
+use Rattle.engine.proofs.frame.Lts as lts
+use Rattle.engine.proofs.frame.Reads as reads
+use Rattle.engine.proofs.frame.Tie as tie
+use Rattle.engine.proofs.frame.Goals as goal
+
+pub sides_at-x1-requires : goal.sides_at-x1-requires
+sides_at-x1-requires c = omega (arith, c.before.before.requires.size)
+
+pub sides_at-x2-requires : goal.sides_at-x2-requires
+sides_at-x2-requires c = omega (arith, c.before.before.before.before.requires.size)
+
+pub sides_at-flags-requires : goal.sides_at-flags-requires
+sides_at-flags-requires c = omega (arith, c.before.before.before.before.before.before.requires.size)
+
+-- ---- before the first turn
+
+module _ (c : lts.After-sides_at3 tie.the-claims reads.Pre reads.Post) where
+  abbrev s : lts.Start tie.the-claims reads.Pre reads.Post
+  s = c.before.before.before.before.before.before.before
+
+  abbrev bands : List Float
+  bands = s.args.bands.now
+
+  abbrev l : List Float
+  l = s.args.pair-1.now
+
+  abbrev x : Sides
+  x = s.args.x
+
+  abbrev d : Sides
+  d = record { first = sub binary64 x.first c.before.before.sides_at-x2.result.first; second = sub binary64 x.second c.before.before.sides_at-x2.result.second }
+
+  ways-are : d ≡ ways bands l x
+  ways-are = λ i. record { first = sub binary64 x.first (c.before.before.sides_at-x2.ensures i).first; second = sub binary64 x.second (c.before.before.sides_at-x2.ensures i).second }
+
+  -- the tallies with these flags
+  abbrev tallied : Sides → Tallies
+  tallied flags = record { first = record { total = (tallies_before bands l x).first.total; flag = flags.first }; second = record { total = (tallies_before bands l x).second.total; flag = flags.second } }
+
+  begun : Turning bands l x 0 l (tallied c.sides_at-flags.result)
+  begun = subst (λ (flags : Sides). Turning bands l x 0 l (tallied flags)) (sym c.sides_at-flags.ensures) (begins bands l x s.requires)
+
+pub turn_bands-fed-requires : goal.turn_bands-fed-requires
+turn_bands-fed-requires c =
+    bands_may_turn (bands n) (l n) (x n) (s n).requires true 0 feedback_count (omega arith) (omega arith) (λ b g h. lt-ltb b feedback_count h) (between (l n) (tallied n n.sides_at-flags.result)) (begun n) (d n) (ways-are n)
+  where
+    n : lts.After-sides_at3 tie.the-claims reads.Pre reads.Post
+    n = c.before.before.before.before.before.before.before
+
+-- ---- after the turns of the bands that feed back
+
+module _ (c : lts.After-turn_bands tie.the-claims reads.Pre reads.Post) where
+  abbrev n : lts.After-sides_at3 tie.the-claims reads.Pre reads.Post
+  n = c.before.before.before.before.before.before.before.before
+
+  abbrev m : List Float
+  m = c.turn_bands-fed.new.1.1.0
+
+  fed : Turning (bands n) (l n) (x n) feedback_count m c.turn_bands-fed.result
+  fed =
+      bands_turned (bands n) (l n) (x n) (s n).requires true 0 feedback_count (omega arith) (omega arith) (λ b g h. lt-ltb b feedback_count h) (between (l n) (tallied n n.sides_at-flags.result)) (begun n) (d n) (ways-are n)
+      (between m c.turn_bands-fed.result) c.turn_bands-fed.ensures
+
+pub turn_bands-tallies-requires : goal.turn_bands-tallies-requires
+turn_bands-tallies-requires c =
+    bands_may_turn (bands (n k)) (l (n k)) (x (n k)) (s (n k)).requires false feedback_count band_count (omega arith) (omega arith) (λ b g h. le-ltb b feedback_count g) (between (m k) k.turn_bands-fed.result) (fed k) (d (n k)) (ways-are (n k))
+  where
+    k : lts.After-turn_bands tie.the-claims reads.Pre reads.Post
+    k = c.before.before.before
+
+-- ---- after the last turn
+
+module _ (c : lts.After-turn_bands2 tie.the-claims reads.Pre reads.Post) where
+  abbrev k : lts.After-turn_bands tie.the-claims reads.Pre reads.Post
+  k = c.before.before.before.before
+
+  abbrev e : lts.After-sides_at3 tie.the-claims reads.Pre reads.Post
+  e = n k
+
+  abbrev M : List Float
+  M = c.turn_bands-tallies.new.1.1.0
+
+  abbrev last-tallies : Tallies
+  last-tallies = c.turn_bands-tallies.result
+
+  all : Turning (bands e) (l e) (x e) band_count M last-tallies
+  all =
+      bands_turned (bands e) (l e) (x e) (s e).requires false feedback_count band_count (omega arith) (omega arith) (λ b g h. le-ltb b feedback_count g) (between (m k) k.turn_bands-fed.result) (fed k) (d e) (ways-are e)
+      (between M last-tallies) c.turn_bands-tallies.ensures
+
+pub put_sides-requires : goal.put_sides-requires
+put_sides-requires c = omega (arith, (all c.before.before.before).size)
+
+module _ (c : lts.After-put_sides tie.the-claims reads.Pre reads.Post) where
+  abbrev g : lts.After-turn_bands2 tie.the-claims reads.Pre reads.Post
+  g = c.before.before.before.before
+
+  one_size : length c.put_sides.new.0 ≡ pair_floats
+  one_size = ap length c.put_sides.ensures ∙ sides-length (M g) x1_place (x (e g)) ∙ (all g).size
+
+pub put_sides-requires-2 : goal.put_sides-requires-2
+put_sides-requires-2 c = omega (arith, one_size c.before.before.before)
+
+module _ (c : lts.After-put_sides2 tie.the-claims reads.Pre reads.Post) where
+  abbrev h : lts.After-put_sides tie.the-claims reads.Pre reads.Post
+  h = c.before.before.before.before
+
+  two_is : c.put_sides-2.new.0 ≡ put_sides (put_sides (M (g h)) x1_place (x (e (g h)))) x2_place (sides_at (l (e (g h))) x1_place)
+  two_is = c.put_sides-2.ensures ∙ ap₂ (λ (a : List Float) (t : Sides). put_sides a x2_place t) h.put_sides.ensures (e (g h)).before.before.before.before.sides_at-x1.ensures
+
+  two_size : length c.put_sides-2.new.0 ≡ pair_floats
+  two_size =
+      ap length two_is
+      ∙ sides-length (put_sides (M (g h)) x1_place (x (e (g h)))) x2_place (sides_at (l (e (g h))) x1_place)
+      ∙ sides-length (M (g h)) x1_place (x (e (g h)))
+      ∙ (all (g h)).size
+
+pub put_sides-requires-3 : goal.put_sides-requires-3
+put_sides-requires-3 c = omega (arith, two_size c.before.before.before)
+
+module _ (c : lts.After-put_sides3 tie.the-claims reads.Pre reads.Post) where
+  abbrev t : lts.After-put_sides2 tie.the-claims reads.Pre reads.Post
+  t = c.before.before.before.before
+
+  abbrev f : lts.After-turn_bands2 tie.the-claims reads.Pre reads.Post
+  f = g (h t)
+
+  three-is : c.put_sides-3.new.0 ≡ ended (bands (e f)) (l (e f)) (x (e f)) (s (e f)).requires (M f) (last-tallies f) (all f)
+  three-is = c.put_sides-3.ensures ∙ ap (λ (a : List Float). put_sides a flag_place (record { first = (last-tallies f).first.flag; second = (last-tallies f).second.flag })) (two_is t)
+
+  given : FrameGives (bands (e f)) (l (e f)) (x (e f)) c.put_sides-3.new.0 (record { first = (last-tallies f).first.total; second = (last-tallies f).second.total })
+  given =
+      subst (λ (a : List Float). FrameGives (bands (e f)) (l (e f)) (x (e f)) a (record { first = (last-tallies f).first.total; second = (last-tallies f).second.total })) (sym three-is)
+      (ends (bands (e f)) (l (e f)) (x (e f)) (s (e f)).requires (M f) (last-tallies f) (all f))
+
+pub shape_of-pair : goal.shape_of-pair
+shape_of-pair c = (given c.before.before).size ∙ sym (s (e (f c.before.before))).requires.size
+
+pub returns : goal.returns
+returns c = given c.before.before

@@ -1,0 +1,13 @@
+-- `engine::unless_limited` meets its contract: the rounded number is y just where it is a word.
+use mathlib.Core.Path.{sym, ap}
+use mathlib.Core.Bool.{Bool, cond, not}
+use Rattle.engine.proofs.Carry.{same_word, other_word}
+use Rattle.engine.proofs.unless_limited.Goals as goal
+
+pub returns-then-rounded-y : goal.returns-then-rounded-y
+returns-then-rounded-y c =
+    sym (ap (λ (t : Bool). cond (not t) c.before.args.other c.before.args.kept) (same_word c.before.args.rounded c.before.args.y c.before.requires c.if-rounded-y.true))
+
+pub returns : goal.returns
+returns c =
+    sym (ap (λ (t : Bool). cond (not t) c.before.args.other c.before.args.kept) (other_word c.before.args.rounded c.before.args.y c.before.requires c.if-rounded-y.false))

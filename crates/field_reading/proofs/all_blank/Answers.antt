@@ -1,0 +1,54 @@
+-- `field_reading::all_blank` meets its contract.
+use mathlib.Core.Bool.{Bool, ◌&&◌}
+use mathlib.Core.List.{List}
+use mathlib.Core.Path.{◌≡◌, ap, ap₂, ◌∙◌}
+use Prim.Native.Nat.{ℕ, ◌+◌, ◌≤◌, ◌<◌}
+use native.Mathlib.Nat.{add-zero}
+use native.Mathlib.Omega.{arith}
+use lib.Dec.{eqb}
+use lib.ListN.{length, get_or}
+use lib.Seq.{slice}
+use borrow.Author.Rules.{rules}
+use Rattle.fields.specs.Fields.{last_column}
+use Rattle.field_reading.specs.Scan.{blanks_of}
+use Rattle.field_reading.proofs.Blanks.{word_from, blank_word, last_word}
+use Rattle.field_reading.proofs.all_blank.Tie as tie
+use Rattle.field_reading.proofs.all_blank.Goals as goal
+
+module _ (c : tie.After-four2) where
+  abbrev bytes : List ℕ
+  bytes = c.before.before.before.before.before.before.before.before.before.before.before.args.bytes.now
+
+  abbrev at : ℕ
+  at = c.before.before.before.before.before.before.before.before.before.before.before.args.at
+
+  long : at + last_column ≤ length bytes
+  long = c.before.before.before.before.before.before.before.before.before.before.before.requires
+
+  -- a byte is below 256
+  small : (i : ℕ) → get_or bytes i 0 < 256
+  small i = omega (arith, c.before.shared_slice_known-9-1.given i)
+
+  abbrev byte : ℕ → ℕ
+  byte i = get_or bytes (at + i) 0
+
+  abbrev low : ℕ
+  low = c.before.before.before.before.before.four-low.result
+
+  abbrev high : ℕ
+  high = c.four-high.result
+
+  -- the first four columns as one number, and the next four
+  low-is : low ≡ word_from byte 4 0
+  low-is = omega (arith, c.before.before.before.before.before.four-low.ensures, ap (λ (i : ℕ). get_or bytes i 0) (add-zero at))
+
+  high_is : high ≡ word_from byte 4 4
+  high_is = omega (arith, c.four-high.ensures)
+
+pub returns : goal.returns
+returns c =
+    let end = at c + last_column in
+    ap₂ (λ (l h : ℕ). eqb l 0x2020_2020 && eqb h 0x2020_2020) (low-is c) (high_is c)
+    ∙ ap (λ (t : Bool). eqb (word_from (byte c) 4 0) 0x2020_2020 && t) (last_word (bytes c) (at c) end (long c) (small c) 4 4 (omega arith))
+    ∙ blank_word (bytes c) (at c) end (long c) (small c) 4 0 4 (omega arith)
+    ∙ ap (λ (i : ℕ). eqb (blanks_of (slice i end (bytes c))) last_column) (add-zero (at c))

@@ -1,0 +1,132 @@
+-- `field_reading::read_digits` meets its contract. The loop's invariant: the digits up to i have made the value, and what is read from there on
+-- is the answer.
+use mathlib.Core.Bool.{Bool, true, false, ◌&&◌}
+use mathlib.Core.List.{List, ◌∷◌}
+use mathlib.Core.Path.{◌≡◌, refl, sym, ap, ap₂, subst, ◌∙◌}
+use Prim.Native.Nat.{ℕ, suc, ◌+◌, ◌*◌, ◌-◌, ◌^◌, ◌≤◌, ◌<◌}
+use native.Mathlib.Nat.{lt_of_lt_of_le, one-le-pow, pow-le-pow_right, pow-suc, zero-lt-suc}
+use native.Mathlib.Numerals.{add-one}
+use native.Mathlib.Omega.{arith}
+use lib.IntN.{ℤ}
+use lib.ListN.{length, get_or}
+use lib.Seq.{slice, slice-cons, slice_empty}
+use mir.Syntax.{w32}
+use Rattle.integers.proofs.Machine.{reads_back}
+use borrow.Author.Rules.{rules}
+use borrow.Author.Tests.{not-true, not-false}
+use Rattle.integers.specs.Signed.{signed}
+use Rattle.fields.specs.Fields.{is_digit, digit_in, value_from}
+use Rattle.fields.proofs.Bytes.{digit_in_yes, digit_low, digit_high}
+use Rattle.fields.proofs.Laws.{answer}
+use Rattle.field_reading.specs.Scan.{all_digits, digits_read}
+use Rattle.field_reading.proofs.read_digits.Lts as lts
+use Rattle.field_reading.proofs.read_digits.Reads as reads
+use Rattle.field_reading.proofs.read_digits.Tie as tie
+use Rattle.field_reading.proofs.read_digits.Invariants.{read_from}
+use Rattle.field_reading.proofs.read_digits.Goals as goal
+
+-- what is read behind digits of value v
+
+-- the same where the first byte is a digit or not, and stands for d
+abbrev read_next : Bool → ℕ → Bool → ℕ → List ℕ → ℤ
+read_next negative v t d rest = answer (t && all_digits rest) (signed negative (value_from (10 * v + d) rest))
+
+module _ (bytes : List ℕ) (i end : ℕ) (negative : Bool) (value : ℕ) where
+  -- the answer by the byte at i and those behind it
+  one_byte : i < end → end ≤ length bytes → (t : Bool) (d : ℕ) → is_digit (get_or bytes i 0) ≡ t → digit_in (get_or bytes i 0) ≡ d
+      → read_from negative value (slice i end bytes) ≡ read_next negative value t d (slice (i + 1) end bytes)
+  one_byte inside long t d e v =
+      ap (read_from negative value) (slice-cons i end bytes 0 inside long ∙ ap (λ (k : ℕ). get_or bytes i 0 ∷ slice k end bytes) (sym (add-one i)))
+      ∙ ap₂ (λ (s : Bool) (x : ℕ). read_next negative value s x (slice (i + 1) end bytes)) e v
+
+  -- at the end the value is the answer's
+  all_read : i ≡ end → read_from negative value (slice i end bytes) ≡ answer true (signed negative value)
+  all_read e = ap (λ (k : ℕ). read_from negative value (slice k end bytes)) e ∙ ap (read_from negative value) (slice_empty end bytes)
+
+-- k digits have a value below 10^k
+short : (k n value : ℕ) → value < 10 ^ k → k ≤ n → value < 10 ^ n
+short k n value h l = lt_of_lt_of_le h (pow-le-pow_right (zero-lt-suc 9) l)
+
+-- a digit more makes it ten times as much
+longer : (from i value d : ℕ) → from ≤ i → value < 10 ^ (i - from) → d < 10 → 10 * value + d < 10 ^ (i + 1 - from)
+longer from i value d l h k =
+    let more : i + 1 - from ≡ suc (i - from) = omega arith in
+    subst (λ (n : ℕ). 10 * value + d < 10 ^ n) (sym more) (omega (arith, pow-suc 10 (i - from)))
+
+module _ (c : lts.In-loop tie.the-claims reads.Pre reads.Post invariant-loop decreases-loop) where
+  abbrev bytes : List ℕ
+  bytes = c.before.before.before.args.bytes.now
+
+  abbrev byte : ℕ
+  byte = get_or bytes c.before.loop-i.i 0
+
+  abbrev value : ℕ
+  value = c.before.loop-i.value
+
+  abbrev from : ℕ
+  from = c.before.before.before.args.from
+
+  abbrev end : ℕ
+  end = c.before.before.before.args.end
+
+  abbrev negative : Bool
+  negative = c.before.before.before.args.negative
+
+  value_low : value < 10 ^ 8
+  value_low = short (c.before.loop-i.i - from) 8 value c.before.loop-i.invariant.2 (omega arith)
+
+  -- the answer by the byte read
+  answer-is : (t : Bool) (d : ℕ) → is_digit byte ≡ t → digit_in byte ≡ d
+      → read_next negative value t d (slice (c.before.loop-i.i + 1) end bytes) ≡ digits_read negative (slice from end bytes)
+  answer-is t d e v =
+      sym (one_byte bytes c.before.loop-i.i end negative value (omega arith) c.before.before.before.requires.2 t d e v) ∙ c.before.loop-i.invariant.3
+
+module _ (c : goal.Else-not-is_digit) where
+  is_one : is_digit (byte c.before.before.before) ≡ true
+  is_one = sym c.before.is_digit.ensures ∙ not-false _ c.if-not-is_digit.false
+
+  high : byte c.before.before.before ≤ 57
+  high = digit_high (byte c.before.before.before) is_one
+
+  digit-is : digit_in (byte c.before.before.before) ≡ byte c.before.before.before - 48
+  digit-is = omega (arith, digit_in_yes (byte c.before.before.before) is_one)
+
+pub loop-i-init : goal.loop-i-init
+unfolding digits_read
+loop-i-init c = (search rules, search rules, one-le-pow (c.before.args.from - c.before.args.from) 10 (zero-lt-suc 9), refl)
+
+pub returns-then-not-is_digit : goal.returns-then-not-is_digit
+returns-then-not-is_digit c = answer-is c.before.before.before false _ (sym c.before.is_digit.ensures ∙ not-true _ c.if-not-is_digit.true) refl
+
+pub overflow_mul-value : goal.overflow_mul-value
+overflow_mul-value c = record { fits = omega (arith, value_low c.before.before.before) }
+
+pub overflow_sub-value : goal.overflow_sub-value
+overflow_sub-value c = digit_low (byte c.before.before.before) (is_one c)
+
+pub overflow_cast-value : goal.overflow_cast-value
+overflow_cast-value c = record { fits = omega (arith, high c) }
+
+pub overflow_add-value : goal.overflow_add-value
+overflow_add-value c = record { fits = omega (arith, value_low c.before.before.before, high c) }
+
+pub loop-i-preserved : goal.loop-i-preserved
+loop-i-preserved c =
+    let read = c.before.before.before in (
+      search rules,
+      search rules,
+      longer (from read) read.before.loop-i.i (value read) (byte read - 48) read.before.loop-i.invariant.0
+          read.before.loop-i.invariant.2 (omega (arith, high c)),
+      answer-is read true (byte read - 48) (is_one c) (digit-is c),
+    )
+
+pub with_sign-requires : goal.with_sign-requires
+with_sign-requires c = short (c.before.loop-i.i - c.before.before.before.args.from) 9 c.before.loop-i.value c.before.loop-i.invariant.2 (omega arith)
+
+pub returns : goal.returns
+returns c =
+    let loop = c.before.before in
+    let start = c.before.before.before.before in
+    ap (λ (z : ℤ). answer true z) (reads_back w32 c.with_sign.result (omega arith) ∙ c.with_sign.ensures)
+    ∙ sym (all_read start.args.bytes.now loop.loop-i.i start.args.end start.args.negative loop.loop-i.value (omega arith))
+    ∙ loop.loop-i.invariant.3

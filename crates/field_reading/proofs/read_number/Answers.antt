@@ -1,0 +1,19 @@
+-- `field_reading::read_number` meets its contract.
+use mathlib.Core.Path.{sym, ◌∙◌}
+use native.Mathlib.Omega.{arith}
+use mir.Syntax.{w32}
+use borrow.Author.Rules.{rules}
+use Rattle.integers.proofs.Machine.{reads_back}
+use Rattle.field_reading.proofs.Places.{read_zero, read_number}
+use Rattle.field_reading.proofs.read_number.Goals as goal
+
+pub returns-then-bytes-from-eq-ZERO : goal.returns-then-bytes-from-eq-ZERO
+returns-then-bytes-from-eq-ZERO c =
+    let entry = c.before.before.before in
+    sym (read_zero entry.args.bytes.now entry.args.from entry.args.end entry.requires.0 entry.args.negative c.if-bytes-from-eq-ZERO.true)
+
+pub returns : goal.returns
+returns c =
+    let entry = c.before.before.before.before in
+    reads_back w32 c.read_digits.result (omega arith) ∙ c.read_digits.ensures
+    ∙ sym (read_number entry.args.bytes.now entry.args.from entry.args.end entry.requires.0 entry.args.negative c.before.if-bytes-from-eq-ZERO.false)

@@ -1,0 +1,27 @@
+-- `fitness::are_plain` meets its contract. The loop's invariant: the test of the sections from the first that does not feed back on is that of
+-- the sections from i on.
+use Prim.Native.Nat.{◌-◌}
+use native.Mathlib.Omega.{arith}
+use borrow.Author.Rules.{rules}
+use Rattle.lists.proofs.Loops.{EveryFrom, every_begin, every_fails, every-passes, every_done}
+use Rattle.bands.specs.Bands.{band_count}
+use Rattle.unit.specs.Cleared.{cleared_band_section}
+use Rattle.unit.specs.Frame.{feedback_count}
+use Rattle.unit.specs.Fit.{is_plain}
+use Rattle.fitness.proofs.are_plain.Tie as tie
+use Rattle.fitness.proofs.are_plain.Goals as goal
+
+pub loop-i-init : goal.loop-i-init
+loop-i-init c = every_begin
+
+pub returns-then-not-is_plain : goal.returns-then-not-is_plain
+returns-then-not-is_plain c =
+    every_fails c.before.before.before.before.loop-i.invariant cleared_band_section (omega arith) c.before.is_plain.ensures c.if-not-is_plain.true
+
+pub loop-i-preserved : goal.loop-i-preserved
+loop-i-preserved c =
+    every-passes c.before.before.before.before.loop-i.invariant cleared_band_section (omega arith) c.before.is_plain.ensures c.if-not-is_plain.false
+
+pub returns : goal.returns
+returns c =
+    every_done c.before.loop-i.invariant (omega arith)

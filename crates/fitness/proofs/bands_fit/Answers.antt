@@ -1,0 +1,25 @@
+-- `fitness::bands_fit` meets its contract. The loop's invariant: the test of every band is that of the bands from i on.
+use mathlib.Core.Path.{ap, ◌∙◌}
+use Prim.Native.Nat.{◌-◌}
+use native.Mathlib.Omega.{arith}
+use borrow.Author.Rules.{rules}
+use Rattle.lists.proofs.Loops.{EveryFrom, every_begin, every_fails, every-passes, every_done}
+use Rattle.refusals.specs.Numbers.{is_accepted}
+use Rattle.bands.specs.Bands.{band_count}
+use Rattle.unit.proofs.PastEnd.{zero_band}
+use Rattle.unit.specs.Fit.{band_fits}
+use Rattle.fitness.proofs.bands_fit.Tie as tie
+use Rattle.fitness.proofs.bands_fit.Goals as goal
+
+pub returns-then-not-accepted : goal.returns-then-not-accepted
+returns-then-not-accepted c = every_fails c.before.before.before.before.before.loop-i.invariant zero_band (omega arith) (c.before.accepted.ensures ∙ ap is_accepted c.before.before.check_band-verdict.ensures) c.if-not-accepted.true
+
+pub loop-i-preserved : goal.loop-i-preserved
+loop-i-preserved c = every-passes c.before.before.before.before.before.loop-i.invariant zero_band (omega arith) (c.before.accepted.ensures ∙ ap is_accepted c.before.before.check_band-verdict.ensures) c.if-not-accepted.false
+
+pub returns : goal.returns
+returns c = every_done c.before.loop-i.invariant (omega arith)
+
+pub loop-i-init : goal.loop-i-init
+loop-i-init c =
+    every_begin

@@ -1,0 +1,36 @@
+-- `fitness::input_fits` meets its contract: a word fits 32 bits, in which it is tested.
+use mathlib.Core.Path.{◌≡◌, sym, ap, ◌∙◌}
+use Prim.Native.Nat.{◌≤◌}
+use lib.IntN.{ℤ, nat_abs}
+use mir.Facts.{to_z-of_z}
+use borrow.Author.Rules.{rules}
+use borrow.Author.Tests.{not-false}
+use Rattle.integers.proofs.Order.{and_fails}
+use Rattle.words.specs.Words.{word_size, is_word}
+use Rattle.words.proofs.Laws.{word_size_lem, narrow_need, narrow_reads}
+use Rattle.unit.specs.Fit.{is_input}
+use Rattle.fitness.proofs.input_fits.Lts as lts
+use Rattle.fitness.proofs.input_fits.Reads as reads
+use Rattle.fitness.proofs.input_fits.Tie as tie
+use Rattle.fitness.proofs.input_fits.Goals as goal
+
+word_test : (c : lts.After-is_word tie.the-claims reads.Pre reads.Post) → c.is_IsWord.result ≡ is_word c.before.args.v
+word_test c = c.is_IsWord.ensures ∙ ap is_word (to_z-of_z c.before.ranges.v)
+
+-- the number is a word
+module _ (c : goal.Else-not-is_word) where
+  abbrev v : ℤ
+  v = c.before.before.args.v
+
+  size : nat_abs v ≤ word_size
+  size = word_size_lem v (sym (word_test c.before) ∙ not-false _ c.if-not-is_word.false)
+
+pub returns-then-not-is_word : goal.returns-then-not-is_word
+unfolding is_input
+returns-then-not-is_word c = and_fails (word_test c.before) _ c.if-not-is_word.true
+
+pub overflow_cast-v : goal.overflow_cast-v
+overflow_cast-v c = narrow_need (v c) (size c)
+
+pub returns : goal.returns
+returns c = c.is_input.ensures ∙ ap is_input (narrow_reads (v c.before) (size c.before))

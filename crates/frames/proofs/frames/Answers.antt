@@ -1,0 +1,110 @@
+-- `frames::frames` meets its contract: pair after pair (proofs/Pairs.antt).
+use mathlib.Core.Path.{sym, ap, ◌∙◌, subst}
+use mathlib.Core.List.{List}
+use Prim.Native.Nat.{ℕ, ◌+◌, ◌-◌, ◌*◌, ◌≤◌, ◌<◌}
+use native.Mathlib.Numerals.{add-one}
+use native.Mathlib.Omega.{arith}
+use lib.ListN.{length}
+use lib.Ieee.{Float}
+use borrow.Rule.Slice.PartMut.{put_mid}
+use Rattle.engine.specs.Layout.{pair_floats}
+use Rattle.frames.specs.Run.{FramesGives}
+use Rattle.frames.proofs.Pairs.{Paired, paired_begins, sides-length, pair_asks, paired_next, paired_ends}
+use Rattle.frames.proofs.Sound.{pairs_length}
+use Rattle.frames.proofs.frames.Lts as lts
+use Rattle.frames.proofs.frames.Reads as reads
+use Rattle.frames.proofs.frames.Tie as tie
+use Rattle.frames.proofs.frames.Goals as goal
+
+pub overflow_mul-size : goal.overflow_mul-size
+overflow_mul-size c = omega (arith, c.before.before.before.requires.size)
+
+pub overflow_mul-size-2 : goal.overflow_mul-size-2
+overflow_mul-size-2 c = omega (arith, c.before.before.before.requires.size)
+
+pub loop-p-init : goal.loop-p-init
+loop-p-init c = paired_begins z.args.bands.now z.args.sides-1.now z.args.pairs z.args.volume z.args.count z.args.input.now z.args.output-1.now z.requires
+  where
+    z : lts.Start tie.the-claims reads.Pre reads.Post invariant-loop decreases-loop
+    z = c.before.before.before
+
+module _ (c : goal.In-loop-p) where
+  abbrev s : lts.Start tie.the-claims reads.Pre reads.Post invariant-loop decreases-loop
+  s = c.before.before.before.before.before
+
+  abbrev p : ℕ
+  p = c.before.loop-p.p
+
+  abbrev sides : List Float
+  sides = c.before.loop-p.sides-1
+
+  abbrev out : List ℕ
+  out = c.before.loop-p.output-1
+
+  inv : Paired s.args.bands.now s.args.sides-1.now s.args.pairs s.args.volume s.args.count s.args.input.now s.args.output-1.now sides out c.before.loop-p.level p
+  inv = c.before.loop-p.invariant
+
+  below : p < s.args.pairs
+  below = c.loop-p-test.true
+
+  has : pair_floats * p + pair_floats ≤ length s.args.sides-1.now
+  has = omega (arith, below, s.requires.size)
+
+pub overflow_mul-from : goal.overflow_mul-from
+overflow_mul-from c = omega (arith, has c)
+
+pub overflow_add-to : goal.overflow_add-to
+overflow_add-to c = omega (arith, has c)
+
+pub offset_bounds-sides-from : goal.offset_bounds-sides-from
+offset_bounds-sides-from c = omega (arith, has c)
+
+pub slice_bounds-pair_frames-count : goal.slice_bounds-pair_frames-count
+slice_bounds-pair_frames-count c = omega arith
+
+pub slice_bounds-pair_frames-start : goal.slice_bounds-pair_frames-start
+slice_bounds-pair_frames-start c = omega arith
+
+pub slice_bounds-pair_frames-end : goal.slice_bounds-pair_frames-end
+slice_bounds-pair_frames-end c = omega (arith, has c, sides-length (s c).args.bands.now (s c).args.sides-1.now (s c).args.pairs (s c).args.volume (s c).args.count (s c).args.input.now (s c).args.output-1.now (s c).requires (sides c) (out c) c.before.loop-p.level (p c) (below c) (inv c))
+
+pub overflow_mul-p : goal.overflow_mul-p
+overflow_mul-p c = omega (arith, has c.before)
+
+pub pair_frames-level-requires : goal.pair_frames-level-requires
+pair_frames-level-requires c = pair_asks (s i).args.bands.now (s i).args.sides-1.now (s i).args.pairs (s i).args.volume (s i).args.count (s i).args.input.now (s i).args.output-1.now (s i).requires (sides i) (out i) i.before.loop-p.level (p i) (below i) (inv i)
+  where
+    i : goal.In-loop-p
+    i = c.before.before
+
+pub overflow_add-p : goal.overflow_add-p
+overflow_add-p c = omega (arith, has c.before.before.before.before.before.before.before)
+
+pub loop-p-smaller : goal.loop-p-smaller
+loop-p-smaller c = omega (arith, below c.before.before.before.before.before.before.before)
+
+pub loop-p-preserved : goal.loop-p-preserved
+loop-p-preserved c =
+    subst (λ (j : ℕ). Paired (s i).args.bands.now (s i).args.sides-1.now (s i).args.pairs (s i).args.volume (s i).args.count (s i).args.input.now (s i).args.output-1.now (put_mid (pair_floats * p i) (pair_floats * p i + pair_floats - pair_floats * p i) (sides i) c.before.before.before.before.pair_frames-level.new.1.0) c.before.before.before.before.pair_frames-level.new.1.1.1.1.1.1.1.0 c.before.before.before.before.pair_frames-level.result j) (sym (add-one (p i)))
+    (paired_next (s i).args.bands.now (s i).args.sides-1.now (s i).args.pairs (s i).args.volume (s i).args.count (s i).args.input.now (s i).args.output-1.now (s i).requires (sides i) (out i) i.before.loop-p.level (p i) (below i) (inv i) c.before.before.before.before.pair_frames-level.result c.before.before.before.before.pair_frames-level.new.1.0 c.before.before.before.before.pair_frames-level.new.1.1.1.1.1.1.1.0 c.before.before.before.before.pair_frames-level.ensures)
+  where
+    i : goal.In-loop-p
+    i = c.before.before.before.before.before.before.before
+
+module _ (c : goal.After-loop-p) where
+  abbrev e : lts.Start tie.the-claims reads.Pre reads.Post invariant-loop decreases-loop
+  e = c.before.before.before.before.before
+
+  given : FramesGives e.args.bands.now e.args.sides-1.now e.args.pairs e.args.volume e.args.count e.args.input.now e.args.output-1.now c.before.loop-p.level c.before.loop-p.sides-1 c.before.loop-p.output-1
+  given =
+      paired_ends e.args.bands.now e.args.sides-1.now e.args.pairs e.args.volume e.args.count e.args.input.now e.args.output-1.now e.requires c.before.loop-p.sides-1 c.before.loop-p.output-1 c.before.loop-p.level
+      (subst (λ (j : ℕ). Paired e.args.bands.now e.args.sides-1.now e.args.pairs e.args.volume e.args.count e.args.input.now e.args.output-1.now c.before.loop-p.sides-1 c.before.loop-p.output-1 c.before.loop-p.level j) (omega (arith, c.before.loop-p.invariant.most, c.loop-p-test.false)) c.before.loop-p.invariant)
+
+pub shape_of-sides : goal.shape_of-sides
+shape_of-sides c = (given c).size ∙ sym (e c).requires.size
+
+pub shape_of-output : goal.shape_of-output
+shape_of-output c = ap length c.before.loop-p.invariant.bytes ∙ pairs_length _ _ _ _ _ _
+
+pub returns : goal.returns
+returns c = given c

@@ -1,0 +1,118 @@
+-- `frames::mix_words` meets its contract: a frame of the engine for each (proofs/Mixing.antt).
+use mathlib.Core.Path.{◌≡◌, sym, ◌∙◌, subst}
+use mathlib.Core.List.{List}
+use Prim.Native.Nat.{ℕ, suc, ◌+◌, ◌-◌, ◌*◌, ◌<◌}
+use native.Mathlib.Numerals.{add-one}
+use native.Mathlib.Omega.{arith}
+use lib.ListN.{length}
+use lib.Ieee.{Float}
+use Rattle.engine.specs.declared.Sides.{Sides}
+use Rattle.engine.specs.Layout.{sides_at}
+use Rattle.engine.specs.Frame.{FrameAsks, FrameGives}
+use Rattle.frames.proofs.Mixing.{Mixing, mixing_begins, frame_asks, room, mixing_next, mixing_ends}
+use Rattle.frames.proofs.mix_words.Lts as lts
+use Rattle.frames.proofs.mix_words.Reads as reads
+use Rattle.frames.proofs.mix_words.Tie as tie
+use Rattle.frames.proofs.mix_words.Goals as goal
+
+pub loop-k-init : goal.loop-k-init
+loop-k-init c = mixing_begins s.args.bands.now s.args.pair-1.now s.args.words-1.now s.args.count s.requires
+  where
+    s : lts.Start tie.the-claims reads.Pre reads.Post invariant-loop decreases-loop
+    s = c.before.before
+
+module _ (c : goal.In-loop-k) where
+  abbrev s : lts.Start tie.the-claims reads.Pre reads.Post invariant-loop decreases-loop
+  s = c.before.before.before.before
+
+  abbrev bands : List Float
+  bands = s.args.bands.now
+
+  abbrev l : List Float
+  l = s.args.pair-1.now
+
+  abbrev words : List Float
+  words = s.args.words-1.now
+
+  abbrev k : ℕ
+  k = c.before.loop-k.k
+
+  abbrev m : List Float
+  m = c.before.loop-k.pair-1
+
+  abbrev w : List Float
+  w = c.before.loop-k.words-1
+
+  inv : Mixing bands l words s.args.count m w k
+  inv = c.before.loop-k.invariant
+
+  below : k < s.args.count
+  below = c.loop-k-test.true
+
+  has : 2 * k + 1 < length w
+  has = room bands l words s.args.count s.requires m w k below inv
+
+pub overflow_mul-k : goal.overflow_mul-k
+overflow_mul-k c = omega (arith, below c.before, (s c.before).requires.few)
+
+pub sides_at-x-requires : goal.sides_at-x-requires
+sides_at-x-requires c = omega (arith, has c.before)
+
+module _ (c : lts.After-sides_at tie.the-claims reads.Pre reads.Post invariant-loop decreases-loop) where
+  abbrev n : goal.In-loop-k
+  n = c.before.before
+
+  x-is : c.sides_at-x.result ≡ sides_at (words n) (2 * k n)
+  x-is = c.sides_at-x.ensures ∙ (inv n).ahead (k n) (omega arith)
+
+pub frame-totals-requires : goal.frame-totals-requires
+frame-totals-requires c =
+    subst (λ (x : Sides). FrameAsks (bands (n e)) (m (n e)) x) (sym (x-is e)) (frame_asks (bands (n e)) (l (n e)) (words (n e)) (s (n e)).args.count (s (n e)).requires (m (n e)) (w (n e)) (k (n e)) (below (n e)) (inv (n e)))
+  where
+    e : lts.After-sides_at tie.the-claims reads.Pre reads.Post invariant-loop decreases-loop
+    e = c.before
+
+pub overflow_mul-k-in-loop-k : goal.overflow_mul-k-in-loop-k
+overflow_mul-k-in-loop-k c = omega (arith, below c.before.before.before.before.before.before.before, (s c.before.before.before.before.before.before.before).requires.few)
+
+pub put_sides-requires : goal.put_sides-requires
+put_sides-requires c = omega (arith, has c.before.before.before.before.before.before.before)
+
+pub overflow_add-k : goal.overflow_add-k
+overflow_add-k c = omega (arith, below c.before.before.before.before.before.before.before.before.before.before, (s c.before.before.before.before.before.before.before.before.before.before).requires.few)
+
+pub loop-k-smaller : goal.loop-k-smaller
+loop-k-smaller c = omega (arith, below c.before.before.before.before.before.before.before.before.before.before)
+
+pub loop-k-preserved : goal.loop-k-preserved
+loop-k-preserved c =
+    subst (λ (j : ℕ). Mixing (bands i) (l i) (words i) (s i).args.count after c.before.before.put_sides.new.0 j) (sym (add-one (k i)))
+    (subst (λ (z : List Float). Mixing (bands i) (l i) (words i) (s i).args.count after z (suc (k i))) (sym c.before.before.put_sides.ensures)
+    (mixing_next (bands i) (l i) (words i) (s i).args.count (s i).requires (m i) (w i) (k i) (below i) (inv i) after c.before.before.before.before.before.before.frame-totals.result
+    (subst (λ (x : Sides). FrameGives (bands i) (m i) x after c.before.before.before.before.before.before.frame-totals.result) (x-is e) c.before.before.before.before.before.before.frame-totals.ensures)))
+  where
+    i : goal.In-loop-k
+    i = c.before.before.before.before.before.before.before.before.before.before
+
+    e : lts.After-sides_at tie.the-claims reads.Pre reads.Post invariant-loop decreases-loop
+    e = c.before.before.before.before.before.before.before.before
+
+    after : List Float
+    after = c.before.before.before.before.before.before.frame-totals.new.1.0
+
+all : (c : goal.After-loop-k) → c.before.loop-k.k ≡ c.before.before.before.before.args.count
+all c = omega (arith, c.before.loop-k.invariant.most, c.loop-k-test.false)
+
+pub shape_of-pair : goal.shape_of-pair
+shape_of-pair c = c.before.loop-k.invariant.size ∙ sym c.before.before.before.before.requires.pair_fit.size
+
+pub shape_of-words : goal.shape_of-words
+shape_of-words c = c.before.loop-k.invariant.words_size ∙ sym c.before.before.before.before.requires.words_size
+
+pub returns : goal.returns
+returns c =
+    mixing_ends s'.args.bands.now s'.args.pair-1.now s'.args.words-1.now s'.args.count s'.requires c.before.loop-k.pair-1 c.before.loop-k.words-1
+    (subst (λ (j : ℕ). Mixing s'.args.bands.now s'.args.pair-1.now s'.args.words-1.now s'.args.count c.before.loop-k.pair-1 c.before.loop-k.words-1 j) (all c) c.before.loop-k.invariant)
+  where
+    s' : lts.Start tie.the-claims reads.Pre reads.Post invariant-loop decreases-loop
+    s' = c.before.before.before.before

@@ -1,0 +1,119 @@
+-- `frames::read_words` meets its contract: frame by frame two words are stored.
+use mathlib.Core.Path.{◌≡◌, sym, ◌∙◌, subst}
+use mathlib.Core.List.{List}
+use Prim.Native.Nat.{ℕ, suc, ◌+◌, ◌-◌, ◌*◌, ◌≤◌, ◌<◌}
+use native.Mathlib.Numerals.{add-one}
+use native.Mathlib.Omega.{arith}
+use lib.ListN.{length}
+use lib.Ieee.{Float}
+use Rattle.floats.specs.Whole.{float}
+use Rattle.engine.specs.declared.Sides.{Sides}
+use Rattle.engine.specs.Layout.{sides_at}
+use Rattle.engine.proofs.Store.{sides-length}
+use Rattle.frames.specs.Column.{column_word}
+use Rattle.frames.specs.Run.{pass_words}
+use Rattle.frames.proofs.Words.{words_more}
+use Rattle.frames.proofs.read_words.Lts as lts
+use Rattle.frames.proofs.read_words.Reads as reads
+use Rattle.frames.proofs.read_words.Tie as tie
+use Rattle.frames.proofs.read_words.Invariants.{words_of, Reading}
+use Rattle.frames.proofs.read_words.Goals as goal
+
+-- the words of frame k
+
+-- after k frames
+
+pub loop-k-init : goal.loop-k-init
+loop-k-init c = record { most = omega arith; words_size = c.before.before.requires.words_size; done = λ j h. absurd (omega arith) }
+
+module _ (c : goal.In-loop-k) where
+  abbrev s : lts.Start tie.the-claims reads.Pre reads.Post invariant-loop decreases-loop
+  s = c.before.before.before.before
+
+  abbrev k : ℕ
+  k = c.before.loop-k.k
+
+  abbrev words : List Float
+  words = c.before.loop-k.words-1
+
+  inv : Reading s.args.input.now s.args.size s.args.at s.args.count words k
+  inv = c.before.loop-k.invariant
+
+  below : k < s.args.count
+  below = c.loop-k-test.true
+
+  -- the frame's samples stand in the input
+  here : s.args.size * k + (s.args.at + 4) ≤ length s.args.input.now
+  here = s.requires.has k below
+
+pub overflow_add-second : goal.overflow_add-second
+overflow_add-second c = omega (arith, here c)
+
+pub overflow_mul-size : goal.overflow_mul-size
+overflow_mul-size c = omega (arith, here c)
+
+pub overflow_add-size : goal.overflow_add-size
+overflow_add-size c = omega (arith, here c)
+
+pub word-requires : goal.word-requires
+word-requires c = omega (arith, here c)
+
+pub overflow_mul-size-in-loop-k : goal.overflow_mul-size-in-loop-k
+overflow_mul-size-in-loop-k c = omega (arith, here c.before)
+
+pub overflow_add-size-in-loop-k : goal.overflow_add-size-in-loop-k
+overflow_add-size-in-loop-k c = omega (arith, here c.before)
+
+pub word-requires-in-loop-k : goal.word-requires-in-loop-k
+word-requires-in-loop-k c = omega (arith, here c.before)
+
+pub overflow_mul-k : goal.overflow_mul-k
+overflow_mul-k c = omega (arith, below n, (s n).requires.few)
+  where
+    n : goal.In-loop-k
+    n = c.before.before.before
+
+-- there is room for the words
+room : (n : goal.In-loop-k) → 2 * k n + 1 < length (words n)
+room n = omega (arith, below n, (s n).requires.few, (inv n).words_size)
+
+pub put_sides-requires : goal.put_sides-requires
+put_sides-requires c = omega (arith, room c.before.before.before)
+
+pub overflow_add-k : goal.overflow_add-k
+overflow_add-k c = omega (arith, below c.before.before.before.before.before.before, (s c.before.before.before.before.before.before).requires.few)
+
+pub loop-k-smaller : goal.loop-k-smaller
+loop-k-smaller c = omega (arith, below c.before.before.before.before.before.before)
+
+pub loop-k-preserved : goal.loop-k-preserved
+loop-k-preserved c =
+    subst (λ (j : ℕ). Reading (s n).args.input.now (s n).args.size (s n).args.at (s n).args.count c.before.before.put_sides.new.0 j) (sym (add-one (k n)))
+    (subst (λ (w : List Float). Reading (s n).args.input.now (s n).args.size (s n).args.at (s n).args.count w (suc (k n))) (sym c.before.before.put_sides.ensures)
+    (record {
+      most = below n;
+      words_size = sides-length (words n) (2 * k n) x ∙ (inv n).words_size;
+      done = words_more (words n) (k n) x (words_of (s n).args.input.now (s n).args.size (s n).args.at) (room n) x-is (inv n).done;
+    }))
+  where
+    n : goal.In-loop-k
+    n = c.before.before.before.before.before.before
+
+    x : Sides
+    x = record { first = c.before.before.before.before.before.word.result; second = c.before.before.before.before.word-in-loop-k.result }
+
+    x-is : x ≡ words_of (s n).args.input.now (s n).args.size (s n).args.at (k n)
+    x-is = λ i. record { first = c.before.before.before.before.before.word.ensures i; second = c.before.before.before.before.word-in-loop-k.ensures i }
+
+all : (c : goal.After-loop-k) → c.before.loop-k.k ≡ c.before.before.before.before.args.count
+all c = omega (arith, c.before.loop-k.invariant.most, c.loop-k-test.false)
+
+pub shape_of-words : goal.shape_of-words
+shape_of-words c = c.before.loop-k.invariant.words_size ∙ sym c.before.before.before.before.requires.words_size
+
+pub returns : goal.returns
+returns c =
+    record {
+      words_size = c.before.loop-k.invariant.words_size;
+      words_are = λ j h. c.before.loop-k.invariant.done j (omega (arith, h, all c));
+    }

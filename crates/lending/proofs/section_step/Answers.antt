@@ -1,0 +1,96 @@
+-- `lending::section_step` meets its contract: the seven numbers are read into a section, and those of the section after the
+-- step are stored.
+use mathlib.Core.Path.{◌≡◌, ap, ◌∙◌}
+use mathlib.Core.List.{List, [], ◌∷◌}
+use native.Mathlib.Omega.{arith}
+use lib.IntN.{ℤ, pos}
+use lib.ListN.{get_or}
+use borrow.Author.Rules.{rules}
+use mir.Syntax.{w32}
+use mir.Val.{to_z, of_z}
+use mir.Facts.{to_z-of_z}
+use Rattle.integers.proofs.Machine.{reads_back}
+use Rattle.section.specs.declared.Section.{Section}
+use Rattle.section.specs.declared.Stepped.{Stepped}
+use Rattle.section.specs.Step.{stepped}
+use Rattle.lending.specs.Layout.{lone_section, lone_numbers, answer_of}
+use Rattle.lending.proofs.section_step.Lts as lts
+use Rattle.lending.proofs.section_step.Reads as reads
+use Rattle.lending.proofs.section_step.Tie as tie
+use Rattle.lending.proofs.section_step.Goals as goal
+
+-- ---- the lent numbers, as read
+
+module _ (c : goal.After-y2-1) where
+  abbrev start : goal.Start
+  start = c.before.before.before.before.before.before.before
+
+  abbrev l : List ℤ
+  l = start.args.numbers-1.now
+
+  alpha-reads : to_z w32 (of_z w32 (get_or l 0 (pos 0))) ≡ get_or l 0 (pos 0)
+  alpha-reads = reads_back w32 (get_or l 0 (pos 0)) (omega arith)
+
+  beta-reads : to_z w32 (of_z w32 (get_or l 1 (pos 0))) ≡ get_or l 1 (pos 0)
+  beta-reads = reads_back w32 (get_or l 1 (pos 0)) (omega arith)
+
+  gamma-reads : to_z w32 (of_z w32 (get_or l 2 (pos 0))) ≡ get_or l 2 (pos 0)
+  gamma-reads = reads_back w32 (get_or l 2 (pos 0)) (omega arith)
+
+  x1-reads : to_z w32 (of_z w32 (get_or l 3 (pos 0))) ≡ get_or l 3 (pos 0)
+  x1-reads = reads_back w32 (get_or l 3 (pos 0)) (omega arith)
+
+  x2-reads : to_z w32 (of_z w32 (get_or l 4 (pos 0))) ≡ get_or l 4 (pos 0)
+  x2-reads = reads_back w32 (get_or l 4 (pos 0)) (omega arith)
+
+  y1-reads : to_z w32 (of_z w32 (get_or l 5 (pos 0))) ≡ get_or l 5 (pos 0)
+  y1-reads = reads_back w32 (get_or l 5 (pos 0)) (omega arith)
+
+  y2-reads : to_z w32 (of_z w32 (get_or l 6 (pos 0))) ≡ get_or l 6 (pos 0)
+  y2-reads = reads_back w32 (get_or l 6 (pos 0)) (omega arith)
+
+-- the answer is that of the section as lent
+answer-is : (c : lts.After-step tie.the-claims reads.Pre reads.Post) → c.step-answer.result ≡ stepped (lone_section (l c.before)) (start c.before).args.x
+answer-is c =
+    c.step-answer.ensures
+    ∙ (λ i. stepped
+    (record {
+      band = record { alpha = alpha-reads s i; beta = beta-reads s i; gamma = gamma-reads s i };
+      x1 = x1-reads s i;
+      x2 = x2-reads s i;
+      y1 = y1-reads s i;
+      y2 = y2-reads s i;
+    })
+    (to_z-of_z (start s).ranges.x i))
+  where
+    s : goal.After-y2-1
+    s = c.before
+
+-- ---- the numbers of the section after the step, as stored
+
+module _ (c : lts.After-struct_told tie.the-claims reads.Pre reads.Post) where
+  abbrev after : Section
+  after = c.before.before.step-answer.result.section
+
+  numbers-stored : ◌≡◌ {A = List ℤ} (to_z w32 (of_z w32 after.band.alpha-1) ∷ to_z w32 (of_z w32 after.band.beta-1) ∷ to_z w32 (of_z w32 after.band.gamma-1) ∷ to_z w32 (of_z w32 after.x1-1) ∷ to_z w32 (of_z w32 after.x2-1) ∷ to_z w32 (of_z w32 after.y1-1) ∷ to_z w32 (of_z w32 after.y2-1) ∷ []) (lone_numbers after)
+  numbers-stored =
+      λ i.
+      reads_back w32 after.band.alpha-1 (omega arith) i
+      ∷ reads_back w32 after.band.beta-1 (omega arith) i
+      ∷ reads_back w32 after.band.gamma-1 (omega arith) i
+      ∷ reads_back w32 after.x1-1 (omega arith) i
+      ∷ reads_back w32 after.x2-1 (omega arith) i
+      ∷ reads_back w32 after.y1-1 (omega arith) i
+      ∷ reads_back w32 after.y2-1 (omega arith) i
+      ∷ []
+
+-- ---- the needs
+
+pub returns : goal.returns
+returns c = (
+  c.answer_of.ensures ∙ ap answer_of answer,
+  numbers-stored c.before.before ∙ ap (λ (r : Stepped). lone_numbers r.section) answer,
+)
+  where
+    answer : c.before.before.before.before.step-answer.result ≡ stepped (lone_section (l c.before.before.before.before.before)) (start c.before.before.before.before.before).args.x
+    answer = answer-is c.before.before.before.before

@@ -1,0 +1,41 @@
+-- `lent_fitness::bands_fit` meets its contract. The loop's invariant: the test of every band is that of the bands from b on.
+use mathlib.Core.Path.{◌≡◌, sym, ap, ◌∙◌}
+use Prim.Native.Nat.{◌-◌}
+use native.Mathlib.Omega.{arith}
+use lib.ListN.{get_or}
+use borrow.Author.Rules.{rules}
+use Rattle.lists.proofs.Loops.{EveryFrom, every_begin, every_fails, every-passes, every_done}
+use Rattle.lists.proofs.Tabulate.{tabulate-at}
+use Rattle.refusals.specs.Numbers.{is_accepted}
+use Rattle.bands.specs.Bands.{band_count, band_at, band_verdict}
+use Rattle.unit.specs.Cleared.{bands_of}
+use Rattle.unit.specs.Fit.{band_fits}
+use Rattle.unit.proofs.PastEnd.{zero_band}
+use Rattle.lent_fitness.proofs.bands_fit.Lts as lts
+use Rattle.lent_fitness.proofs.bands_fit.Reads as reads
+use Rattle.lent_fitness.proofs.bands_fit.Tie as tie
+use Rattle.lent_fitness.proofs.bands_fit.Goals as goal
+
+-- the test of band b
+module _ (c : lts.After-accepted tie.the-claims reads.Pre reads.Post invariant-loop decreases-loop) where
+  abbrev at : lts.At-loop tie.the-claims reads.Pre reads.Post invariant-loop decreases-loop
+  at = c.before.before.before.before
+
+  tested : c.accepted.result ≡ band_fits (get_or (bands_of at.before.args.set.now) at.loop-b.b zero_band)
+  tested =
+      c.accepted.ensures
+      ∙ ap is_accepted (c.before.check_band-verdict.ensures ∙ ap band_verdict c.before.before.band_at.ensures)
+      ∙ ap band_fits (sym (tabulate-at band_count (band_at at.before.args.set.now) zero_band at.loop-b.b (omega arith)))
+
+pub returns-then-not-accepted : goal.returns-then-not-accepted
+returns-then-not-accepted c = every_fails (at c.before).loop-b.invariant zero_band (omega arith) (tested c.before) c.if-not-accepted.true
+
+pub loop-b-preserved : goal.loop-b-preserved
+loop-b-preserved c = every-passes (at c.before).loop-b.invariant zero_band (omega arith) (tested c.before) c.if-not-accepted.false
+
+pub returns : goal.returns
+returns c = every_done c.before.loop-b.invariant (omega arith)
+
+pub loop-b-init : goal.loop-b-init
+loop-b-init c =
+    every_begin

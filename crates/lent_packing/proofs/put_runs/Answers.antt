@@ -1,0 +1,68 @@
+-- `lent_packing::put_runs` meets its contract. The loop's invariant: k numbers of each side are stored.
+use mathlib.Core.Path.{◌≡◌, sym, ap, ◌∙◌, subst}
+use mathlib.Core.List.{List}
+use Prim.Native.Nat.{ℕ, ◌+◌, ◌*◌, ◌-◌, ◌^◌, ◌≤◌}
+use native.Mathlib.Nat.{le_trans}
+use native.Mathlib.Omega.{arith}
+use lib.Dec.{lit≤}
+use lib.IntN.{ℤ}
+use lib.Ieee.{Float}
+use lib.Signed.{nat_abs-le}
+use borrow.Author.Rules.{rules}
+use mir.Syntax.{w32}
+use Rattle.integers.proofs.Machine.{reads_back}
+use Rattle.engine.specs.declared.Sides.{Sides}
+use Rattle.engine.specs.Layout.{side_count, put_sides}
+use Rattle.packing.specs.Packing.{float_sides}
+use Rattle.lent_packing.specs.Runs.{number_at, PutRunsGives}
+use Rattle.lent_packing.proofs.Runs.{put_begin, put_more}
+use Rattle.lent_packing.proofs.put_runs.Lts as lts
+use Rattle.lent_packing.proofs.put_runs.Reads as reads
+use Rattle.lent_packing.proofs.put_runs.Tie as tie
+use Rattle.lent_packing.proofs.put_runs.Goals as goal
+
+pub loop-k-init : goal.loop-k-init
+loop-k-init c =
+    (omega arith, put_begin c.before.args.at c.before.args.first c.before.args.second c.before.args.floats-1.now c.before.args.numbers.now c.before.requires.whole)
+
+pub loop-k-preserved : goal.loop-k-preserved
+loop-k-preserved c = (
+  omega arith,
+  subst (λ (l : List Float). PutRunsGives s.args.at s.args.first s.args.second (k + 1) s.args.floats-1.now s.args.numbers.now l) (sym is)
+      (put_more s.args.at s.args.first s.args.second s.args.floats-1.now s.args.numbers.now k c.before.before.before.before.before.before.before.before.loop-k.floats-1 (omega arith) c.before.before.before.before.before.before.before.before.loop-k.invariant.1
+      (le_trans (nat_abs-le y {H = 2 ^ 31} (omega arith)) (lit≤ tt))
+      (le_trans (nat_abs-le z {H = 2 ^ 31} (omega arith)) (lit≤ tt))),
+)
+  where
+    s : lts.Start tie.the-claims reads.Pre reads.Post invariant-loop decreases-loop
+    s = c.before.before.before.before.before.before.before.before.before.before
+
+    k : ℕ
+    k = c.before.before.before.before.before.before.before.before.loop-k.k
+
+    y : ℤ
+    y = number_at s.args.numbers.now (s.args.first + k)
+
+    z : ℤ
+    z = number_at s.args.numbers.now (s.args.second + k)
+
+    is : c.before.before.put_sides.new.0 ≡ put_sides c.before.before.before.before.before.before.before.before.loop-k.floats-1 (s.args.at + side_count * k) (float_sides y z)
+    is =
+        c.before.before.put_sides.ensures
+        ∙ ap (λ (t : Sides). put_sides c.before.before.before.before.before.before.before.before.loop-k.floats-1 (s.args.at + side_count * k) t)
+        (c.before.before.before.before.sides_of-sides.ensures ∙ (λ i. float_sides (reads_back w32 y (omega arith) i) (reads_back w32 z (omega arith) i)))
+
+pub returns : goal.returns
+returns c =
+    subst (λ (n : ℕ). PutRunsGives s.args.at s.args.first s.args.second n s.args.floats-1.now s.args.numbers.now c.before.loop-k.floats-1) all
+    c.before.loop-k.invariant.1
+  where
+    s : lts.Start tie.the-claims reads.Pre reads.Post invariant-loop decreases-loop
+    s = c.before.before.before
+
+    all : c.before.loop-k.k ≡ s.args.count
+    all = omega arith
+
+pub shape_of-floats : goal.shape_of-floats
+shape_of-floats c =
+    c.before.loop-k.invariant.1.size

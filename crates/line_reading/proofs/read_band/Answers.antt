@@ -1,0 +1,85 @@
+-- `line_reading::read_band` meets its contract: a letter, three fields, the band that they make, a line end.
+use mathlib.Core.Path.{◌≡◌, refl, sym, ap, ap₂, ◌∙◌}
+use mathlib.Core.Bool.{true}
+use mathlib.Core.List.{List}
+use Prim.Native.Nat.{ℕ, ◌+◌, ◌≤◌}
+use native.Mathlib.Omega.{arith}
+use lib.IntN.{ℤ}
+use lib.ListN.{length, take, drop, length-drop}
+use borrow.Author.Rules.{rules}
+use borrow.Author.Tests.{not-true, not-false}
+use Rattle.refusals.specs.Numbers.{is_accepted, first_of}
+use Rattle.bands.specs.Bands.{band_size}
+use Rattle.forms.specs.Line.{line_size, field_numbers}
+use Rattle.sheet.specs.Lines.{band_letter, band_ranges, band_joint}
+use Rattle.line_reading.specs.Gives.{FieldsGive}
+use Rattle.line_reading.proofs.Fields.{any_fields}
+use Rattle.line_reading.proofs.Line.{room_from, letter_refused, fields_refused, numbers_there, line_ended}
+use Rattle.line_reading.proofs.read_band.Lts as lts
+use Rattle.line_reading.proofs.read_band.Reads as reads
+use Rattle.line_reading.proofs.read_band.Tie as tie
+use Rattle.line_reading.proofs.read_band.Goals as goal
+
+pub returns-then-not-accepted : goal.returns-then-not-accepted
+returns-then-not-accepted c =
+    let s = c.before.before.before.before in
+    letter_refused band_letter band_ranges band_joint (λ l. l) band_size refl s.args.bytes.now s.args.at s.args.slots-1.now s.args.place c.before.before.check_letter-front.ensures
+    (sym c.before.accepted.ensures ∙ not-true _ c.if-not-accepted.true)
+
+-- ---- the letter accepted
+
+module _ (c : goal.Else-not-accepted) where
+  abbrev start : lts.Start tie.the-claims reads.Pre reads.Post
+  start = c.before.before.before.before
+
+  abbrev bytes : List ℕ
+  bytes = start.args.bytes.now
+
+  passed : is_accepted c.before.before.check_letter-front.result ≡ true
+  passed = sym c.before.accepted.ensures ∙ not-false _ c.if-not-accepted.false
+
+  -- the line's bytes are there
+  room : start.args.at + line_size band_size ≤ length bytes
+  room = room_from band_letter band_size bytes start.args.at start.requires.0 c.before.before.check_letter-front.ensures passed
+
+pub read_fields-middle-requires : goal.read_fields-middle-requires
+read_fields-middle-requires c = (omega (arith, room c.before), (start c.before).requires.1)
+
+-- ---- the fields read
+
+module _ (c : lts.After-read_fields tie.the-claims reads.Pre reads.Post) where
+  abbrev o : goal.Else-not-accepted
+  o = c.before.before
+
+  abbrev after : List ℤ
+  after = c.read_fields-middle.new.1.1.1.1.1.0
+
+  -- any number of nine digits is in its range
+  fields : FieldsGive band_ranges (drop ((start o).args.at + 1) (bytes o)) (start o).args.slots-1.now (start o).args.place c.read_fields-middle.result after
+  fields = any_fields band_size (drop ((start o).args.at + 1) (bytes o)) (omega (arith, room o, length-drop ((start o).args.at + 1) (bytes o))) c.read_fields-middle.ensures
+
+  -- the numbers stored are the line's
+  there : is_accepted c.read_fields-middle.result ≡ true → take band_size (drop (start o).args.place after) ≡ field_numbers band_size (drop 1 (drop (start o).args.at (bytes o)))
+  there e =
+      numbers_there band_letter band_ranges band_joint (λ l. l) band_size refl (bytes o) (start o).args.at (start o).args.slots-1.now (start o).args.place o.before.before.check_letter-front.ensures (passed o) fields e band_size refl (start o).requires.1
+
+pub returns-then-not-accepted-2 : goal.returns-then-not-accepted-2
+returns-then-not-accepted-2 c =
+    let f = c.before.before.before in
+    let s = start (o f) in
+    fields_refused band_letter band_ranges band_joint (λ l. l) band_size refl (bytes (o f)) s.args.at s.args.slots-1.now s.args.place (o f).before.before.check_letter-front.ensures (passed (o f)) (fields f)
+    (sym c.before.accepted-2.ensures ∙ not-true _ c.if-not-accepted-2.true)
+
+pub check_end-end-requires : goal.check_end-end-requires
+check_end-end-requires c = room (o c.before.before.before.before.before)
+
+pub returns : goal.returns
+returns c =
+    let n = c.before in
+    let b = n.before in
+    let t = b.before.before in
+    let f = t.before.before.before in
+    let s = start (o f) in
+    let e = sym t.before.accepted-2.ensures ∙ not-false _ t.if-not-accepted-2.false in
+    line_ended band_letter band_ranges band_joint (λ l. l) band_size refl (bytes (o f)) s.args.at s.args.slots-1.now s.args.place (o f).before.before.check_letter-front.ensures (passed (o f)) (fields f) e
+    (c.first_of.ensures ∙ ap₂ first_of (b.check_band_at-joint.ensures ∙ ap band_joint (there f e)) n.check_end-end.ensures)

@@ -1,0 +1,112 @@
+-- `line_reading::read_fields` meets its contract. The loop's invariant: i fields are read.
+use mathlib.Core.Path.{◌≡◌, refl, sym, ap₂, subst, ◌∙◌}
+use mathlib.Core.Bool.{Bool, true, false}
+use mathlib.Core.List.{List}
+use Prim.Native.Nat.{ℕ, ◌+◌, ◌*◌, ◌-◌, ◌≤◌, ◌<◌}
+use native.Mathlib.Omega.{arith}
+use lib.IntN.{ℤ}
+use lib.ListN.{length, drop, replicate}
+use mir.Facts.{to_z-of_z}
+use mir.Syntax.{w32}
+use mir.Val.{to_z, of_z}
+use borrow.Author.Rules.{rules}
+use borrow.Author.Tests.{not-true, not-false}
+use Rattle.rounding.specs.Rounding.{within}
+use Rattle.refusals.specs.Numbers.{is_accepted, unless}
+use Rattle.refusals.specs.declared.Verdict.{Verdict}
+use Rattle.refusals.specs.declared.Verdict.TheVariants.{Accepted, Unfit}
+use Rattle.fields.specs.Fields.{field_size, field_at}
+use Rattle.forms.specs.Line.{field_verdict}
+use Rattle.line_reading.specs.Gives.{FieldsGive}
+use Rattle.line_reading.proofs.Field.{field_badly, field_number, field_tested}
+use Rattle.line_reading.proofs.Fields.{ReadUpTo, none_read_yet, all_read, read_off, read_on}
+use Rattle.line_reading.proofs.read_fields.Lts as lts
+use Rattle.line_reading.proofs.read_fields.Reads as reads
+use Rattle.line_reading.proofs.read_fields.Tie as tie
+use Rattle.line_reading.proofs.read_fields.Invariants.{range_of}
+use Rattle.line_reading.proofs.read_fields.Goals as goal
+
+-- the range's ends are given by their bits
+
+module _ (c : lts.Start tie.the-claims reads.Pre reads.Post invariant-loop decreases-loop) where
+  abbrev range : ℤ → Bool
+  range = range_of (of_z w32 c.args.low) (of_z w32 c.args.high)
+
+  -- what the fields give, in the words of the contract
+  in_words : {v : Verdict} {after : List ℤ} → FieldsGive (replicate c.args.count range) (drop c.args.at c.args.bytes.now) c.args.slots.now c.args.place v after
+      → FieldsGive (replicate c.args.count (within c.args.low c.args.high)) (drop c.args.at c.args.bytes.now) c.args.slots.now c.args.place v after
+  in_words {v} {after} s =
+      subst (λ (r : ℤ → Bool). FieldsGive (replicate c.args.count r) (drop c.args.at c.args.bytes.now) c.args.slots.now c.args.place v after)
+      (ap₂ within (to_z-of_z c.ranges.low) (to_z-of_z c.ranges.high)) s
+
+pub loop-i-init : goal.loop-i-init
+loop-i-init c =
+    let args = c.before.args in
+    none_read_yet (range c.before) args.count args.bytes.now args.at args.slots.now args.place
+
+-- ---- the ith field read
+
+module _ (c : lts.After-read_field tie.the-claims reads.Pre reads.Post invariant-loop decreases-loop) where
+  abbrev start : lts.Start tie.the-claims reads.Pre reads.Post invariant-loop decreases-loop
+  start = c.before.before.before.before
+
+  abbrev bytes : List ℕ
+  bytes = start.args.bytes.now
+
+  abbrev i : ℕ
+  i = c.before.before.loop-i.i
+
+  abbrev here : ℕ
+  here = start.args.at + field_size * i
+
+  abbrev number : ℤ
+  number = c.read_field-number.result
+
+  below : i < start.args.count
+  below = omega arith
+
+  long : here + field_size ≤ length bytes
+  long = omega (arith, start.requires.0)
+
+  -- it is refused
+  refused : {v : Verdict} → field_verdict (range start) (field_at bytes here) ≡ v → is_accepted v ≡ false
+      → FieldsGive (replicate start.args.count (within start.args.low start.args.high)) (drop start.args.at bytes) start.args.slots.now start.args.place v c.before.before.loop-i.slots
+  refused e f =
+      in_words start
+      (read_off (range start) start.args.count bytes start.args.at start.args.slots.now start.args.place c.before.before.loop-i.invariant below e f)
+
+pub returns-then-number-eq-NO_NUMBER : goal.returns-then-number-eq-NO_NUMBER
+returns-then-number-eq-NO_NUMBER c =
+    let o = c.before in
+    refused o (field_badly (range (start o)) (bytes o) (here o) (long o) (number o) o.read_field-number.type_inv o.read_field-number.ensures c.if-number-eq-NO_NUMBER.true) refl
+
+-- ---- its number tested
+
+module _ (c : lts.After-in_range_i32 tie.the-claims reads.Pre reads.Post invariant-loop decreases-loop) where
+  abbrev o : lts.After-read_field tie.the-claims reads.Pre reads.Post invariant-loop decreases-loop
+  o = c.before.before
+
+  tested : (t : Bool) → c.in_range_i32.result ≡ t → field_verdict (range (start o)) (field_at (bytes o) (here o)) ≡ unless t Unfit Accepted
+  tested t e =
+      field_tested (range (start o)) (bytes o) (here o) (long o) (number o) o.read_field-number.ok o.read_field-number.ensures c.before.if-number-eq-NO_NUMBER.false t
+      (sym c.in_range_i32.ensures ∙ e)
+
+pub returns-then-not-in_range_i32 : goal.returns-then-not-in_range_i32
+returns-then-not-in_range_i32 c =
+    let t = c.before in
+    refused (o t) (tested t false (not-true _ c.if-not-in_range_i32.true)) refl
+
+pub loop-i-preserved : goal.loop-i-preserved
+loop-i-preserved c =
+    let t = c.before in
+    let f = o t in
+    let s = start f in
+    read_on (range s) s.args.count (bytes f) s.args.at s.args.slots.now s.args.place f.before.before.loop-i.invariant (below f)
+    (tested t true (not-false _ c.if-not-in_range_i32.false))
+    (field_number (range s) (bytes f) (here f) (long f) (number f) f.read_field-number.ok f.read_field-number.ensures t.before.if-number-eq-NO_NUMBER.false)
+
+pub returns : goal.returns
+returns c =
+    let s = c.before.before.before in
+    in_words s
+    (all_read (range s) s.args.count s.args.bytes.now s.args.at s.args.slots.now s.args.place c.before.loop-i.invariant (omega arith))

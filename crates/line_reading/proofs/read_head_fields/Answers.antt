@@ -1,0 +1,38 @@
+-- `line_reading::read_head_fields` meets its contract: two inputs and a flag.
+use mathlib.Core.Path.{refl, sym, ◌∙◌}
+use mathlib.Core.List.{[], ◌∷◌}
+use Prim.Native.Nat.{◌+◌}
+use native.Mathlib.Omega.{arith}
+use borrow.Author.Rules.{rules}
+use borrow.Author.Tests.{not-true, not-false}
+use Rattle.unit.specs.Fit.{is_input, is_flag}
+use Rattle.fields.specs.Fields.{field_size}
+use Rattle.line_reading.proofs.Field.{first_off, first_on}
+use Rattle.line_reading.proofs.read_head_fields.Goals as goal
+
+pub returns-then-not-accepted : goal.returns-then-not-accepted
+returns-then-not-accepted c =
+    let f = c.before.before.before in
+    let args = f.before.before.before.args in
+    first_off is_input (is_input ∷ is_flag ∷ []) args.bytes.now args.at f.read_input-first.ensures (sym c.before.accepted.ensures ∙ not-true _ c.if-not-accepted.true)
+
+pub returns-then-not-accepted-2 : goal.returns-then-not-accepted-2
+returns-then-not-accepted-2 c =
+    let g = c.before.before.before in
+    let o = g.before.before in
+    let f = o.before.before.before in
+    let args = f.before.before.before.args in
+    first_on is_input (is_input ∷ is_flag ∷ []) args.bytes.now args.at f.read_input-first.ensures (sym o.before.accepted.ensures ∙ not-false _ o.if-not-accepted.false) (args.at + field_size) refl
+    (first_off is_input (is_flag ∷ []) args.bytes.now (args.at + field_size) g.read_input-second.ensures (sym c.before.accepted-2.ensures ∙ not-true _ c.if-not-accepted-2.true))
+
+pub returns : goal.returns
+unfolding is_flag
+returns c =
+    let t = c.before.before.before in
+    let g = t.before.before.before in
+    let o = g.before.before in
+    let f = o.before.before.before in
+    let args = f.before.before.before.args in
+    first_on is_input (is_input ∷ is_flag ∷ []) args.bytes.now args.at f.read_input-first.ensures (sym o.before.accepted.ensures ∙ not-false _ o.if-not-accepted.false) (args.at + field_size) refl
+    (first_on is_input (is_flag ∷ []) args.bytes.now (args.at + field_size) g.read_input-second.ensures (sym t.before.accepted-2.ensures ∙ not-false _ t.if-not-accepted-2.false) (args.at + 18) (omega arith)
+    c.before.read_fields.ensures)

@@ -1,0 +1,76 @@
+-- `line_reading::read_section` meets its contract: a letter, the fields, a line end.
+use mathlib.Core.Path.{◌≡◌, sym, ◌∙◌}
+use mathlib.Core.Bool.{true}
+use mathlib.Core.List.{List}
+use Prim.Native.Nat.{ℕ, ◌+◌, ◌≤◌}
+use native.Mathlib.Omega.{arith}
+use lib.ListN.{length}
+use borrow.Author.Rules.{rules}
+use borrow.Author.Tests.{not-true, not-false}
+use Rattle.refusals.specs.Numbers.{is_accepted}
+use Rattle.forms.specs.Line.{line_size, alone}
+use Rattle.sheet.specs.Lines.{section_letter, section_ranges}
+use Rattle.sheet.proofs.Sizes.{few_fields}
+use Rattle.line_reading.specs.Gives.{five_of}
+use Rattle.line_reading.proofs.Line.{room_from, letter_refused, fields_refused, line_ended}
+use Rattle.line_reading.proofs.read_section.Lts as lts
+use Rattle.line_reading.proofs.read_section.Reads as reads
+use Rattle.line_reading.proofs.read_section.Tie as tie
+use Rattle.line_reading.proofs.read_section.Goals as goal
+
+pub check_letter-front-requires : goal.check_letter-front-requires
+check_letter-front-requires c =
+    let s = c.before.before in
+    (s.requires.0, omega (arith, c.section_fields-count.ensures, few_fields s.args.fifth))
+
+pub returns-then-not-accepted : goal.returns-then-not-accepted
+returns-then-not-accepted c =
+    let n = c.before.before.before.section_fields-count in
+    let s = c.before.before.before.before.before in
+    letter_refused section_letter (section_ranges s.args.fifth) alone five_of n.result (sym n.ensures) s.args.bytes.now s.args.at s.args.slots-1.now s.args.place c.before.before.check_letter-front.ensures
+    (sym c.before.accepted.ensures ∙ not-true _ c.if-not-accepted.true)
+
+-- ---- the letter accepted
+
+module _ (c : goal.Else-not-accepted) where
+  abbrev start : lts.Start tie.the-claims reads.Pre reads.Post
+  start = c.before.before.before.before.before
+
+  abbrev bytes : List ℕ
+  bytes = start.args.bytes.now
+
+  abbrev count : ℕ
+  count = c.before.before.before.section_fields-count.result
+
+  count-is : length (section_ranges start.args.fifth) ≡ count
+  count-is = sym c.before.before.before.section_fields-count.ensures
+
+  passed : is_accepted c.before.before.check_letter-front.result ≡ true
+  passed = sym c.before.accepted.ensures ∙ not-false _ c.if-not-accepted.false
+
+  -- the line's bytes are there
+  room : start.args.at + line_size count ≤ length bytes
+  room = room_from section_letter count bytes start.args.at start.requires.0 c.before.before.check_letter-front.ensures passed
+
+pub read_section_fields-middle-requires : goal.read_section_fields-middle-requires
+read_section_fields-middle-requires c = (omega (arith, room c.before, count-is c.before), (start c.before).requires.1)
+
+pub returns-then-not-accepted-2 : goal.returns-then-not-accepted-2
+returns-then-not-accepted-2 c =
+    let f = c.before.before.before in
+    let o = f.before.before in
+    let s = start o in
+    fields_refused section_letter (section_ranges s.args.fifth) alone five_of (count o) (count-is o) (bytes o) s.args.at s.args.slots-1.now s.args.place o.before.before.check_letter-front.ensures (passed o) f.read_section_fields-middle.ensures
+    (sym c.before.accepted-2.ensures ∙ not-true _ c.if-not-accepted-2.true)
+
+pub check_end-requires : goal.check_end-requires
+check_end-requires c = room c.before.before.before.before.before
+
+pub returns : goal.returns
+returns c =
+    let t = c.before in
+    let f = t.before.before.before in
+    let o = f.before.before in
+    let s = start o in
+    line_ended section_letter (section_ranges s.args.fifth) alone five_of (count o) (count-is o) (bytes o) s.args.at s.args.slots-1.now s.args.place o.before.before.check_letter-front.ensures (passed o) f.read_section_fields-middle.ensures
+    (sym t.before.accepted-2.ensures ∙ not-false _ t.if-not-accepted-2.false) c.check_end.ensures

@@ -1,0 +1,50 @@
+-- `line_writing::put_fields` meets its contract. The loop's invariant: the first i fields are written.
+use mathlib.Core.Path.{◌≡◌, ap, ap₂, ◌∙◌}
+use mathlib.Core.List.{List}
+use Prim.Native.Nat.{ℕ, ◌+◌, ◌*◌, ◌-◌, ◌≤◌}
+use native.Mathlib.Omega.{arith}
+use lib.IntN.{ℤ, pos}
+use lib.ListN.{length, get_or, take}
+use lib.Seq.{sets, take_all, length-sets}
+use mir.Syntax.{w32}
+use mir.Val.{to_z, of_z}
+use borrow.Author.Rules.{rules}
+use Rattle.integers.proofs.Machine.{reads_back}
+use Rattle.lists.specs.Lists.{joined}
+use Rattle.fields.specs.Fields.{field_size, field}
+use Rattle.line_writing.proofs.Runs.{field_put}
+use Rattle.line_writing.proofs.put_fields.Tie as tie
+use Rattle.line_writing.proofs.put_fields.Invariants.{)}
+use Rattle.line_writing.proofs.put_fields.Goals as goal
+
+pub put_field-requires : goal.put_field-requires
+put_field-requires c = omega (arith, simp length-sets at (ap length c.before.before.before.loop-i.invariant.1)
+-- a turn writes field i
+module _ (c : goal.After-slice_known-in-loop-i-1) where
+  abbrev i : ℕ
+  i = c.before.before.before.before.before.before.loop-i.i
+
+  abbrev at : ℕ
+  at = c.before.before.before.before.before.before.before.before.args.at
+
+  abbrev row : List ℤ
+  row = c.before.before.before.before.before.before.before.before.args.row.now
+
+  number_is : to_z w32 (of_z w32 (get_or row i (pos 0))) ≡ get_or row i (pos 0)
+  number_is = reads_back w32 (get_or row i (pos 0)) (omega arith)
+
+pub loop-i-preserved : goal.loop-i-preserved
+loop-i-preserved c = (
+  search rules,
+  c.before.before.put_field.ensures
+      ∙ ap₂ (λ (l : List ℕ) (z : ℤ). sets l (at c + field_size * i c) (field z)) c.before.before.before.before.before.before.loop-i.invariant.1 (number_is c)
+      ∙ field_put c.before.before.before.before.before.before.before.before.args.out-1.now (at c) (row c) (i c) (omega arith),
+)
+
+pub shape_of-out : goal.shape_of-out
+shape_of-out c = ap length c.before.loop-i.invariant.1 ∙ simp length-sets
+
+pub returns : goal.returns
+returns c =
+    c.before.loop-i.invariant.1
+    ∙ ap (λ (l : List ℤ). sets c.before.before.before.args.out-1.now c.before.before.before.args.at (joined field l)) (take_all c.before.loop-i.i c.before.before.before.args.row.now (omega arith))

@@ -1,0 +1,45 @@
+-- `line_writing::put_line` meets its contract: the letter, the fields and the line feed stand one behind the other.
+use mathlib.Core.Path.{◌≡◌, ap, ◌∙◌}
+use mathlib.Core.List.{List}
+use Prim.Native.Nat.{ℕ, ◌+◌, ◌*◌}
+use native.Mathlib.Omega.{arith}
+use lib.IntN.{ℤ}
+use lib.ListN.{length, set, length-set}
+use borrow.Author.Rules.{rules}
+use Rattle.lists.specs.Lists.{joined}
+use Rattle.fields.specs.Fields.{field_size, field}
+use Rattle.forms.specs.Line.{line_feed}
+use Rattle.forms.proofs.Line.{fields_length}
+use Rattle.line_writing.proofs.Runs.{parts_put}
+use Rattle.line_writing.proofs.put_line.Lts as lts
+use Rattle.line_writing.proofs.put_line.Reads as reads
+use Rattle.line_writing.proofs.put_line.Tie as tie
+use Rattle.line_writing.proofs.put_line.Goals as goal
+
+pub put_fields-requires : goal.put_fields-requires
+put_fields-requires c = simp length-set (omega arith)
+
+pub bounds-out-at-2 : goal.bounds-out-at-2
+bounds-out-at-2 c = omega (arith, simp length-set at c.before.before.put_fields.auto.0)
+
+pub shape_of-out : goal.shape_of-out
+shape_of-out c = simp length-set (c.before.before.put_fields.auto.0 ∙ simp length-set)
+
+-- the fields end where the line feed stands
+module _ (c : goal.After-slice_known-2-1) where
+  abbrev at : ℕ
+  at = c.before.before.before.before.before.args.at
+
+  abbrev row : List ℤ
+  row = c.before.before.before.before.before.args.row.now
+
+  fields-end : at + 1 + field_size * length row ≡ at + 1 + length (joined field row)
+  fields-end = omega (arith, fields_length row)
+
+pub returns : goal.returns
+returns c =
+    ap (λ (l : List ℕ). set l (at c + 1 + field_size * length (row c)) line_feed) c.before.before.put_fields.ensures
+    ∙ parts_put s.args.out-1.now (at c) s.args.letter (joined field (row c)) line_feed (at c + 1 + field_size * length (row c)) (fields-end c)
+  where
+    s : lts.Start tie.the-claims reads.Pre reads.Post
+    s = c.before.before.before.before.before

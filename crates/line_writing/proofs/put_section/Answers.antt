@@ -1,0 +1,85 @@
+-- `line_writing::put_section` meets its contract: five numbers that lose nothing in 32 bits, of which as many as the line has stand in it.
+use mathlib.Core.Path.{ap, ◌∙◌}
+use mathlib.Core.List.{List, [], ◌∷◌}
+use Prim.Native.Nat.{ℕ, ◌+◌, ◌^◌, ◌≤◌, ◌<◌}
+use native.Mathlib.Omega.{arith}
+use lib.IntN.{ℤ, nat_abs}
+use lib.ListN.{length, take, length-take}
+use lib.Seq.{sets}
+use borrow.Author.Rules.{rules}
+use Rattle.words.specs.Words.{word_size}
+use Rattle.words.proofs.Laws.{word_size_lem, narrow_need, narrow_reads}
+use Rattle.unit.proofs.Ranges.{remainder-size}
+use Rattle.forms.specs.Line.{line_size, line_text}
+use Rattle.sheet.specs.Lines.{section_letter, section_ranges, row_size}
+use Rattle.sheet.proofs.Sizes.{few_fields, row_front}
+use Rattle.line_writing.proofs.put_section.Lts as lts
+use Rattle.line_writing.proofs.put_section.Reads as reads
+use Rattle.line_writing.proofs.put_section.Tie as tie
+use Rattle.line_writing.proofs.put_section.Goals as goal
+
+-- ---- no number is larger than a word
+
+module _ (s : lts.Start tie.the-claims reads.Pre reads.Post) where
+  y1-size : nat_abs s.args.section.y1 ≤ word_size
+  y1-size = word_size_lem s.args.section.y1 s.requires.1.y1
+
+  y2-size : nat_abs s.args.section.y2 ≤ word_size
+  y2-size = word_size_lem s.args.section.y2 s.requires.1.y2
+
+  present-size : nat_abs s.args.section.gain.present ≤ word_size
+  present-size = word_size_lem s.args.section.gain.present s.requires.1.present
+
+  target-size : nat_abs s.args.section.gain.target ≤ word_size
+  target-size = word_size_lem s.args.section.gain.target s.requires.1.target
+
+  remainder-small : nat_abs s.args.section.remainder ≤ word_size
+  remainder-small = omega (arith, remainder-size s.args.section.remainder s.requires.1.remainder)
+
+  -- the place behind the line is a number of a place
+  behind-fits : s.args.at + line_size (length (section_ranges s.args.fifth)) < 2 ^ 64
+  behind-fits = omega (arith, s.requires.0)
+
+-- ---- the needs
+
+pub overflow_cast-y1 : goal.overflow_cast-y1
+overflow_cast-y1 c = narrow_need c.before.before.before.args.section.y1 (y1-size c.before.before.before)
+
+pub overflow_cast-y2 : goal.overflow_cast-y2
+overflow_cast-y2 c = narrow_need c.before.before.before.before.before.args.section.y2 (y2-size c.before.before.before.before.before)
+
+pub overflow_cast-present : goal.overflow_cast-present
+overflow_cast-present c = narrow_need c.before.before.before.before.before.before.before.args.section.gain.present (present-size c.before.before.before.before.before.before.before)
+
+pub overflow_cast-target : goal.overflow_cast-target
+overflow_cast-target c = narrow_need c.before.before.before.before.before.before.before.before.before.args.section.gain.target (target-size c.before.before.before.before.before.before.before.before.before)
+
+pub overflow_cast-remainder : goal.overflow_cast-remainder
+overflow_cast-remainder c = narrow_need c.before.before.before.before.before.before.before.before.before.before.before.args.section.remainder (remainder-small c.before.before.before.before.before.before.before.before.before.before.before)
+
+-- the line has at most five fields
+few : (c : lts.After-section_fields tie.the-claims reads.Pre reads.Post) → c.section_fields-count.result ≤ row_size
+few c = omega (arith, c.section_fields-count.ensures, few_fields c.before.before.before.before.before.before.before.before.before.before.before.before.args.fifth)
+
+pub slice_bounds-row-end : goal.slice_bounds-row-end
+slice_bounds-row-end c = few c.before
+
+pub slice_bounds-put_line-end : goal.slice_bounds-put_line-end
+slice_bounds-put_line-end c = simp length-take (omega (arith, few c.before.before))
+
+pub put_line-requires : goal.put_line-requires
+put_line-requires c = omega (arith, slice_bounds-put_line-end c, c.before.before.section_fields-count.ensures, c.before.before.before.before.before.before.before.before.before.before.before.before.before.before.requires.0)
+
+pub overflow_add-result : goal.overflow_add-result
+overflow_add-result c = omega (arith, c.section_line.ensures, behind-fits c.before.before.before.before.before.before.before.before.before.before.before.before.before.before.before.before.before.before)
+
+pub returns : goal.returns
+returns c = (
+  c.before.before.before.put_line.ensures
+      ∙ (λ i. sets s.args.out-1.now s.args.at (line_text section_letter (take (c.before.before.before.before.before.before.section_fields-count.ensures i) (narrow_reads s.args.section.y1 (y1-size s) i ∷ narrow_reads s.args.section.y2 (y2-size s) i ∷ narrow_reads s.args.section.gain.present (present-size s) i ∷ narrow_reads s.args.section.gain.target (target-size s) i ∷ narrow_reads s.args.section.remainder (remainder-small s) i ∷ []))))
+      ∙ ap (λ (row : List ℤ). sets s.args.out-1.now s.args.at (line_text section_letter row)) (row_front s.args.fifth s.args.section),
+  ap (λ (n : ℕ). s.args.at + n) c.section_line.ensures,
+)
+  where
+    s : lts.Start tie.the-claims reads.Pre reads.Post
+    s = c.before.before.before.before.before.before.before.before.before.before.before.before.before.before.before.before.before.before

@@ -1,0 +1,41 @@
+-- `line_writing::put_volume` meets its contract: two numbers that lose nothing in 32 bits, as a line.
+use mathlib.Core.Path.{◌∙◌}
+use mathlib.Core.List.{[], ◌∷◌}
+use Prim.Native.Nat.{◌≤◌}
+use lib.IntN.{nat_abs}
+use lib.Seq.{sets}
+use borrow.Author.Rules.{rules}
+use Rattle.words.specs.Words.{word_size}
+use Rattle.words.proofs.Laws.{narrow_need, narrow_reads}
+use Rattle.unit.proofs.Ranges.{volume_size}
+use Rattle.forms.specs.Line.{line_text}
+use Rattle.sheet.specs.Lines.{volume_letter}
+use Rattle.line_writing.proofs.put_volume.Lts as lts
+use Rattle.line_writing.proofs.put_volume.Reads as reads
+use Rattle.line_writing.proofs.put_volume.Tie as tie
+use Rattle.line_writing.proofs.put_volume.Goals as goal
+
+-- ---- no number is larger than a word
+
+module _ (s : lts.Start tie.the-claims reads.Pre reads.Post) where
+  present-size : nat_abs s.args.volume.present ≤ word_size
+  present-size = volume_size s.args.volume.present s.requires.1.present
+
+  target-size : nat_abs s.args.volume.target ≤ word_size
+  target-size = volume_size s.args.volume.target s.requires.1.target
+
+-- ---- the needs
+
+pub overflow_cast-present : goal.overflow_cast-present
+overflow_cast-present c = narrow_need c.before.before.before.args.volume.present (present-size c.before.before.before)
+
+pub overflow_cast-target : goal.overflow_cast-target
+overflow_cast-target c = narrow_need c.before.before.before.before.before.args.volume.target (target-size c.before.before.before.before.before)
+
+pub returns : goal.returns
+returns c =
+    c.before.before.put_line.ensures
+    ∙ (λ i. sets s.args.out-1.now s.args.at (line_text volume_letter (narrow_reads s.args.volume.present (present-size s) i ∷ narrow_reads s.args.volume.target (target-size s) i ∷ [])))
+  where
+    s : lts.Start tie.the-claims reads.Pre reads.Post
+    s = c.before.before.before.before.before.before.before.before.before.before

@@ -1,0 +1,20 @@
+-- `numbers::put_bands` meets its contract. The loop's invariant: the first b bands are stored.
+use Prim.Native.Nat.{◌+◌, ◌*◌, ◌-◌, ◌≤◌}
+use native.Mathlib.Omega.{arith}
+use lib.ListN.{take}
+use borrow.Author.Rules.{rules}
+use Rattle.lists.specs.Lists.{joined}
+use Rattle.bands.specs.Bands.{band_count}
+use Rattle.unit.proofs.PastEnd.{zero_band}
+use Rattle.numbers.specs.Layout.{bands_place, left_place, band_numbers, PutGives}
+use Rattle.numbers.proofs.Put.{put_none, put_entry, put_entries}
+use Rattle.numbers.proofs.put_bands.Given as goal
+
+)
+
+
+abbrev pub invariant-loop-b : goal.invariant-loop-b
+invariant-loop-b l = (l.b ≤ band_count) × PutGives l.initial.out bands_place (joined band_numbers (take l.b l.bands)) (3 * l.b + 2) l.out
+
+abbrev pub decreases-loop-b : goal.decreases-loop-b
+decreases-loop-b l = band_count - l.b

@@ -1,0 +1,27 @@
+-- `numbers::put_sections` meets its contract. The loop's invariant: the first b sections are stored.
+use Prim.Native.Nat.{ℕ, ◌+◌, ◌*◌, ◌-◌, ◌≤◌}
+use native.Mathlib.Omega.{arith}
+use lib.ListN.{take}
+use mathlib.Core.Path.{◌≡◌, subst}
+use mathlib.Core.List.{[]}
+use Rattle.bands.specs.Bands.{band_count}
+use Rattle.unit.specs.Fit.{SectionFit}
+use borrow.Author.Rules.{rules}
+use Rattle.lists.proofs.Tabulate.{each_get_d}
+use Rattle.lists.specs.Lists.{joined}
+use Rattle.unit.specs.Cleared.{cleared_band_section}
+use Rattle.numbers.specs.Layout.{section_size, section_numbers, PutGives}
+use Rattle.numbers.proofs.Put.{put_none, put_entry, put_entries}
+use Rattle.numbers.proofs.put_sections.Given as goal
+
+)
+
+
+)
+
+
+abbrev pub invariant-loop-b : goal.invariant-loop-b
+invariant-loop-b l = (l.b ≤ band_count) × PutGives l.initial.out l.start (joined section_numbers (take l.b l.sections)) (l.start + section_size * l.b) l.out
+
+abbrev pub decreases-loop-b : goal.decreases-loop-b
+decreases-loop-b l = band_count - l.b

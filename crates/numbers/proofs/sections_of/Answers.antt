@@ -1,0 +1,23 @@
+-- `numbers::sections_of` meets its contract. The loop's invariant: the sections below b are those of the numbers.
+use mathlib.Core.Path.{refl}
+use Prim.Native.Nat.{◌-◌}
+use lib.ListN.{drop}
+use native.Mathlib.Omega.{arith}
+use borrow.Author.Rules.{rules}
+use Rattle.lists.proofs.Loops.{Tabulated, tabulated_begin, tabulated_next, tabulated_done}
+use Rattle.bands.specs.Bands.{band_count}
+use Rattle.numbers.specs.Layout.{section_at}
+use Rattle.numbers.proofs.sections_of.Tie as tie
+use Rattle.numbers.proofs.sections_of.Goals as goal
+
+pub loop-b-init : goal.loop-b-init
+loop-b-init c =
+    tabulated_begin refl
+
+pub loop-b-preserved : goal.loop-b-preserved
+loop-b-preserved c =
+    tabulated_next c.before.before.loop-b.invariant (omega arith) c.section_at-section.ensures
+
+pub returns : goal.returns
+returns c =
+    tabulated_done c.before.loop-b.invariant (omega arith)

@@ -1,0 +1,16 @@
+-- `numbers::sections_of` meets its contract. The loop's invariant: the sections below b are those of the numbers.
+use mathlib.Core.Path.{refl}
+use Prim.Native.Nat.{◌-◌}
+use lib.ListN.{drop}
+use native.Mathlib.Omega.{arith}
+use borrow.Author.Rules.{rules}
+use Rattle.lists.proofs.Loops.{Tabulated, tabulated_begin, tabulated_next, tabulated_done}
+use Rattle.bands.specs.Bands.{band_count}
+use Rattle.numbers.specs.Layout.{section_at}
+use Rattle.numbers.proofs.sections_of.Given as goal
+
+abbrev pub invariant-loop-b : goal.invariant-loop-b
+invariant-loop-b l = Tabulated (section_at (drop l.start l.numbers)) band_count l.sections l.b
+
+abbrev pub decreases-loop-b : goal.decreases-loop-b
+decreases-loop-b l = band_count - l.b

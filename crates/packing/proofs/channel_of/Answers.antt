@@ -1,0 +1,71 @@
+-- `packing::channel_of` meets its contract. The loop's invariant: the sections below b are those of the side.
+use mathlib.Core.Path.{refl, sym, ap, ◌∙◌, subst}
+use Prim.Native.Nat.{ℕ, ◌-◌, ◌<◌}
+use native.Mathlib.Omega.{arith}
+use lib.IntN.{ℤ}
+use borrow.Author.Rules.{rules}
+use mir.Syntax.{w64}
+use Rattle.integers.proofs.Machine.{reads_back}
+use Rattle.lists.proofs.Loops.{Tabulated, tabulated_begin, tabulated_next, tabulated_done}
+use Rattle.bands.specs.Bands.{band_count}
+use Rattle.floats.specs.Whole.{whole_of}
+use Rattle.engine.specs.Floats.{float_at, band_section_in}
+use Rattle.engine.specs.Layout.{side_count, section_at_side}
+use Rattle.packing.specs.Packing.{pair_side, SectionOfAsks}
+use Rattle.packing.proofs.Sides.{places, section_asks, section_is, x1_carries, x2_carries, flag_carries}
+use Rattle.packing.proofs.channel_of.Lts as lts
+use Rattle.packing.proofs.channel_of.Reads as reads
+use Rattle.packing.proofs.channel_of.Tie as tie
+use Rattle.packing.proofs.channel_of.Goals as goal
+
+pub section_of-section-requires : goal.section_of-section-requires
+section_of-section-requires c =
+    subst SectionOfAsks (sym c.section_at.ensures)
+    (section_asks s.args.pair.now s.args.side s.requires c.before.before.loop-b.b (omega arith))
+  where
+    s : lts.Start tie.the-claims reads.Pre reads.Post invariant-loop decreases-loop
+    s = c.before.before.before.before
+
+pub loop-b-preserved : goal.loop-b-preserved
+loop-b-preserved c =
+    tabulated_next c.before.before.before.loop-b.invariant (omega arith)
+    (c.section_of-section.ensures ∙ ap band_section_in c.before.section_at.ensures
+    ∙ section_is s.args.pair.now s.args.side s.requires c.before.before.before.loop-b.b (omega arith))
+  where
+    s : lts.Start tie.the-claims reads.Pre reads.Post invariant-loop decreases-loop
+    s = c.before.before.before.before.before
+
+pub whole_of-x1-requires : goal.whole_of-x1-requires
+whole_of-x1-requires c = x1_carries c.before.before.before.before.args.pair.now c.before.before.before.before.args.side c.before.before.before.before.requires
+
+pub whole_of-x2-requires : goal.whole_of-x2-requires
+whole_of-x2-requires c = x2_carries c.before.before.before.before.before.before.args.pair.now c.before.before.before.before.before.before.args.side c.before.before.before.before.before.before.requires
+
+pub whole_of-flag-requires : goal.whole_of-flag-requires
+whole_of-flag-requires c = flag_carries c.before.before.before.before.before.before.before.before.args.pair.now c.before.before.before.before.before.before.before.before.args.side c.before.before.before.before.before.before.before.before.requires
+
+pub returns : goal.returns
+returns c =
+    λ i.
+    record {
+      x1 = (reads_back w64 c.before.before.before.before.whole_of-x1.result (omega arith) ∙ c.before.before.before.before.whole_of-x1.ensures ∙ ap number (places side below).x1) i;
+      x2 = (reads_back w64 c.before.before.whole_of-x2.result (omega arith) ∙ c.before.before.whole_of-x2.ensures ∙ ap number (places side below).x2) i;
+      flag = (reads_back w64 c.whole_of-flag.result (omega arith) ∙ c.whole_of-flag.ensures ∙ ap number (places side below).flag) i;
+      sections = tabulated_done c.before.before.before.before.before.before.before.loop-b.invariant (omega arith) i;
+    }
+  where
+    s : lts.Start tie.the-claims reads.Pre reads.Post invariant-loop decreases-loop
+    s = c.before.before.before.before.before.before.before.before.before
+
+    side : ℕ
+    side = s.args.side
+
+    below : side < side_count
+    below = s.requires.below
+
+    number : ℕ → ℤ
+    number k = whole_of (float_at s.args.pair.now k)
+
+pub loop-b-init : goal.loop-b-init
+loop-b-init c =
+    tabulated_begin refl

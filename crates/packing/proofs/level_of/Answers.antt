@@ -1,0 +1,15 @@
+-- `packing::level_of` meets its contract.
+use mathlib.Core.Path.{◌∙◌}
+use native.Mathlib.Omega.{arith}
+use borrow.Author.Rules.{rules}
+use mir.Syntax.{w64}
+use Rattle.integers.proofs.Machine.{reads_back}
+use Rattle.packing.proofs.level_of.Goals as goal
+
+pub returns : goal.returns
+returns c =
+    λ i.
+    record {
+      present = (reads_back w64 c.before.whole_of.result (omega arith) ∙ c.before.whole_of.ensures) i;
+      target = (reads_back w64 c.whole_of-2.result (omega arith) ∙ c.whole_of-2.ensures) i;
+    }

@@ -1,0 +1,90 @@
+-- `packing::put_sections` meets its contract. The loop's invariant: the sections below b are stored.
+use mathlib.Core.Path.{◌≡◌, refl, sym, ap, ap₂, ◌∙◌, subst}
+use mathlib.Core.List.{List}
+use Prim.Native.Nat.{ℕ, ◌+◌, ◌*◌, ◌-◌}
+use native.Mathlib.Omega.{arith}
+use lib.ListN.{length, get_or}
+use lib.Ieee.{Float}
+use borrow.Author.Rules.{rules}
+use Rattle.lists.proofs.Tabulate.{each_get_d}
+use Rattle.bands.specs.Bands.{band_count}
+use Rattle.unit.specs.Cleared.{cleared_band_section}
+use Rattle.unit.specs.Fit.{SectionFit}
+use Rattle.engine.specs.declared.FloatSection.{FloatSection}
+use Rattle.engine.specs.Floats.{float_section}
+use Rattle.engine.specs.Layout.{section_floats, first_side, second_side, put_section}
+use Rattle.engine.proofs.Store.{section_length}
+use Rattle.engine.proofs.Read.{sections_read}
+use Rattle.packing.proofs.Sections.{Filled, filled_more}
+use Rattle.packing.proofs.put_sections.Lts as lts
+use Rattle.packing.proofs.put_sections.Reads as reads
+use Rattle.packing.proofs.put_sections.Tie as tie
+use Rattle.packing.proofs.put_sections.Goals as goal
+
+pub loop-b-init : goal.loop-b-init
+loop-b-init c =
+    record {
+      most = search rules;
+      size = c.requires.size;
+      whole = c.requires.whole;
+      behind = λ j h. refl;
+      first = λ k h. absurd (omega arith);
+      second = λ k h. absurd (omega arith);
+    }
+
+pub section_floats-requires : goal.section_floats-requires
+section_floats-requires c =
+    each_get_d SectionFit c.before.before.before.before.args.first cleared_band_section c.before.before.before.before.requires.first_fit c.before.before.before.loop-b.b (omega arith)
+
+pub section_floats-requires-in-loop-b : goal.section_floats-requires-in-loop-b
+section_floats-requires-in-loop-b c =
+    each_get_d SectionFit s.args.second cleared_band_section s.requires.second_fit c.before.before.before.before.before.before.before.loop-b.b (omega arith)
+  where
+    s : goal.Start
+    s = c.before.before.before.before.before.before.before.before
+
+pub put_section-requires-in-loop-b : goal.put_section-requires-in-loop-b
+put_section-requires-in-loop-b c =
+    omega (arith, h.invariant.size, ap length p.put_section.ensures, section_length h.pair (section_floats * h.b) p.before.section_floats.result)
+  where
+    p : lts.After-put_section tie.the-claims reads.Pre reads.Post invariant-loop decreases-loop
+    p = c.before.before.before
+
+    h : lts.At-loop·own tie.the-claims reads.Pre reads.Post invariant-loop decreases-loop c.before.before.before.before.before.before.before.before.before
+    h = c.before.before.before.before.before.before.before.before.loop-b
+
+pub loop-b-preserved : goal.loop-b-preserved
+loop-b-preserved c =
+    subst (λ (m : List Float). Filled s.args.pair.now s.args.first s.args.second (b + 1) m) (sym is)
+    (filled_more s.args.pair.now s.args.first s.args.second b m (omega arith) c.before.before.before.before.before.before.before.before.before.loop-b.invariant
+    (each_get_d SectionFit s.args.first cleared_band_section s.requires.first_fit b (omega arith))
+    (each_get_d SectionFit s.args.second cleared_band_section s.requires.second_fit b (omega arith)))
+  where
+    s : goal.Start
+    s = c.before.before.before.before.before.before.before.before.before.before
+
+    b : ℕ
+    b = c.before.before.before.before.before.before.before.before.before.loop-b.b
+
+    m : List Float
+    m = c.before.before.before.before.before.before.before.before.before.loop-b.pair
+
+    is : c.put_section-in-loop-b.new.0 ≡ put_section (put_section m (section_floats * b) (float_section (get_or s.args.first b cleared_band_section))) (section_floats * b + 1) (float_section (get_or s.args.second b cleared_band_section))
+    is =
+        c.put_section-in-loop-b.ensures
+        ∙ ap₂ (λ (l : List Float) (z : FloatSection). put_section l (section_floats * b + 1) z)
+        (c.before.before.before.before.put_section.ensures ∙ ap (λ (z : FloatSection). put_section m (section_floats * b) z) c.before.before.before.before.before.section_floats.ensures)
+        c.before.section_floats-in-loop-b.ensures
+
+pub returns : goal.returns
+returns c =
+    record {
+      size = inv.size;
+      whole = inv.whole;
+      behind = inv.behind;
+      first = sections_read c.before.loop-b.pair first_side c.before.before.args.first (omega arith) (λ k h. inv.first k (omega arith));
+      second = sections_read c.before.loop-b.pair second_side c.before.before.args.second (omega arith) (λ k h. inv.second k (omega arith));
+    }
+  where
+    inv : Filled c.before.before.args.pair.now c.before.before.args.first c.before.before.args.second c.before.loop-b.b c.before.loop-b.pair
+    inv = c.before.loop-b.invariant

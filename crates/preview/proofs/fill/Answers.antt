@@ -1,0 +1,54 @@
+-- `preview::fill` meets its contract: an accepted call is run, any other leaves both buffers.
+use mathlib.Core.Path.{◌≡◌, sym, ap, ◌∙◌}
+use mathlib.Core.List.{List}
+use lib.IntN.{ℤ}
+use lib.ListN.{length}
+use borrow.Author.Rules.{rules}
+use Rattle.refusals.specs.Numbers.{is_accepted}
+use Rattle.refusals.specs.declared.Verdict.{Verdict}
+use Rattle.preview.specs.Preview.{Buffers, buffers_of, preview_verdict}
+use Rattle.preview.proofs.Lists.{previewed_accepted, previewed-refused}
+use Rattle.preview.proofs.fill.Lts as lts
+use Rattle.preview.proofs.fill.Reads as reads
+use Rattle.preview.proofs.fill.Tie as tie
+use Rattle.preview.proofs.fill.Goals as goal
+
+module _ (c : lts.After-accepted tie.the-claims reads.Pre reads.Post) where
+  abbrev s : goal.Start
+  s = c.before.before
+
+  abbrev words : List ℤ
+  words = s.args.words.now
+
+  abbrev room : List ℤ
+  room = s.args.results-1.now tie.the-claims reads.Pre reads.Post
+
+  abbrev spare : List ℤ
+  spare = s.args.remainders-1.now
+
+  abbrev lent : Buffers
+  lent = buffers_of room spare
+
+  abbrev verdict : Verdict
+  verdict = preview_verdict s.args.band words (length room) (length spare)
+
+  verdict-is : c.before.check-verdict.result ≡ verdict
+  verdict-is = c.before.check-verdict.ensures
+
+  accepted-is : is_accepted verdict ≡ c.accepted.result
+  accepted-is = sym (c.accepted.ensures ∙ ap is_accepted verdict-is)
+
+pub run-requires : goal.run-requires
+run-requires c = accepted-is c.before.before.before ∙ c.before.before.if-accepted.true
+
+pub returns-then-accepted : goal.returns-then-accepted
+returns-then-accepted c = (verdict-is a, c.before.before.run.ensures ∙ sym (previewed_accepted (s a).args.band (words a) (lent a) (accepted-is a ∙ c.before.before.before.before.before.if-accepted.true)))
+  where
+    a : lts.After-accepted tie.the-claims reads.Pre reads.Post
+    a = c.before.before.before.before.before.before
+
+pub returns-else-accepted : goal.returns-else-accepted
+returns-else-accepted c = (verdict-is a, sym (previewed-refused (s a).args.band (words a) (lent a) (accepted-is a ∙ c.if-accepted.false)))
+  where
+    a : lts.After-accepted tie.the-claims reads.Pre reads.Post
+    a = c.before

@@ -1,0 +1,16 @@
+-- `reading::read` meets its contract: the length, and then the lines.
+use borrow.Author.Rules.{rules}
+use borrow.Author.Tests.{not-true, not-false}
+use Rattle.sheet.specs.Sheet.{side_letters}
+use Rattle.reading.proofs.Laws.{length-refused, lines_read}
+use Rattle.reading.proofs.read.Goals as goal
+
+pub returns-then-not-long-bytes : goal.returns-then-not-long-bytes
+returns-then-not-long-bytes c =
+    let s = c.before.before in
+    length-refused side_letters s.args.bytes.now s.args.given (not-true _ c.if-not-long-bytes.true)
+
+pub returns : goal.returns
+returns c =
+    let s = c.before.before.before in
+    lines_read side_letters s.args.bytes.now s.args.given (not-false _ c.before.if-not-long-bytes.false) c.read_lines.result c.read_lines.ensures

@@ -1,0 +1,20 @@
+-- `reading::read_rest` meets its contract: the sides, and the end of the bytes behind accepted ones.
+use mathlib.Core.Path.{sym, ◌∙◌}
+use borrow.Author.Rules.{rules}
+use borrow.Author.Tests.{not-true, not-false}
+use Rattle.sheet.specs.Sheet.{side_letters}
+use Rattle.reading.proofs.Lines.{rest-refused, rest_read}
+use Rattle.reading.proofs.read_rest.Goals as goal
+
+pub returns-then-not-accepted : goal.returns-then-not-accepted
+returns-then-not-accepted c =
+    let o = c.before.before in
+    let s = o.before.before.before in
+    rest-refused s.args.long side_letters s.args.bytes.now s.args.at o.read_sides-sides.ensures (sym c.before.accepted.ensures ∙ not-true _ c.if-not-accepted.true)
+
+pub returns : goal.returns
+returns c =
+    let f = c.before.before in
+    let o = f.before.before in
+    let s = o.before.before.before in
+    rest_read s.args.long side_letters s.args.bytes.now s.args.at o.read_sides-sides.ensures (sym f.before.accepted.ensures ∙ not-false _ f.if-not-accepted.false) c.before.check_taken-verdict.ensures

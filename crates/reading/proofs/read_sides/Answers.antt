@@ -1,0 +1,38 @@
+-- `reading::read_sides` meets its contract. The loop's invariant: the sides below the ith are read, and stand at the front of the channels.
+use mathlib.Core.Path.{refl, sym, ◌∙◌}
+use Prim.Native.Nat.{◌-◌}
+use native.Mathlib.Omega.{arith}
+use borrow.Author.Rules.{rules}
+use borrow.Author.Tests.{not-true, not-false}
+use Rattle.unit.specs.Sizes.{channel_count}
+use Rattle.reading.proofs.Sides.{SidesTurned, sides_begin, sides_done, sides-refused, sides-next}
+use Rattle.reading.proofs.read_sides.Tie as tie
+use Rattle.reading.proofs.read_sides.Goals as goal
+
+pub loop-i-init : goal.loop-i-init
+loop-i-init c =
+    let s = c.before.before.before in
+    sides_begin s.args.long s.args.letters.now s.args.bytes.now s.args.at (sym s.requires.1) s.requires.0
+
+pub returns-then-not-accepted : goal.returns-then-not-accepted
+returns-then-not-accepted c =
+    let o = c.before.before in
+    let l = o.before.before.before.loop-i in
+    let s = o.before.before.before.before.before.before.before in
+    sides-refused s.args.long s.args.letters.now s.args.bytes.now s.args.at l.invariant (omega (arith, s.requires.1)) refl o.read_side-found.ensures (sym c.before.accepted.ensures ∙ not-true _ c.if-not-accepted.true)
+
+pub loop-i-preserved : goal.loop-i-preserved
+loop-i-preserved c =
+    let o = c.before.before.before in
+    let l = o.before.before.before.loop-i in
+    let s = o.before.before.before.before.before.before.before in
+    sides-next s.args.long s.args.letters.now s.args.bytes.now s.args.at l.invariant (omega (arith, s.requires.1)) refl o.read_side-found.ensures (sym c.before.before.accepted.ensures ∙ not-false _ c.before.if-not-accepted.false)
+
+pub returns : goal.returns
+returns c =
+    let s = c.before.before.before.before.before in
+    sides_done s.args.long s.args.letters.now s.args.bytes.now s.args.at c.before.loop-i.invariant (omega (arith, s.requires.1))
+
+pub read_side-found-requires : goal.read_side-found-requires
+read_side-found-requires c =
+    c.before.before.loop-i.invariant.turned.inside

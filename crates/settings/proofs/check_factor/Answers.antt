@@ -1,0 +1,34 @@
+-- `settings::check_factor` meets its contract: its two tests are those of the definition, in that order.
+use mathlib.Core.Path.{◌≡◌, sym, ◌∙◌}
+use mathlib.Core.Bool.{true}
+use borrow.Author.Tests.{not-true, not-false}
+use Rattle.floats.specs.Value.{is_finite, in_range}
+use Rattle.settings.specs.Settings.{lowest, level_verdict}
+use borrow.Author.Rules.{rules}
+use Rattle.settings.proofs.check_factor.Lts as lts
+use Rattle.settings.proofs.check_factor.Reads as reads
+use Rattle.settings.proofs.check_factor.Tie as tie
+use Rattle.settings.proofs.check_factor.Goals as goal
+
+-- what the first test has shown, and what the second then tells
+module _ (c : lts.After-is_factor tie.the-claims reads.Pre reads.Post) where
+  abbrev s : goal.Start
+  s = c.before.before.before
+
+  finite : is_finite s.args.factor ≡ true
+  finite = sym c.before.before.is_finite.ensures ∙ not-false _ c.before.if-not-is_finite.false
+
+  range-test : c.is_factor.result ≡ in_range (lowest s.args.band) s.args.factor
+  range-test = c.is_factor.ensures ∙ simp finite
+
+pub returns-then-not-is_finite : goal.returns-then-not-is_finite
+unfolding level_verdict
+returns-then-not-is_finite c = sym (simp (sym c.before.is_finite.ensures ∙ not-true _ c.if-not-is_finite.true))
+
+pub returns-then-not-is_factor : goal.returns-then-not-is_factor
+unfolding level_verdict
+returns-then-not-is_factor c = sym (simp (finite c.before, sym (range-test c.before) ∙ not-true _ c.if-not-is_factor.true))
+
+pub returns : goal.returns
+unfolding level_verdict
+returns c = sym (simp (finite c.before, sym (range-test c.before) ∙ not-false _ c.if-not-is_factor.false))

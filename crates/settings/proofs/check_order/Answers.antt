@@ -1,0 +1,13 @@
+-- `settings::check_order` meets its contract: the place first, then the level.
+use mathlib.Core.Path.{sym, ◌∙◌}
+use borrow.Author.Tests.{not-true, not-false}
+use borrow.Author.Rules.{rules}
+use Rattle.settings.proofs.check_order.Goals as goal
+
+pub returns-then-not-is_place : goal.returns-then-not-is_place
+returns-then-not-is_place c = sym (simp (sym c.before.is_place.ensures ∙ not-true _ c.if-not-is_place.true))
+
+pub returns : goal.returns
+returns c =
+    c.check_level.ensures
+    ∙ sym (simp (sym c.before.before.is_place.ensures ∙ not-false _ c.before.if-not-is_place.false))

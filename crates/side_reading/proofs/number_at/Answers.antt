@@ -1,0 +1,18 @@
+-- `side_reading::number_at` meets its contract: a number of 32 bits, widened.
+use native.Mathlib.Omega.{arith}
+use lib.IntN.{pos}
+use lib.ListN.{get_or}
+use mir.Syntax.{w32}
+use mir.Val.{SFits}
+use borrow.Author.Rules.{rules}
+use Rattle.integers.proofs.Machine.{widened, widen_need}
+use Rattle.side_reading.proofs.number_at.Goals as goal
+
+fits : (c : goal.After-result-1) → SFits w32 (get_or c.before.args.row.now c.before.args.at (pos 0))
+fits c = record { sfits = omega arith }
+
+pub overflow_cast-result : goal.overflow_cast-result
+overflow_cast-result c = widen_need tt (get_or c.before.args.row.now c.before.args.at (pos 0)) (fits c)
+
+pub returns : goal.returns
+returns c = (widened tt (get_or c.before.args.row.now c.before.args.at (pos 0)) (fits c)).reads

@@ -1,0 +1,62 @@
+-- `side_reading::read_sections` meets its contract. The loop's invariant: the lines below the ith are read, and the numbers stand in the row.
+use mathlib.Core.Path.{refl, sym, ap, ◌∙◌}
+use mathlib.Core.Bool.{true, false, ◌&&◌}
+use Prim.Native.Nat.{ℕ, ◌+◌, ◌-◌, ◌^◌, ◌<◌}
+use native.Mathlib.Omega.{arith}
+use lib.ListN.{length}
+use borrow.Author.Rules.{rules}
+use Rattle.bands.specs.Bands.{band_count}
+use Rattle.unit.specs.Frame.{feeds_back}
+use Rattle.sheet.specs.Lines.{section_row, section_form, row_size}
+use Rattle.sheet.specs.Sheet.{section_kinds}
+use Rattle.sheet.proofs.Lines.{section_sound}
+use Rattle.sheet.proofs.Sizes.{few_fields, kind_at}
+use Rattle.side_reading.proofs.Rows.{RowsRead, rows_begin, rows_done, rows_refused, rows_next}
+use Rattle.side_reading.proofs.read_sections.Lts as lts
+use Rattle.side_reading.proofs.read_sections.Reads as reads
+use Rattle.side_reading.proofs.read_sections.Tie as tie
+use Rattle.side_reading.proofs.read_sections.Goals as goal
+
+pub read_section-found-requires : goal.read_section-found-requires
+read_section-found-requires c =
+    let s = c.before.before.before.before in
+    let l = c.before.before.loop-i in
+    (l.invariant.turned.inside, omega (arith, s.requires.1, l.invariant.size_is))
+
+pub shape_of-rows-then-not-accepted : goal.shape_of-rows-then-not-accepted
+shape_of-rows-then-not-accepted c = c.before.before.before.read_section-found.ensures.size_is ∙ c.before.before.before.before.before.before.loop-i.invariant.size_is
+
+pub returns-then-not-accepted : goal.returns-then-not-accepted
+returns-then-not-accepted c =
+    let s = c.before.before.before.before.before.before.before.before in
+    let l = c.before.before.before.before.before.before.loop-i in
+    rows_refused l.invariant false (omega arith) (sym (kind_at s.args.long l.i (omega arith))) c.before.before.before.read_section-found.ensures c.before.accepted.ensures c.if-not-accepted.true
+
+-- the place behind a line is a number of a place
+module _ (s : lts.Start tie.the-claims reads.Pre reads.Post invariant-loop decreases-loop) where
+  bytes_fit : length s.args.bytes.now < 2 ^ 63
+  bytes_fit = omega arith
+
+pub overflow_add-next : goal.overflow_add-next
+overflow_add-next c =
+    let s = c.before.before.before.before.before.before.before.before.before in
+    let l = c.before.before.before.before.before.before.before.loop-i in
+    omega (arith, bytes_fit s, l.invariant.turned.inside, c.section_line-next.ensures, few_fields (feeds_back l.i && s.args.long))
+
+pub loop-i-preserved : goal.loop-i-preserved
+loop-i-preserved c =
+    let s = c.before.before.before.before.before.before.before.before.before in
+    let l = c.before.before.before.before.before.before.before.loop-i in
+    rows_next l.invariant false (omega arith) (sym (kind_at s.args.long l.i (omega arith))) c.before.before.before.before.read_section-found.ensures c.before.before.accepted.ensures
+    (section_sound (feeds_back l.i && s.args.long)) refl c.before.if-not-accepted.false (ap (λ (n : ℕ). l.next + n) c.section_line-next.ensures)
+
+pub returns : goal.returns
+returns c = rows_done c.before.loop-i.invariant (omega arith)
+
+pub loop-i-init : goal.loop-i-init
+loop-i-init c =
+    rows_begin refl (search rules)
+
+pub shape_of-rows : goal.shape_of-rows
+shape_of-rows c =
+    c.before.loop-i.invariant.size_is

@@ -1,0 +1,28 @@
+-- `side_reading::read_side` meets its contract: the channel of the slots that the lines are read into.
+use mathlib.Core.Path.{ap}
+use mathlib.Core.Bool.{true}
+use Prim.Native.Nat.{ℕ, ◌+◌, ◌^◌, ◌<◌}
+use native.Mathlib.Omega.{arith}
+use borrow.Author.Rules.{rules}
+use Rattle.sheet.specs.Sheet.{side_size}
+use Rattle.sheet.proofs.Sizes.{few_lines}
+use Rattle.side_reading.proofs.Side.{side_read}
+use Rattle.side_reading.proofs.read_side.Lts as lts
+use Rattle.side_reading.proofs.read_side.Reads as reads
+use Rattle.side_reading.proofs.read_side.Tie as tie
+use Rattle.side_reading.proofs.read_side.Goals as goal
+
+-- the place behind a side is a number of a place
+module _ (s : lts.Start tie.the-claims reads.Pre reads.Post) where
+  behind-fits : s.args.at + side_size true < 2 ^ 64
+  behind-fits = omega (arith, s.requires)
+
+pub overflow_add-next : goal.overflow_add-next
+overflow_add-next c =
+    let s = c.before.before.before.before.before.before.before.before.before.before in
+    omega (arith, behind-fits s, c.side_lines.ensures, few_lines s.args.long)
+
+pub returns : goal.returns
+returns c =
+    let s = c.before.before.before.before.before.before.before.before.before.before in
+    side_read s.args.long s.args.letter s.args.bytes.now s.args.at c.before.before.before.before.before.before.read_lines-verdict.ensures s.requires c.before.channel_of-channel.ensures (ap (λ (n : ℕ). s.args.at + n) c.side_lines.ensures)

@@ -1,0 +1,20 @@
+-- `unit::bands_of` meets its contract. The loop's invariant: the bands below b are the set's.
+use mathlib.Core.Path.{refl}
+use Prim.Native.Nat.{◌-◌}
+use native.Mathlib.Omega.{arith}
+use borrow.Author.Rules.{rules}
+use Rattle.lists.proofs.Loops.{Tabulated, tabulated_begin, tabulated_next, tabulated_done}
+use Rattle.bands.specs.Bands.{band_count, band_at}
+use Rattle.unit.proofs.bands_of.Tie as tie
+use Rattle.unit.proofs.bands_of.Goals as goal
+
+pub returns : goal.returns
+returns c = tabulated_done c.before.loop-b.invariant (omega arith)
+
+pub loop-b-init : goal.loop-b-init
+loop-b-init c =
+    tabulated_begin refl
+
+pub loop-b-preserved : goal.loop-b-preserved
+loop-b-preserved c =
+    tabulated_next c.before.before.loop-b.invariant (omega arith) c.band_at-band.ensures

@@ -1,0 +1,37 @@
+-- `wave_reading::data` meets its contract: the part that is found lies within the file.
+use mathlib.Core.Path.{◌≡◌, ap, ◌∙◌}
+use mathlib.Core.List.{List}
+use Prim.Native.Nat.{ℕ, ◌+◌, ◌-◌, ◌≤◌}
+use native.Mathlib.Omega.{arith}
+use lib.ListN.{length, take, drop}
+use borrow.Author.Rules.{rules}
+use Rattle.wave_reading.specs.declared.Located.{Located}
+use Rattle.wave_reading.specs.Reading.{found, data_of}
+use Rattle.wave_reading.proofs.Inside.{found_within}
+use Rattle.wave_reading.proofs.data.Lts as lts
+use Rattle.wave_reading.proofs.data.Reads as reads
+use Rattle.wave_reading.proofs.data.Tie as tie
+use Rattle.wave_reading.proofs.data.Goals as goal
+
+within : (c : lts.After-find tie.the-claims reads.Pre reads.Post) → c.find-place.result-1.from + c.find-place.result-1.size ≤ length c.before.before.args.file.now
+within c = rw c.find-place.ensures (found_within c.before.before.args.file.now)
+
+-- the part from one place to another, by how many bytes it has
+part : (b : List ℕ) (place : Located) → place ≡ found b → take (place.from + place.size - place.from) (drop place.from b) ≡ data_of b
+unfolding data_of
+part b place e =
+    let n : place.from + place.size - place.from ≡ place.size = omega arith in
+    ap (λ (m : ℕ). take m (drop place.from b)) n ∙ ap (λ (p : Located). take p.size (drop p.from b)) e
+
+pub returns : goal.returns
+returns c =
+    let l = c.before.before in
+    (part l.before.before.args.file.now l.find-place.result-1 l.find-place.ensures, rw (← l.find-place.ensures))
+
+pub overflow_add-to : goal.overflow_add-to
+overflow_add-to c =
+    omega (arith, within c.before)
+
+pub slice_bounds-result-end : goal.slice_bounds-result-end
+slice_bounds-result-end c =
+    within c.before

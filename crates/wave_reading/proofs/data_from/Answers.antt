@@ -1,0 +1,9 @@
+-- `wave_reading::data_from` meets its contract.
+use borrow.Author.Rules.{rules}
+use Rattle.wave_reading.proofs.data_from.Goals as goal
+
+pub returns-then-seen : goal.returns-then-seen
+returns-then-seen c = simp c.if-seen.true
+
+pub returns : goal.returns
+returns c = simp c.before.if-seen.false c.refused.ensures

@@ -1,0 +1,28 @@
+-- `wave_reading::format_fits` meets its contract.
+use mathlib.Core.Bool.{and-false}
+use native.Mathlib.Omega.{arith}
+use borrow.Author.Tests.{lt-leb, le-leb}
+use borrow.Author.Rules.{rules}
+use lib.ListN.{length}
+use Rattle.wave_reading.specs.Walk.{format_fits, size_at, end_at}
+use Rattle.wave_reading.proofs.format_fits.Goals as goal
+
+pub returns-then-size-lt-FORMAT_SIZE : goal.returns-then-size-lt-FORMAT_SIZE
+unfolding format_fits
+returns-then-size-lt-FORMAT_SIZE c = let s = c.before.before.before in simp (lt-leb 16 (size_at s.args.file.now s.args.at) (omega (arith, c.before.four_at-size.ensures.0, c.if-size-lt-FORMAT_SIZE.true)))
+
+pub returns-then-file-body : goal.returns-then-file-body
+unfolding format_fits
+returns-then-file-body c =
+    let s = c.before.before.before.before in
+    simp (lt-leb (end_at s.args.file.now s.args.at) (length s.args.file.now) (omega (arith, c.before.before.four_at-size.ensures.0, c.if-file-body.true)), and-false)
+
+pub returns : goal.returns
+unfolding format_fits
+returns c =
+    let s = c.before.before.before.before.before in
+    simp (
+      le-leb 16 (size_at s.args.file.now s.args.at) (omega (arith, c.before.before.before.four_at-size.ensures.0, c.before.before.if-size-lt-FORMAT_SIZE.false)),
+      le-leb (end_at s.args.file.now s.args.at) (length s.args.file.now) (omega (arith, c.before.before.before.four_at-size.ensures.0, c.before.if-file-body.false)),
+    )
+    c.says_format.ensures

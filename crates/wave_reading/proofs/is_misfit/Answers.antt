@@ -1,0 +1,28 @@
+-- `wave_reading::is_misfit` meets its contract.
+use mathlib.Core.Path.{sym, ap, ◌∙◌}
+use mathlib.Core.Bool.{not}
+use borrow.Author.Tests.{eq-eqb, ne_eqb}
+use borrow.Author.Rules.{rules}
+use Rattle.wave.specs.Chunks.{four_at, format}
+use Rattle.wave_reading.specs.Walk.{misfits}
+use Rattle.wave_reading.proofs.is_misfit.Goals as goal
+
+pub returns-then-seen : goal.returns-then-seen
+unfolding misfits
+returns-then-seen c = simp c.if-seen.true
+
+pub returns-then-name-ne-FORMAT : goal.returns-then-name-ne-FORMAT
+unfolding misfits
+returns-then-name-ne-FORMAT c =
+    let s = c.before.before.before.before in
+    simp (c.before.before.if-seen.false, ne_eqb (four_at s.args.file.now s.args.at) format (λ e. c.if-name-ne-FORMAT.true (c.before.four_at-name.ensures.0 ∙ e)))
+
+pub returns : goal.returns
+unfolding misfits
+returns c =
+    let s = c.before.before.before.before.before in
+    simp (
+      c.before.before.before.if-seen.false,
+      eq-eqb (four_at s.args.file.now s.args.at) format (sym c.before.before.four_at-name.ensures.0 ∙ c.before.if-name-ne-FORMAT.false),
+    )
+    (ap not c.format_fits.ensures)

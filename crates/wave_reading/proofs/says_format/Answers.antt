@@ -1,0 +1,16 @@
+-- `wave_reading::says_format` meets its contract: six numbers are read and compared.
+use borrow.Author.Rules.{rules}
+use Rattle.wave_reading.specs.Walk.{says_format}
+use Rattle.wave_reading.proofs.says_format.Goals as goal
+
+pub returns : goal.returns
+unfolding says_format
+returns c =
+    simp (
+      c.before.before.before.before.before.two_at-coding.ensures,
+      c.before.before.before.before.two_at-sides.ensures,
+      c.before.before.before.four_at-rate.ensures.0,
+      c.before.before.four_at-byte_rate.ensures.0,
+      c.before.two_at-frame.ensures,
+      c.two_at-bits.ensures,
+    )

@@ -1,0 +1,33 @@
+-- `writing::fill` meets its contract: nothing is written into a shorter buffer or for an unfit unit, else the sheet.
+use mathlib.Core.Path.{sym, ◌∙◌}
+use native.Mathlib.Omega.{arith}
+use borrow.Author.Rules.{rules}
+use borrow.Author.Tests.{not-true, not-false}
+use Rattle.unit.proofs.Fitness.{fit_of_test}
+use Rattle.sheet.specs.Sheet.{side_letters}
+use Rattle.writing.proofs.Typed.{unit_typed}
+use Rattle.writing.proofs.Filled.{short_filled, unfit_filled, sheet_filled}
+use Rattle.writing.proofs.fill.Lts as lts
+use Rattle.writing.proofs.fill.Reads as reads
+use Rattle.writing.proofs.fill.Tie as tie
+use Rattle.writing.proofs.fill.Goals as goal
+
+pub returns-then-out-lt-SHEET_SIZE : goal.returns-then-out-lt-SHEET_SIZE
+returns-then-out-lt-SHEET_SIZE c = short_filled side_letters c.before.before.args.unit c.before.before.args.out-1.now (omega arith)
+
+pub returns-then-not-is_fit : goal.returns-then-not-is_fit
+returns-then-not-is_fit c =
+    unfit_filled side_letters c.before.before.before.before.args.unit c.before.before.before.before.args.out-1.now (omega arith) c.before.is_fit.ensures (not-true _ c.if-not-is_fit.true)
+
+pub put_sheet-requires : goal.put_sheet-requires
+put_sheet-requires c = (
+  omega arith,
+  fit_of_test c.before.before.before.before.before.args.unit (sym c.before.before.is_fit.ensures ∙ not-false _ c.before.if-not-is_fit.false),
+)
+
+pub returns : goal.returns
+returns c =
+    sheet_filled side_letters s.args.unit s.args.out-1.now (omega arith) c.before.before.before.before.before.is_fit.ensures (not-false _ c.before.before.before.before.if-not-is_fit.false) (unit_typed s.args.unit _ s.well_formed.0) c.before.before.put_sheet.ensures
+  where
+    s : lts.Start tie.the-claims reads.Pre reads.Post
+    s = c.before.before.before.before.before.before.before.before

@@ -1,0 +1,29 @@
+-- `writing::put_bands` meets its contract. The loop's invariant: laid behind the lines before line i, the lines from line i on make the whole.
+use Prim.Native.Nat.{◌+◌, ◌*◌, ◌-◌}
+use native.Mathlib.Omega.{arith}
+use lib.ListN.{length, get_or, replicate, get_or-replicate}
+use borrow.Author.Rules.{rules}
+use Rattle.bands.specs.Bands.{band_count}
+use Rattle.unit.proofs.PastEnd.{zero_band}
+use Rattle.forms.specs.Line.{line_size}
+use Rattle.forms.proofs.Line.{text_length}
+use Rattle.forms.proofs.Texts.{Onward, onward_begin, onward_size, onward_next, onward_done}
+use Rattle.sheet.specs.Lines.{band_letter, band_ranges, band_row, band_form}
+use Rattle.writing.proofs.put_bands.Tie as tie
+use Rattle.writing.proofs.put_bands.Goals as goal
+
+pub loop-i-init : goal.loop-i-init
+loop-i-init c = onward_begin (omega arith)
+
+pub put_band-requires : goal.put_band-requires
+put_band-requires c = omega (arith, onward_size c.before.before.before.loop-i.invariant)
+
+pub loop-i-preserved : goal.loop-i-preserved
+loop-i-preserved c =
+    onward_next c.before.before.before.before.before.before.loop-i.invariant 0 zero_band (omega arith) (omega arith) (get_or-replicate band_count c.before.before.before.before.before.before.loop-i.i band_letter 0 (omega arith)) c.before.before.put_band.ensures (omega (arith, text_length band_letter (band_row (get_or c.before.before.before.before.before.before.before.before.args.bands c.before.before.before.before.before.before.loop-i.i zero_band))))
+
+pub shape_of-out : goal.shape_of-out
+shape_of-out c = onward_size c.before.loop-i.invariant
+
+pub returns : goal.returns
+returns c = onward_done c.before.loop-i.invariant (omega arith)

@@ -1,0 +1,50 @@
+-- `writing::put_sections` meets its contract. The loop's invariant: laid at the place that is reached, the lines from line i on make the whole.
+use mathlib.Core.Path.{refl}
+use mathlib.Core.Bool.{true, false}
+use Prim.Native.Nat.{◌-◌}
+use native.Mathlib.Omega.{arith}
+use lib.ListN.{length, get_or}
+use borrow.Author.Rules.{rules}
+use Rattle.lists.proofs.Tabulate.{each_get_d}
+use Rattle.bands.specs.Bands.{band_count}
+use Rattle.unit.specs.Cleared.{cleared_band_section}
+use Rattle.unit.specs.Frame.{feeds_back}
+use Rattle.unit.specs.Fit.{SectionFit}
+use Rattle.forms.proofs.Texts.{Onward, onward_begin, onward_size, onward_room, onward_next, onward_done}
+use Rattle.sheet.specs.Lines.{section_form}
+use Rattle.sheet.specs.Sheet.{section_kinds}
+use Rattle.sheet.proofs.Sizes.{section_length, sections_length, long_kind_at}
+use Rattle.writing.proofs.put_sections.Tie as tie
+use Rattle.writing.proofs.put_sections.Goals as goal
+
+pub put_section-next-requires : goal.put_section-next-requires
+put_section-next-requires c =
+    let s = c.before.before.before.before.before in
+    let l = c.before.before.before.loop-i in
+    let whole = sections_length true s.args.sections (omega arith) in (
+      omega (
+        arith,
+        onward_room l.invariant false cleared_band_section (omega arith) (omega arith) (long_kind_at l.i (omega arith)) {room = length s.args.out-1.now} (omega (arith, s.requires.0, whole)),
+        section_length (feeds_back l.i) (get_or s.args.sections l.i cleared_band_section),
+        onward_size l.invariant,
+      ),
+      each_get_d SectionFit s.args.sections cleared_band_section s.requires.1 l.i (omega arith),
+    )
+
+pub loop-i-preserved : goal.loop-i-preserved
+loop-i-preserved c =
+    let s = c.before.before.before.before.before.before.before.before in
+    let l = c.before.before.before.before.before.before.loop-i in
+    let found = c.before.before.put_section-next in
+    onward_next l.invariant false cleared_band_section (omega arith) (omega arith) (long_kind_at l.i (omega arith)) found.ensures.0
+    (omega (arith, found.ensures.1, section_length (feeds_back l.i) (get_or s.args.sections l.i cleared_band_section)))
+
+pub shape_of-out : goal.shape_of-out
+shape_of-out c = onward_size c.before.loop-i.invariant
+
+pub returns : goal.returns
+returns c = onward_done c.before.loop-i.invariant (omega arith)
+
+pub loop-i-init : goal.loop-i-init
+loop-i-init c =
+    onward_begin refl

@@ -1,0 +1,34 @@
+-- `writing::put_sheet` meets its contract: the V line, the ten C lines and the sides stand one behind the other.
+use mathlib.Core.Path.{◌≡◌}
+use mathlib.Core.Bool.{true}
+use native.Mathlib.Omega.{arith}
+use lib.ListN.{length, length-append}
+use borrow.Author.Rules.{rules}
+use Rattle.lists.proofs.Stores.{sets_behind}
+use Rattle.unit.specs.declared.Unit.{Unit}
+use Rattle.forms.specs.Line.{line_size}
+use Rattle.forms.proofs.Line.{text_length}
+use Rattle.sheet.proofs.Sizes.{bands_length}
+use Rattle.sheet.specs.Lines.{volume_letter, volume_ranges, volume_row, volume_form}
+use Rattle.sheet.specs.Sheet.{side_letters, bands_form, front_form, sides_form, front_size, sheet_of}
+use Rattle.writing.proofs.Typed.{unit_typed}
+use Rattle.writing.proofs.put_sheet.Lts as lts
+use Rattle.writing.proofs.put_sheet.Reads as reads
+use Rattle.writing.proofs.put_sheet.Tie as tie
+use Rattle.writing.proofs.put_sheet.Goals as goal
+
+pub returns : goal.returns
+unfolding sheet_of
+returns c =
+    sets_behind s.args.out-1.now (front_form.text (u.volume-1, u.bands-1)) ((sides_form true side_letters).text u.channels-1) 0 front_size (omega (arith, length-append (volume_form.text u.volume-1) (bands_form.text u.bands-1), volume-long, bands_length u.bands-1 (unit_typed u _ s.well_formed.1.0).bands-1))
+    (sets_behind s.args.out-1.now (volume_form.text u.volume-1) (bands_form.text u.bands-1) 0 (line_size (length volume_ranges)) (omega (arith, volume-long)) c.before.before.before.before.before.before.before.before.before.before.before.put_volume.ensures c.before.before.before.before.before.before.before.put_bands.ensures)
+    c.before.before.put_sides.ensures
+  where
+    s : lts.Start tie.the-claims reads.Pre reads.Post
+    s = c.before.before.before.before.before.before.before.before.before.before.before.before.before.before.before.before.before
+
+    u : Unit
+    u = s.args.unit
+
+    volume-long : length (volume_form.text u.volume-1) ≡ line_size (length volume_ranges)
+    volume-long = text_length volume_letter (volume_row u.volume-1)

@@ -1,0 +1,52 @@
+-- `writing::put_side` meets its contract: the numbers of the head lose nothing in 32 bits, and the ten S lines stand behind it.
+use mathlib.Core.Path.{refl, ◌∙◌}
+use mathlib.Core.Bool.{true}
+use mathlib.Core.List.{[], ◌∷◌}
+use Prim.Native.Nat.{◌+◌, ◌≤◌}
+use native.Mathlib.Omega.{arith}
+use lib.IntN.{nat_abs}
+use lib.ListN.{length}
+use lib.Seq.{sets}
+use borrow.Author.Rules.{rules}
+use Rattle.lists.proofs.Stores.{sets_behind}
+use Rattle.words.specs.Words.{word_size}
+use Rattle.words.proofs.Laws.{narrow_need, narrow_reads}
+use Rattle.unit.proofs.Ranges.{input_size, flag-size}
+use Rattle.forms.specs.Line.{line_size}
+use Rattle.forms.proofs.Line.{text_length}
+use Rattle.sheet.specs.Lines.{head_ranges, head_row, head_form}
+use Rattle.sheet.specs.Sheet.{sections_form}
+use Rattle.writing.proofs.put_side.Lts as lts
+use Rattle.writing.proofs.put_side.Reads as reads
+use Rattle.writing.proofs.put_side.Tie as tie
+use Rattle.writing.proofs.put_side.Goals as goal
+
+-- ---- no number of the head is larger than a word
+
+module _ (s : lts.Start tie.the-claims reads.Pre reads.Post) where
+  x1-size : nat_abs s.args.channel.x1 ≤ word_size
+  x1-size = input_size s.args.channel.x1 s.requires.1.x1
+
+  x2-size : nat_abs s.args.channel.x2 ≤ word_size
+  x2-size = input_size s.args.channel.x2 s.requires.1.x2
+
+  flag_small : nat_abs s.args.channel.flag ≤ word_size
+  flag_small = flag-size s.args.channel.flag s.requires.1.flag
+
+pub overflow_cast-x1 : goal.overflow_cast-x1
+overflow_cast-x1 c = narrow_need c.before.before.before.args.channel.x1 (x1-size c.before.before.before)
+
+pub overflow_cast-x2 : goal.overflow_cast-x2
+overflow_cast-x2 c = narrow_need c.before.before.before.before.before.args.channel.x2 (x2-size c.before.before.before.before.before)
+
+pub overflow_cast-flag : goal.overflow_cast-flag
+overflow_cast-flag c = narrow_need c.before.before.before.before.before.before.before.args.channel.flag (flag_small c.before.before.before.before.before.before.before)
+
+pub returns : goal.returns
+returns c = (
+  sets_behind s.args.out-1.now ((head_form s.args.letter).text (head_row s.args.channel)) ((sections_form true).text s.args.channel.sections-1) s.args.at (s.args.at + line_size (length head_ranges)) (omega (arith, text_length s.args.letter (head_row s.args.channel))) (c.before.before.before.before.before.before.put_head.ensures ∙ (λ i. sets s.args.out-1.now s.args.at ((head_form s.args.letter).text (narrow_reads s.args.channel.x1 (x1-size s) i ∷ narrow_reads s.args.channel.x2 (x2-size s) i ∷ narrow_reads s.args.channel.flag (flag_small s) i ∷ [])))) c.before.before.put_sections.ensures,
+  refl,
+)
+  where
+    s : lts.Start tie.the-claims reads.Pre reads.Post
+    s = c.before.before.before.before.before.before.before.before.before.before.before.before.before.before.before.before

@@ -1,0 +1,53 @@
+-- `writing::put_sides` meets its contract. The loop's invariant: laid at the place that is reached, the sides from side i on make the whole.
+use mathlib.Core.Path.{◌≡◌, refl}
+use mathlib.Core.Bool.{true}
+use Prim.Native.Nat.{◌+◌, ◌*◌, ◌-◌}
+use native.Mathlib.Omega.{arith}
+use lib.ListN.{get_or}
+use borrow.Author.Rules.{rules}
+use Rattle.lists.proofs.Tabulate.{each_get_d}
+use Rattle.unit.specs.Fit.{ChannelFit}
+use Rattle.unit.specs.Shaped.{TenSections}
+use Rattle.unit.specs.Sizes.{channel_count}
+use Rattle.unit.proofs.PastEnd.{zero_channel}
+use Rattle.forms.proofs.Texts.{Onward, onward_begin, onward_size, onward_next, onward_done}
+use Rattle.sheet.proofs.Sizes.{side_length}
+use Rattle.sheet.specs.Sheet.{side_form, side_size}
+use Rattle.writing.proofs.Typed.{channels_typed}
+use Rattle.writing.proofs.put_sides.Lts as lts
+use Rattle.writing.proofs.put_sides.Reads as reads
+use Rattle.writing.proofs.put_sides.Tie as tie
+use Rattle.writing.proofs.put_sides.Goals as goal
+
+pub loop-i-init : goal.loop-i-init
+loop-i-init c = (omega arith, onward_begin refl)
+
+pub put_side-next-requires : goal.put_side-next-requires
+put_side-next-requires c = (
+  omega (arith, c.before.before.before.before.loop-i.invariant.0, onward_size c.before.before.before.before.loop-i.invariant.1),
+  each_get_d ChannelFit s.args.channels zero_channel s.requires.2 c.before.before.before.before.loop-i.i (omega arith),
+)
+  where
+    s : lts.Start tie.the-claims reads.Pre reads.Post invariant-loop decreases-loop
+    s = c.before.before.before.before.before.before.before
+
+pub loop-i-preserved : goal.loop-i-preserved
+loop-i-preserved c = (
+  omega (arith, c.before.before.put_side-next.ensures.1, turn.loop-i.invariant.0),
+  onward_next turn.loop-i.invariant.1 0 zero_channel (omega arith) (omega arith) refl c.before.before.put_side-next.ensures.0 (omega (arith, c.before.before.put_side-next.ensures.1, side_length true (get_or s.args.letters.now turn.loop-i.i 0) (get_or s.args.channels turn.loop-i.i zero_channel) ten)),
+)
+  where
+    s : lts.Start tie.the-claims reads.Pre reads.Post invariant-loop decreases-loop
+    s = c.before.before.before.before.before.before.before.before.before.before
+
+    turn : lts.At-loop tie.the-claims reads.Pre reads.Post invariant-loop decreases-loop
+    turn = c.before.before.before.before.before.before.before
+
+    ten : TenSections (get_or s.args.channels turn.loop-i.i zero_channel)
+    ten = each_get_d TenSections s.args.channels zero_channel (channels_typed s.args.channels _ s.well_formed.1.1.1.0) turn.loop-i.i (omega arith)
+
+pub shape_of-out : goal.shape_of-out
+shape_of-out c = onward_size c.before.loop-i.invariant.1
+
+pub returns : goal.returns
+returns c = onward_done c.before.loop-i.invariant.1 (omega arith)

@@ -1,0 +1,35 @@
+-- `writing::write` meets its contract: the part that is handed back is the front that was filled.
+use mathlib.Core.Path.{◌≡◌, refl}
+use mathlib.Core.List.{List}
+use Prim.Native.Nat.{ℕ, ◌≤◌}
+use native.Mathlib.Omega.{arith}
+use lib.ListN.{length, take, length-take}
+use borrow.Author.Rules.{rules}
+use Rattle.unit.specs.declared.Unit.{Unit}
+use Rattle.sheet.specs.Sheet.{side_letters}
+use Rattle.writing.specs.Written.{filled_part}
+use Rattle.writing.proofs.Filled.{part_filled}
+use Rattle.writing.proofs.write.Lts as lts
+use Rattle.writing.proofs.write.Reads as reads
+use Rattle.writing.proofs.write.Tie as tie
+use Rattle.writing.proofs.write.Goals as goal
+
+-- what is filled is as long as the buffer, so that its front can be handed back
+module _ (c : lts.After-fill tie.the-claims reads.Pre reads.Post) where
+  abbrev unit : Unit
+  unit = c.before.before.before.args.unit
+
+  abbrev out : List ℕ
+  out = c.before.before.before.args.out-1.now
+
+  abbrev after : List ℕ
+  after = c.fill-count.new.1.0
+
+  part : (c.fill-count.result ≤ length after) × (take c.fill-count.result after ≡ filled_part side_letters unit (length out))
+  part = part_filled side_letters unit out c.fill-count.ensures.0 c.fill-count.ensures.1 (omega arith)
+
+pub slice_bounds-result-end : goal.slice_bounds-result-end
+slice_bounds-result-end c = simp length-take (omega (arith, (part c.before.before.before).0))
+
+pub returns : goal.returns
+returns c = ((part c.before.before.before).1, refl)
