@@ -17,12 +17,10 @@ use Rattle.rounding.proofs.Limit.{within_bounds}
 use Rattle.bands.specs.declared.Band.{Band}
 use Rattle.bands.specs.Bands.{beta_low, beta_high, alpha_accepted, beta_accepted, gamma_accepted, band_verdict}
 use Rattle.bands.proofs.Laws.{gamma_range}
-use Rattle.bands.proofs.check_band.Lts as lts
-use Rattle.bands.proofs.check_band.Reads as reads
-use Rattle.bands.proofs.check_band.Tie as tie
+use Rattle.bands.proofs.check_band.Goals.{After-in_range_i32, After-in_range_i32-2, After-in_range_i32-3, After-struct_told-3-1, Else-not-in_range_i32-2}
 use Rattle.bands.proofs.check_band.Goals as goal
 
-module _ (c : goal.After-struct_told-3-1) where
+module _ (c : After-struct_told-3-1) where
   abbrev band : Band
   band = c.before.before.before.args.band
 
@@ -36,7 +34,7 @@ module _ (c : goal.After-struct_told-3-1) where
   gamma-fits = record { sfits = omega arith }
 
 -- the first test is alpha's
-alpha-test : (c : lts.After-in_range_i32 tie.the-claims reads.Pre reads.Post) → c.in_range_i32.result ≡ alpha_accepted (band c.before).alpha
+alpha-test : (c : After-in_range_i32) → c.in_range_i32.result ≡ alpha_accepted (band c.before).alpha
 unfolding alpha_accepted
 alpha-test c = c.in_range_i32.ensures ∙ ap (within (pos 0) (pos 8388607)) (to_z-of_z (alpha-fits c.before))
 
@@ -45,8 +43,8 @@ unfolding band_verdict
 returns-then-not-in_range_i32 c = sym (simp (sym (alpha-test c.before) ∙ not-true _ c.if-not-in_range_i32.true))
 
 -- the second is beta's
-module _ (c : lts.After-in_range_i322 tie.the-claims reads.Pre reads.Post) where
-  abbrev s₂ : goal.After-struct_told-3-1
+module _ (c : After-in_range_i32-2) where
+  abbrev s₂ : After-struct_told-3-1
   s₂ = c.before.before.before
 
   alpha-right : alpha_accepted (band s₂).alpha ≡ true
@@ -61,8 +59,8 @@ unfolding band_verdict
 returns-then-not-in_range_i32-2 c = sym (simp (alpha-right c.before, sym (beta-test c.before) ∙ not-true _ c.if-not-in_range_i32-2.true))
 
 -- the ends of gamma's range, which fit 32 bits by beta's range
-module _ (c : goal.Else-not-in_range_i32-2) where
-  abbrev s₃ : goal.After-struct_told-3-1
+module _ (c : Else-not-in_range_i32-2) where
+  abbrev s₃ : After-struct_told-3-1
   s₃ = s₂ c.before
 
   beta-right : beta_accepted (band s₃).beta ≡ true
@@ -100,14 +98,14 @@ pub overflow_add-beta : goal.overflow_add-beta
 overflow_add-beta c = binary_need ◌+ℤ◌ (literal 4194303) (Beta' c) (top-fits c)
 
 -- the third is gamma's
-gamma-test : (c : lts.After-in_range_i323 tie.the-claims reads.Pre reads.Post) → c.in_range_i32-3.result ≡ gamma_accepted (band (s₃ c.before)).beta (band (s₃ c.before)).gamma
+gamma-test : (c : After-in_range_i32-3) → c.in_range_i32-3.result ≡ gamma_accepted (band (s₃ c.before)).beta (band (s₃ c.before)).gamma
 gamma-test c =
     c.in_range_i32-3.ensures
     ∙ ap₂ (λ (l h : ℤ). within l h (to_z w32 (of_z w32 (band s).gamma))) (Bottom c.before).reads (Top c.before).reads
     ∙ ap (within (beta_low -ℤ (band s).beta) (beta_high +ℤ (band s).beta)) (to_z-of_z (gamma-fits s))
     ∙ gamma_range (band s).beta (band s).gamma
   where
-    s : goal.After-struct_told-3-1
+    s : After-struct_told-3-1
     s = s₃ c.before
 
 pub returns-then-not-in_range_i32-3 : goal.returns-then-not-in_range_i32-3

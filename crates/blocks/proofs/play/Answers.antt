@@ -14,13 +14,11 @@ use Rattle.frames.specs.Bytes.{frame_count}
 use Rattle.frames.specs.Played.{played, sound}
 use Rattle.blocks.specs.Block.{block_verdict, block_played, block_output}
 use Rattle.blocks.proofs.Block.{refused_unit, refused-output}
-use Rattle.blocks.proofs.play.Lts as lts
-use Rattle.blocks.proofs.play.Reads as reads
-use Rattle.blocks.proofs.play.Tie as tie
+use Rattle.blocks.proofs.play.Goals.{After-accepted, After-run-after, Start}
 use Rattle.blocks.proofs.play.Goals as goal
 
-module _ (c : lts.After-accepted tie.the-claims reads.Pre reads.Post) where
-  abbrev s : lts.Start tie.the-claims reads.Pre reads.Post
+module _ (c : After-accepted) where
+  abbrev s : Start
   s = c.before.before.before.before
 
   abbrev verdict : Verdict
@@ -43,10 +41,10 @@ returns-then-accepted c = (
       ∙ passed (is_accepted (verdict a)) (sound 2 u input (frame_count 2 input) ++ drop (length input) room) room yes,
 )
   where
-    r : lts.After-run tie.the-claims reads.Pre reads.Post
+    r : After-run-after
     r = c.before.before
 
-    a : lts.After-accepted tie.the-claims reads.Pre reads.Post
+    a : After-accepted
     a = r.before.before.before.before.before.before
 
     u : Unit

@@ -14,9 +14,7 @@ use Rattle.engine.specs.Layout.{x1_place, x2_place, flag_place, pair_floats, sid
 use Rattle.engine.specs.Frame.{between, FrameGives}
 use Rattle.engine.proofs.Store.{sides-length}
 use Rattle.engine.proofs.Pair.{ways, Turning, tallies_before, begins, bands_may_turn, bands_turned, ended, ends}
-use Rattle.engine.proofs.frame.Lts as lts
-use Rattle.engine.proofs.frame.Reads as reads
-use Rattle.engine.proofs.frame.Tie as tie
+use Rattle.engine.proofs.frame.Goals.{After-put_sides, After-put_sides-2, After-put_sides-3, After-sides_at-flags, After-turn_bands-fed, After-turn_bands-tallies, Start}
 use Rattle.engine.proofs.frame.Goals as goal
 
 pub sides_at-x1-requires : goal.sides_at-x1-requires
@@ -30,8 +28,8 @@ sides_at-flags-requires c = omega (arith, c.before.before.before.before.before.b
 
 -- ---- before the first turn
 
-module _ (c : lts.After-sides_at3 tie.the-claims reads.Pre reads.Post) where
-  abbrev s : lts.Start tie.the-claims reads.Pre reads.Post
+module _ (c : After-sides_at-flags) where
+  abbrev s : Start
   s = c.before.before.before.before.before.before.before
 
   abbrev bands : List Float
@@ -60,13 +58,13 @@ pub turn_bands-fed-requires : goal.turn_bands-fed-requires
 turn_bands-fed-requires c =
     bands_may_turn (bands n) (l n) (x n) (s n).requires true 0 feedback_count (omega arith) (omega arith) (λ b g h. lt-ltb b feedback_count h) (between (l n) (tallied n n.sides_at-flags.result)) (begun n) (d n) (ways-are n)
   where
-    n : lts.After-sides_at3 tie.the-claims reads.Pre reads.Post
+    n : After-sides_at-flags
     n = c.before.before.before.before.before.before.before
 
 -- ---- after the turns of the bands that feed back
 
-module _ (c : lts.After-turn_bands tie.the-claims reads.Pre reads.Post) where
-  abbrev n : lts.After-sides_at3 tie.the-claims reads.Pre reads.Post
+module _ (c : After-turn_bands-fed) where
+  abbrev n : After-sides_at-flags
   n = c.before.before.before.before.before.before.before.before
 
   abbrev m : List Float
@@ -81,16 +79,16 @@ pub turn_bands-tallies-requires : goal.turn_bands-tallies-requires
 turn_bands-tallies-requires c =
     bands_may_turn (bands (n k)) (l (n k)) (x (n k)) (s (n k)).requires false feedback_count band_count (omega arith) (omega arith) (λ b g h. le-ltb b feedback_count g) (between (m k) k.turn_bands-fed.result) (fed k) (d (n k)) (ways-are (n k))
   where
-    k : lts.After-turn_bands tie.the-claims reads.Pre reads.Post
+    k : After-turn_bands-fed
     k = c.before.before.before
 
 -- ---- after the last turn
 
-module _ (c : lts.After-turn_bands2 tie.the-claims reads.Pre reads.Post) where
-  abbrev k : lts.After-turn_bands tie.the-claims reads.Pre reads.Post
+module _ (c : After-turn_bands-tallies) where
+  abbrev k : After-turn_bands-fed
   k = c.before.before.before.before
 
-  abbrev e : lts.After-sides_at3 tie.the-claims reads.Pre reads.Post
+  abbrev e : After-sides_at-flags
   e = n k
 
   abbrev M : List Float
@@ -107,8 +105,8 @@ module _ (c : lts.After-turn_bands2 tie.the-claims reads.Pre reads.Post) where
 pub put_sides-requires : goal.put_sides-requires
 put_sides-requires c = omega (arith, (all c.before.before.before).size)
 
-module _ (c : lts.After-put_sides tie.the-claims reads.Pre reads.Post) where
-  abbrev g : lts.After-turn_bands2 tie.the-claims reads.Pre reads.Post
+module _ (c : After-put_sides) where
+  abbrev g : After-turn_bands-tallies
   g = c.before.before.before.before
 
   one_size : length c.put_sides.new.0 ≡ pair_floats
@@ -117,8 +115,8 @@ module _ (c : lts.After-put_sides tie.the-claims reads.Pre reads.Post) where
 pub put_sides-requires-2 : goal.put_sides-requires-2
 put_sides-requires-2 c = omega (arith, one_size c.before.before.before)
 
-module _ (c : lts.After-put_sides2 tie.the-claims reads.Pre reads.Post) where
-  abbrev h : lts.After-put_sides tie.the-claims reads.Pre reads.Post
+module _ (c : After-put_sides-2) where
+  abbrev h : After-put_sides
   h = c.before.before.before.before
 
   two_is : c.put_sides-2.new.0 ≡ put_sides (put_sides (M (g h)) x1_place (x (e (g h)))) x2_place (sides_at (l (e (g h))) x1_place)
@@ -134,11 +132,11 @@ module _ (c : lts.After-put_sides2 tie.the-claims reads.Pre reads.Post) where
 pub put_sides-requires-3 : goal.put_sides-requires-3
 put_sides-requires-3 c = omega (arith, two_size c.before.before.before)
 
-module _ (c : lts.After-put_sides3 tie.the-claims reads.Pre reads.Post) where
-  abbrev t : lts.After-put_sides2 tie.the-claims reads.Pre reads.Post
+module _ (c : After-put_sides-3) where
+  abbrev t : After-put_sides-2
   t = c.before.before.before.before
 
-  abbrev f : lts.After-turn_bands2 tie.the-claims reads.Pre reads.Post
+  abbrev f : After-turn_bands-tallies
   f = g (h t)
 
   three-is : c.put_sides-3.new.0 ≡ ended (bands (e f)) (l (e f)) (x (e f)) (s (e f)).requires (M f) (last-tallies f) (all f)

@@ -24,9 +24,7 @@ use Rattle.floats.proofs.WholeNumbers.{Whole, of_whole, mul_whole}
 use Rattle.unit.specs.Frame.{sample_low, sample_high, output}
 use Rattle.engine.specs.Floats.{largest}
 use Rattle.engine.proofs.Carry.{carries_whole, limited_is}
-use Rattle.engine.proofs.output.Lts as lts
-use Rattle.engine.proofs.output.Reads as reads
-use Rattle.engine.proofs.output.Tie as tie
+use Rattle.engine.proofs.output.Goals.{After-limited-heard, After-nearest_whole-m, After-nearest_whole-rounded, Start}
 use Rattle.engine.proofs.output.Goals as goal
 
 -- the ends of a sample
@@ -44,7 +42,7 @@ highest-is : highest ≡ float sample_high
 unfolding of_bits of_int
 highest-is = refl
 
-module _ (s : goal.Start) where
+module _ (s : Start) where
   abbrev T' : ℤ
   T' = whole_of s.args.total
 
@@ -90,7 +88,7 @@ nearest_whole-m-requires c = quotient_roundable 23 c.args.total (T' c) (lit≤ t
 
 -- ---- m
 
-module _ (c : goal.After-nearest_whole-m) where
+module _ (c : After-nearest_whole-m) where
   mix-is : c.nearest_whole-m.result ≡ float (m c.before)
   unfolding of_bits
   mix-is =
@@ -109,8 +107,8 @@ nearest_whole-rounded-requires c =
 
 -- ---- rounded
 
-module _ (c : goal.After-nearest_whole-rounded) where
-  abbrev s : goal.Start
+module _ (c : After-nearest_whole-rounded) where
+  abbrev s : Start
   s = c.before.before
 
   rounded-is : c.nearest_whole-rounded.result ≡ float (r s)
@@ -119,7 +117,7 @@ module _ (c : goal.After-nearest_whole-rounded) where
       c.nearest_whole-rounded.ensures
       ∙ ap float (quotient_whole 31 (mul binary64 s.args.volume c.before.nearest_whole-m.result) (product s) (lit≤ tt) (lit≤ tt) (product_is c.before) (product-below s))
 
-heard-is : (c : lts.After-limited tie.the-claims reads.Pre reads.Post) → c.limited-heard.result ≡ float (z (s c.before))
+heard-is : (c : After-limited-heard) → c.limited-heard.result ≡ float (z (s c.before))
 heard-is c =
     c.limited-heard.ensures
     ∙ limited_is lowest highest c.before.nearest_whole-rounded.result sample_low sample_high (r (s c.before)) lowest-is highest-is (rounded-is c.before) (lit≤ tt) (lit≤ tt) (r-size (s c.before)) (le_z_yes tt)

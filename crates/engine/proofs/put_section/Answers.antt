@@ -7,9 +7,10 @@ use lib.ListN.{set, length-set}
 use lib.Ieee.{Float}
 use borrow.Author.Rules.{rules}
 use Rattle.engine.specs.Layout.{put_section}
+use Rattle.engine.proofs.put_section.Goals.{Start}
 use Rattle.engine.proofs.put_section.Goals as goal
 
-module _ (c : goal.Start) where
+module _ (c : Start) where
   abbrev one : List Float
   one = set c.args.pair.now c.args.at c.args.section.y1
 

@@ -30,9 +30,7 @@ use Rattle.engine.specs.Floats.{largest, Carries, band_in, band_section_in}
 use Rattle.engine.specs.Frame.{LimitAsks, unless_limited, increased_by, carried_by, turned}
 use Rattle.engine.proofs.Carry.{carries, whole_is, limited_is}
 use Rattle.engine.proofs.Sum.{float_sum, Sizes, fed_sum, sum_on, sum-size, sum_whole, carried_is}
-use Rattle.engine.proofs.turn.Lts as lts
-use Rattle.engine.proofs.turn.Reads as reads
-use Rattle.engine.proofs.turn.Tie as tie
+use Rattle.engine.proofs.turn.Goals.{After-increased-sum, After-limited-y, After-nearest_whole-rounded, Start}
 use Rattle.engine.proofs.turn.Goals as goal
 
 -- the ends of a word, and 2^22
@@ -60,10 +58,10 @@ scale-is = refl
 -- ---- S
 
 abbrev Increased : Type 0
-Increased = goal.After-increased-sum
+Increased = After-increased-sum
 
 module _ (a : Increased) where
-  abbrev s : lts.Start tie.the-claims reads.Pre reads.Post
+  abbrev s : Start
   s = a.before.before.before.before.before
 
   abbrev feeds : Bool
@@ -138,7 +136,7 @@ nearest_whole-rounded-requires c = quotient_roundable sum_shift (sum c) (S c) (l
 -- ---- rounded
 
 abbrev Rounded : Type 0
-Rounded = goal.After-nearest_whole-rounded
+Rounded = After-nearest_whole-rounded
 
 module _ (c : Rounded) where
   abbrev a : Increased
@@ -163,7 +161,7 @@ module _ (c : Rounded) where
 -- ---- limited
 
 abbrev Limited : Type 0
-Limited = lts.After-limited tie.the-claims reads.Pre reads.Post
+Limited = After-limited-y
 
 module _ (c : Limited) where
   y-whole : c.limited-y.result ≡ float (limit word_low word_high (r (a c.before)))

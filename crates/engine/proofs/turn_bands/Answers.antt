@@ -9,9 +9,7 @@ use Rattle.unit.specs.Frame.{feeds_back}
 use Rattle.engine.specs.declared.Sides.{Sides}
 use Rattle.engine.specs.Frame.{tallies_after, pair_after, TurnPairAsks, Between, between, after_turns}
 use Rattle.engine.proofs.Store.{section_length}
-use Rattle.engine.proofs.turn_bands.Lts as lts
-use Rattle.engine.proofs.turn_bands.Reads as reads
-use Rattle.engine.proofs.turn_bands.Tie as tie
+use Rattle.engine.proofs.turn_bands.Goals.{After-loop-b, In-loop-b, Start}
 use Rattle.engine.proofs.turn_bands.Goals as goal
 
 module _ (bands : List Float) (d : Sides) (from : ℕ) (s : Between) where
@@ -32,8 +30,8 @@ loop-b-init c = record { turns = 0; most = omega (arith, c.before.requires.in_or
 
 -- ---- a turn
 
-module _ (c : lts.In-loop tie.the-claims reads.Pre reads.Post invariant-loop decreases-loop) where
-  abbrev s : lts.Start tie.the-claims reads.Pre reads.Post invariant-loop decreases-loop
+module _ (c : In-loop-b) where
+  abbrev s : Start
   s = c.before.before.before
 
   abbrev start : Between
@@ -54,7 +52,7 @@ turn_pair-tallies-requires c =
     (subst (λ (m : Between). TurnPairAsks (s k).args.bands.now m.pair-1 ((s k).args.from + (inv k).turns) (s k).args.d m.tallies) (sym (inv k).is)
     ((s k).requires.each (inv k).turns (below k)))
   where
-    k : lts.In-loop tie.the-claims reads.Pre reads.Post invariant-loop decreases-loop
+    k : In-loop-b
     k = c.before
 
 pub overflow_add-b : goal.overflow_add-b
@@ -76,7 +74,7 @@ loop-b-preserved c =
           (tallies_after (feeds-are i) (s k).args.bands.now ((inv k).is i).pair-1 ((inv k).place i) (s k).args.d ((inv k).is i).tallies));
     }
   where
-    k : lts.In-loop tie.the-claims reads.Pre reads.Post invariant-loop decreases-loop
+    k : In-loop-b
     k = c.before.before.before.before
 
     feeds-are : (s k).args.feeds ≡ feeds_back ((s k).args.from + (inv k).turns)
@@ -84,8 +82,8 @@ loop-b-preserved c =
 
 -- ---- after the last turn
 
-module _ (c : goal.After-loop-b) where
-  abbrev e : lts.Start tie.the-claims reads.Pre reads.Post invariant-loop decreases-loop
+module _ (c : After-loop-b) where
+  abbrev e : Start
   e = c.before.before.before
 
   all : between c.before.loop-b.pair-1 c.before.loop-b.tallies ≡ after_turns e.args.bands.now e.args.d e.args.from (e.args.to - e.args.from) (between e.args.pair-1.now e.args.before)

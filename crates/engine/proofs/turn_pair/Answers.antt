@@ -12,9 +12,7 @@ use Rattle.engine.specs.declared.Turned.{Turned}
 use Rattle.engine.specs.Layout.{band_floats, section_floats, float_band_at, put_section}
 use Rattle.engine.specs.Frame.{turned, TurnAsks, first_turned, second_turned}
 use Rattle.engine.proofs.Store.{section_length}
-use Rattle.engine.proofs.turn_pair.Lts as lts
-use Rattle.engine.proofs.turn_pair.Reads as reads
-use Rattle.engine.proofs.turn_pair.Tie as tie
+use Rattle.engine.proofs.turn_pair.Goals.{After-turn-first, Start}
 use Rattle.engine.proofs.turn_pair.Goals as goal
 
 pub turn-first-requires : goal.turn-first-requires
@@ -22,7 +20,7 @@ turn-first-requires c =
     subst (λ (k : FloatBand). TurnAsks k c.section_at.result s.args.d.first s.args.tallies.first) (sym c.before.before.band_at.ensures)
     (subst (λ (h : FloatSection). TurnAsks (float_band_at s.args.bands.now (band_floats * s.args.b)) h s.args.d.first s.args.tallies.first) (sym c.section_at.ensures) s.requires.first_turns)
   where
-    s : lts.Start tie.the-claims reads.Pre reads.Post
+    s : Start
     s = c.before.before.before.before.before.before
 
 pub turn-second-requires : goal.turn-second-requires
@@ -30,7 +28,7 @@ turn-second-requires c =
     subst (λ (k : FloatBand). TurnAsks k c.section_at-2.result s.args.d.second s.args.tallies.second) (sym c.before.before.band_at-2.ensures)
     (subst (λ (h : FloatSection). TurnAsks (float_band_at s.args.bands.now (band_floats * s.args.b + 1)) h s.args.d.second s.args.tallies.second) (sym c.section_at-2.ensures) s.requires.second_turns)
   where
-    s : lts.Start tie.the-claims reads.Pre reads.Post
+    s : Start
     s = c.before.before.before.before.before.before.before.before.before.before
 
 pub put_section-requires : goal.put_section-requires
@@ -49,10 +47,10 @@ put_section-requires-2 c =
       section_length s.args.pair-1.now (section_floats * s.args.b) t.turn-first.result.section,
     )
   where
-    s : lts.Start tie.the-claims reads.Pre reads.Post
+    s : Start
     s = c.before.before.before.before.before.before.before.before.before.before.before.before.before.before.before.before.before.before
 
-    t : goal.After-turn-first
+    t : After-turn-first
     t = c.before.before.before.before.before.before.before.before.before.before.before
 
 pub returns : goal.returns
@@ -64,7 +62,7 @@ returns c = (
       (ap (λ (x : Turned). x.section) second_is),
 )
   where
-    s : lts.Start tie.the-claims reads.Pre reads.Post
+    s : Start
     s = c.before.before.before.before.before.before.before.before.before.before.before.before.before.before.before.before.before.before.before.before.before.before.before
 
     first-is : c.before.before.before.before.before.before.before.before.before.before.before.before.before.before.before.before.turn-first.result ≡ first_turned s.args.feeds s.args.bands.now s.args.pair-1.now s.args.b s.args.d s.args.tallies

@@ -12,7 +12,6 @@ use borrow.Author.Rules.{rules}
 use Rattle.fields.specs.Fields.{last_column}
 use Rattle.field_reading.specs.Scan.{blanks_of}
 use Rattle.field_reading.proofs.Blanks.{word_from, blank_word, last_word}
-use Rattle.field_reading.proofs.all_blank.Tie as tie
 use Rattle.field_reading.proofs.all_blank.Goals as goal
 
 module _ (c : tie.After-four2) where

@@ -19,9 +19,7 @@ use Rattle.fields.specs.Fields.{is_digit, digit_in, value_from}
 use Rattle.fields.proofs.Bytes.{digit_in_yes, digit_low, digit_high}
 use Rattle.fields.proofs.Laws.{answer}
 use Rattle.field_reading.specs.Scan.{all_digits, digits_read}
-use Rattle.field_reading.proofs.read_digits.Lts as lts
-use Rattle.field_reading.proofs.read_digits.Reads as reads
-use Rattle.field_reading.proofs.read_digits.Tie as tie
+use Rattle.field_reading.proofs.read_digits.Goals.{Else-not-is_digit, In-loop-i}
 use Rattle.field_reading.proofs.read_digits.Invariants.{read_from}
 use Rattle.field_reading.proofs.read_digits.Goals as goal
 
@@ -53,7 +51,7 @@ longer from i value d l h k =
     let more : i + 1 - from ≡ suc (i - from) = omega arith in
     subst (λ (n : ℕ). 10 * value + d < 10 ^ n) (sym more) (omega (arith, pow-suc 10 (i - from)))
 
-module _ (c : lts.In-loop tie.the-claims reads.Pre reads.Post invariant-loop decreases-loop) where
+module _ (c : In-loop-i) where
   abbrev bytes : List ℕ
   bytes = c.before.before.before.args.bytes.now
 
@@ -81,7 +79,7 @@ module _ (c : lts.In-loop tie.the-claims reads.Pre reads.Post invariant-loop dec
   answer-is t d e v =
       sym (one_byte bytes c.before.loop-i.i end negative value (omega arith) c.before.before.before.requires.2 t d e v) ∙ c.before.loop-i.invariant.3
 
-module _ (c : goal.Else-not-is_digit) where
+module _ (c : Else-not-is_digit) where
   is_one : is_digit (byte c.before.before.before) ≡ true
   is_one = sym c.before.is_digit.ensures ∙ not-false _ c.if-not-is_digit.false
 

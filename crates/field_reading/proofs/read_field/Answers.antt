@@ -9,7 +9,6 @@ use borrow.Author.Rules.{rules}
 use borrow.Author.Tests.{eqb-true, eqb-false}
 use Rattle.integers.proofs.Machine.{reads_back}
 use Rattle.field_reading.proofs.Places.{start_low, read_last, read_long, read_minus, read_plain}
-use Rattle.field_reading.proofs.read_field.Tie as tie
 use Rattle.field_reading.proofs.read_field.Goals as goal
 
 -- behind the blanks, which are fewer than eight

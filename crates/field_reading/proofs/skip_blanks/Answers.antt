@@ -6,7 +6,6 @@ use lib.Seq.{slice}
 use borrow.Author.Rules.{rules}
 use Rattle.field_reading.specs.Scan.{blanks_of}
 use Rattle.field_reading.proofs.Blanks.{one_more, no_more, none_left}
-use Rattle.field_reading.proofs.skip_blanks.Tie as tie
 use Rattle.field_reading.proofs.skip_blanks.Goals as goal
 
 pub loop-i-init : goal.loop-i-init

@@ -9,11 +9,10 @@ use mir.Val.{SFits}
 use Rattle.integers.proofs.Machine.{Num, literal, binary_need, binary_reads, below-fits, difference_sized}
 use Rattle.integers.specs.Signed.{signed}
 use borrow.Author.Rules.{rules}
-use Rattle.field_reading.proofs.with_sign.Lts as lts
-use Rattle.field_reading.proofs.with_sign.Reads as reads
+use Rattle.field_reading.proofs.with_sign.Goals.{Start}
 use Rattle.field_reading.proofs.with_sign.Goals as goal
 
-module _ (c : lts.Start reads.Pre reads.Post) where
+module _ (c : Start) where
   abbrev value : Num w32
   value = record { bits = c.args.value; value = pos c.args.value; reads = to_z_pos w32 (omega (arith, c.requires)) }
 

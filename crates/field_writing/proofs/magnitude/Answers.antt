@@ -12,8 +12,7 @@ use Rattle.integers.proofs.Order.{lt_z_true, lt_z_false}
 use Rattle.integers.proofs.Abs.{mag_low}
 use Rattle.integers.proofs.Machine.{Num, num, literal, binary, binary_need, binary_reads, unsigned_need, range_fits, test_of}
 use borrow.Author.Rules.{rules}
-use Rattle.field_writing.proofs.magnitude.Lts as lts
-use Rattle.field_writing.proofs.magnitude.Reads as reads
+use Rattle.field_writing.proofs.magnitude.Goals.{Start, Then-number-lt0}
 use Rattle.field_writing.proofs.magnitude.Goals as goal
 
 -- -(n + 1)
@@ -30,11 +29,11 @@ abs_mag : (z : ℤ) → z <ℤ pos 0 → mag z + 1 ≡ nat_abs z
 abs_mag (pos n) h = omega linear
 abs_mag (negsuc n) h = omega arith
 
-module _ (c : lts.Start reads.Pre reads.Post) where
+module _ (c : Start) where
   abbrev number : Num w32
   number = num c.args.number c.ranges.number
 
-module _ (c : goal.Then-number-lt0) where
+module _ (c : Then-number-lt0) where
   abbrev z : ℤ
   z = c.before.args.number
 

@@ -9,7 +9,6 @@ use borrow.Author.Rules.{rules}
 use Rattle.lists.proofs.Stores.{sets_append}
 use Rattle.fields.specs.Fields.{blank}
 use Rattle.field_writing.specs.Front.{front_columns}
-use Rattle.field_writing.proofs.put_blanks.Tie as tie
 use Rattle.field_writing.proofs.put_blanks.Goals as goal
 
 -- one blank more

@@ -10,7 +10,6 @@ use lib.Seq.{sets}
 use borrow.Author.Rules.{rules}
 use Rattle.lists.proofs.Stores.{sets_cons}
 use Rattle.fields.specs.Fields.{last_column, column, owed_still, columns}
-use Rattle.field_writing.proofs.put_columns.Tie as tie
 use Rattle.field_writing.proofs.put_columns.Invariants.{Stored}
 use Rattle.field_writing.proofs.put_columns.Goals as goal
 

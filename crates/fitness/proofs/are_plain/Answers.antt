@@ -8,7 +8,6 @@ use Rattle.bands.specs.Bands.{band_count}
 use Rattle.unit.specs.Cleared.{cleared_band_section}
 use Rattle.unit.specs.Frame.{feedback_count}
 use Rattle.unit.specs.Fit.{is_plain}
-use Rattle.fitness.proofs.are_plain.Tie as tie
 use Rattle.fitness.proofs.are_plain.Goals as goal
 
 pub loop-i-init : goal.loop-i-init

@@ -8,7 +8,6 @@ use Rattle.refusals.specs.Numbers.{is_accepted}
 use Rattle.bands.specs.Bands.{band_count}
 use Rattle.unit.proofs.PastEnd.{zero_band}
 use Rattle.unit.specs.Fit.{band_fits}
-use Rattle.fitness.proofs.bands_fit.Tie as tie
 use Rattle.fitness.proofs.bands_fit.Goals as goal
 
 pub returns-then-not-accepted : goal.returns-then-not-accepted

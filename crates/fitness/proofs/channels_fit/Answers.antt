@@ -6,7 +6,6 @@ use Rattle.lists.proofs.Loops.{EveryFrom, every_begin, every_fails, every-passes
 use Rattle.unit.specs.Sizes.{channel_count}
 use Rattle.unit.proofs.PastEnd.{zero_channel}
 use Rattle.unit.specs.Fit.{channel_fits}
-use Rattle.fitness.proofs.channels_fit.Tie as tie
 use Rattle.fitness.proofs.channels_fit.Goals as goal
 
 pub returns-then-not-channel_fits : goal.returns-then-not-channel_fits

@@ -6,7 +6,6 @@ use Rattle.lists.proofs.Loops.{EveryFrom, every_begin, every_fails, every-passes
 use Rattle.bands.specs.Bands.{band_count}
 use Rattle.unit.specs.Cleared.{cleared_band_section}
 use Rattle.unit.specs.Fit.{section_fits}
-use Rattle.fitness.proofs.each_fits.Tie as tie
 use Rattle.fitness.proofs.each_fits.Goals as goal
 
 pub loop-i-init : goal.loop-i-init

@@ -9,16 +9,14 @@ use Rattle.integers.proofs.Order.{and_fails}
 use Rattle.words.specs.Words.{word_size, is_word}
 use Rattle.words.proofs.Laws.{word_size_lem, narrow_need, narrow_reads}
 use Rattle.unit.specs.Fit.{is_input}
-use Rattle.fitness.proofs.input_fits.Lts as lts
-use Rattle.fitness.proofs.input_fits.Reads as reads
-use Rattle.fitness.proofs.input_fits.Tie as tie
+use Rattle.fitness.proofs.input_fits.Goals.{After-is_word, Else-not-is_word}
 use Rattle.fitness.proofs.input_fits.Goals as goal
 
-word_test : (c : lts.After-is_word tie.the-claims reads.Pre reads.Post) → c.is_IsWord.result ≡ is_word c.before.args.v
+word_test : (c : After-is_word) → c.is_IsWord.result ≡ is_word c.before.args.v
 word_test c = c.is_IsWord.ensures ∙ ap is_word (to_z-of_z c.before.ranges.v)
 
 -- the number is a word
-module _ (c : goal.Else-not-is_word) where
+module _ (c : Else-not-is_word) where
   abbrev v : ℤ
   v = c.before.before.args.v
 

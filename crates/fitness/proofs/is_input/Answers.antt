@@ -8,12 +8,10 @@ use Rattle.integers.proofs.Order.{and_fails, and_passes}
 use Rattle.rounding.proofs.Rest.{multiple_need, rest_need, rest_reads}
 use Rattle.words.specs.Words.{is_word}
 use Rattle.unit.specs.Fit.{is_input}
-use Rattle.fitness.proofs.is_input.Lts as lts
-use Rattle.fitness.proofs.is_input.Reads as reads
-use Rattle.fitness.proofs.is_input.Tie as tie
+use Rattle.fitness.proofs.is_input.Goals.{After-is_word}
 use Rattle.fitness.proofs.is_input.Goals as goal
 
-word_test : (c : lts.After-is_word tie.the-claims reads.Pre reads.Post) → c.is_IsWord.result ≡ is_word c.before.args.v
+word_test : (c : After-is_word) → c.is_IsWord.result ≡ is_word c.before.args.v
 word_test c = c.is_IsWord.ensures ∙ ap is_word (to_z-of_z c.before.ranges.v)
 
 pub returns-then-not-is_word : goal.returns-then-not-is_word

@@ -17,16 +17,14 @@ use Rattle.floats.specs.Value.{in_units, factor_target, band_lowest, target_shif
 use Rattle.floats.proofs.Casts.{finite_no_nan}
 use Rattle.floats.proofs.Laws.{factor_says}
 use Rattle.floats.proofs.Target.{scaled_roundable, scaled_whole, target_back}
-use Rattle.floats.proofs.factor_target.Lts as lts
-use Rattle.floats.proofs.factor_target.Reads as reads
-use Rattle.floats.proofs.factor_target.Tie as tie
+use Rattle.floats.proofs.factor_target.Goals.{After-row_known-2-1, Start}
 use Rattle.floats.proofs.factor_target.Goals as goal
 
 abbrev Rounded : Type 0
-Rounded = goal.After-row_known-2-1
+Rounded = After-row_known-2-1
 
 abbrev Start : Type 0
-Start = lts.Start tie.the-claims reads.Pre reads.Post
+Start = Start
 
 fitting : (s : Start) → T (fits binary32 s.args.f)
 fitting s = passes (fits binary32 s.args.f) s.well-formed.0.1

@@ -11,9 +11,7 @@ use Rattle.engine.specs.Layout.{pair_floats}
 use Rattle.frames.specs.Run.{FramesGives}
 use Rattle.frames.proofs.Pairs.{Paired, paired_begins, sides-length, pair_asks, paired_next, paired_ends}
 use Rattle.frames.proofs.Sound.{pairs_length}
-use Rattle.frames.proofs.frames.Lts as lts
-use Rattle.frames.proofs.frames.Reads as reads
-use Rattle.frames.proofs.frames.Tie as tie
+use Rattle.frames.proofs.frames.Goals.{After-loop-p, In-loop-p, Start}
 use Rattle.frames.proofs.frames.Goals as goal
 
 pub overflow_mul-size : goal.overflow_mul-size
@@ -25,11 +23,11 @@ overflow_mul-size-2 c = omega (arith, c.before.before.before.requires.size)
 pub loop-p-init : goal.loop-p-init
 loop-p-init c = paired_begins z.args.bands.now z.args.sides-1.now z.args.pairs z.args.volume z.args.count z.args.input.now z.args.output-1.now z.requires
   where
-    z : lts.Start tie.the-claims reads.Pre reads.Post invariant-loop decreases-loop
+    z : Start
     z = c.before.before.before
 
-module _ (c : goal.In-loop-p) where
-  abbrev s : lts.Start tie.the-claims reads.Pre reads.Post invariant-loop decreases-loop
+module _ (c : In-loop-p) where
+  abbrev s : Start
   s = c.before.before.before.before.before
 
   abbrev p : ℕ
@@ -74,7 +72,7 @@ overflow_mul-p c = omega (arith, has c.before)
 pub pair_frames-level-requires : goal.pair_frames-level-requires
 pair_frames-level-requires c = pair_asks (s i).args.bands.now (s i).args.sides-1.now (s i).args.pairs (s i).args.volume (s i).args.count (s i).args.input.now (s i).args.output-1.now (s i).requires (sides i) (out i) i.before.loop-p.level (p i) (below i) (inv i)
   where
-    i : goal.In-loop-p
+    i : In-loop-p
     i = c.before.before
 
 pub overflow_add-p : goal.overflow_add-p
@@ -88,11 +86,11 @@ loop-p-preserved c =
     subst (λ (j : ℕ). Paired (s i).args.bands.now (s i).args.sides-1.now (s i).args.pairs (s i).args.volume (s i).args.count (s i).args.input.now (s i).args.output-1.now (put_mid (pair_floats * p i) (pair_floats * p i + pair_floats - pair_floats * p i) (sides i) c.before.before.before.before.pair_frames-level.new.1.0) c.before.before.before.before.pair_frames-level.new.1.1.1.1.1.1.1.0 c.before.before.before.before.pair_frames-level.result j) (sym (add-one (p i)))
     (paired_next (s i).args.bands.now (s i).args.sides-1.now (s i).args.pairs (s i).args.volume (s i).args.count (s i).args.input.now (s i).args.output-1.now (s i).requires (sides i) (out i) i.before.loop-p.level (p i) (below i) (inv i) c.before.before.before.before.pair_frames-level.result c.before.before.before.before.pair_frames-level.new.1.0 c.before.before.before.before.pair_frames-level.new.1.1.1.1.1.1.1.0 c.before.before.before.before.pair_frames-level.ensures)
   where
-    i : goal.In-loop-p
+    i : In-loop-p
     i = c.before.before.before.before.before.before.before
 
-module _ (c : goal.After-loop-p) where
-  abbrev e : lts.Start tie.the-claims reads.Pre reads.Post invariant-loop decreases-loop
+module _ (c : After-loop-p) where
+  abbrev e : Start
   e = c.before.before.before.before.before
 
   given : FramesGives e.args.bands.now e.args.sides-1.now e.args.pairs e.args.volume e.args.count e.args.input.now e.args.output-1.now c.before.loop-p.level c.before.loop-p.sides-1 c.before.loop-p.output-1

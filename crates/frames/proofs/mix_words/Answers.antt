@@ -10,19 +10,17 @@ use Rattle.engine.specs.declared.Sides.{Sides}
 use Rattle.engine.specs.Layout.{sides_at}
 use Rattle.engine.specs.Frame.{FrameAsks, FrameGives}
 use Rattle.frames.proofs.Mixing.{Mixing, mixing_begins, frame_asks, room, mixing_next, mixing_ends}
-use Rattle.frames.proofs.mix_words.Lts as lts
-use Rattle.frames.proofs.mix_words.Reads as reads
-use Rattle.frames.proofs.mix_words.Tie as tie
+use Rattle.frames.proofs.mix_words.Goals.{After-loop-k, After-sides_at-x, In-loop-k, Start}
 use Rattle.frames.proofs.mix_words.Goals as goal
 
 pub loop-k-init : goal.loop-k-init
 loop-k-init c = mixing_begins s.args.bands.now s.args.pair-1.now s.args.words-1.now s.args.count s.requires
   where
-    s : lts.Start tie.the-claims reads.Pre reads.Post invariant-loop decreases-loop
+    s : Start
     s = c.before.before
 
-module _ (c : goal.In-loop-k) where
-  abbrev s : lts.Start tie.the-claims reads.Pre reads.Post invariant-loop decreases-loop
+module _ (c : In-loop-k) where
+  abbrev s : Start
   s = c.before.before.before.before
 
   abbrev bands : List Float
@@ -58,8 +56,8 @@ overflow_mul-k c = omega (arith, below c.before, (s c.before).requires.few)
 pub sides_at-x-requires : goal.sides_at-x-requires
 sides_at-x-requires c = omega (arith, has c.before)
 
-module _ (c : lts.After-sides_at tie.the-claims reads.Pre reads.Post invariant-loop decreases-loop) where
-  abbrev n : goal.In-loop-k
+module _ (c : After-sides_at-x) where
+  abbrev n : In-loop-k
   n = c.before.before
 
   x-is : c.sides_at-x.result ≡ sides_at (words n) (2 * k n)
@@ -69,7 +67,7 @@ pub frame-totals-requires : goal.frame-totals-requires
 frame-totals-requires c =
     subst (λ (x : Sides). FrameAsks (bands (n e)) (m (n e)) x) (sym (x-is e)) (frame_asks (bands (n e)) (l (n e)) (words (n e)) (s (n e)).args.count (s (n e)).requires (m (n e)) (w (n e)) (k (n e)) (below (n e)) (inv (n e)))
   where
-    e : lts.After-sides_at tie.the-claims reads.Pre reads.Post invariant-loop decreases-loop
+    e : After-sides_at-x
     e = c.before
 
 pub overflow_mul-k-in-loop-k : goal.overflow_mul-k-in-loop-k
@@ -91,16 +89,16 @@ loop-k-preserved c =
     (mixing_next (bands i) (l i) (words i) (s i).args.count (s i).requires (m i) (w i) (k i) (below i) (inv i) after c.before.before.before.before.before.before.frame-totals.result
     (subst (λ (x : Sides). FrameGives (bands i) (m i) x after c.before.before.before.before.before.before.frame-totals.result) (x-is e) c.before.before.before.before.before.before.frame-totals.ensures)))
   where
-    i : goal.In-loop-k
+    i : In-loop-k
     i = c.before.before.before.before.before.before.before.before.before.before
 
-    e : lts.After-sides_at tie.the-claims reads.Pre reads.Post invariant-loop decreases-loop
+    e : After-sides_at-x
     e = c.before.before.before.before.before.before.before.before
 
     after : List Float
     after = c.before.before.before.before.before.before.frame-totals.new.1.0
 
-all : (c : goal.After-loop-k) → c.before.loop-k.k ≡ c.before.before.before.before.args.count
+all : (c : After-loop-k) → c.before.loop-k.k ≡ c.before.before.before.before.args.count
 all c = omega (arith, c.before.loop-k.invariant.most, c.loop-k-test.false)
 
 pub shape_of-pair : goal.shape_of-pair
@@ -114,5 +112,5 @@ returns c =
     mixing_ends s'.args.bands.now s'.args.pair-1.now s'.args.words-1.now s'.args.count s'.requires c.before.loop-k.pair-1 c.before.loop-k.words-1
     (subst (λ (j : ℕ). Mixing s'.args.bands.now s'.args.pair-1.now s'.args.words-1.now s'.args.count c.before.loop-k.pair-1 c.before.loop-k.words-1 j) (all c) c.before.loop-k.invariant)
   where
-    s' : lts.Start tie.the-claims reads.Pre reads.Post invariant-loop decreases-loop
+    s' : Start
     s' = c.before.before.before.before

@@ -11,22 +11,20 @@ use Rattle.engine.specs.declared.FloatLevel.{FloatLevel}
 use Rattle.frames.specs.Run.{pass_frames}
 use Rattle.frames.proofs.Column.{stored_length}
 use Rattle.frames.proofs.Passing.{Passing, passing_begins, read_asks, mix_asks, put_asks, passing_next, passing_ends}
-use Rattle.frames.proofs.pair_frames.Lts as lts
-use Rattle.frames.proofs.pair_frames.Reads as reads
-use Rattle.frames.proofs.pair_frames.Tie as tie
+use Rattle.frames.proofs.pair_frames.Goals.{After-loop-done, After-mix_words, After-pass_frames-n, After-read_words, In-loop-done, Start}
 use Rattle.frames.proofs.pair_frames.Goals as goal
 
 pub loop-done-init : goal.loop-done-init
 loop-done-init c =
     passing_begins z.args.bands.now z.args.pair-1.now z.args.volume z.args.size z.args.at z.args.count z.args.input.now z.args.output-1.now z.requires _ (omega arith)
   where
-    z : lts.Start tie.the-claims reads.Pre reads.Post invariant-loop decreases-loop
+    z : Start
     z = c.before.before.before
 
 -- ---- a pass
 
-module _ (c : goal.In-loop-done) where
-  abbrev s : lts.Start tie.the-claims reads.Pre reads.Post invariant-loop decreases-loop
+module _ (c : In-loop-done) where
+  abbrev s : Start
   s = c.before.before.before.before.before
 
   abbrev bands : List Float
@@ -78,8 +76,8 @@ overflow_mul-from c = omega (arith, here c.before)
 pub overflow_add-from : goal.overflow_add-from
 overflow_add-from c = omega (arith, here c.before)
 
-module _ (c : lts.After-pass_frames tie.the-claims reads.Pre reads.Post invariant-loop decreases-loop) where
-  abbrev i : goal.In-loop-done
+module _ (c : After-pass_frames-n) where
+  abbrev i : In-loop-done
   i = c.before
 
   abbrev n : ℕ
@@ -103,11 +101,11 @@ slice_bounds-read_words-end c = sym (inv c.before.before).words_size
 pub read_words-requires : goal.read_words-requires
 read_words-requires c = read_asks (bands j) (l j) (s j).args.volume (s j).args.size (s j).args.at (s j).args.count (input j) (room j) (s j).requires (m j) (out j) (words j) (level j) (done j) (inv j) (n c.before) (left c.before) (few c.before)
   where
-    j : goal.In-loop-done
+    j : In-loop-done
     j = c.before.before
 
-module _ (c : lts.After-read_words tie.the-claims reads.Pre reads.Post invariant-loop decreases-loop) where
-  abbrev p : lts.After-pass_frames tie.the-claims reads.Pre reads.Post invariant-loop decreases-loop
+module _ (c : After-read_words) where
+  abbrev p : After-pass_frames-n
   p = c.before.before
 
   abbrev w : List Float
@@ -119,14 +117,14 @@ slice_bounds-mix_words-end c = sym c.before.before.before.read_words.ensures.wor
 pub mix_words-requires : goal.mix_words-requires
 mix_words-requires c = mix_asks (bands j) (l j) (s j).args.volume (s j).args.size (s j).args.at (s j).args.count (input j) (room j) (s j).requires (m j) (out j) (words j) (level j) (done j) (inv j) (n (p r)) (left (p r)) (few (p r)) (w r) r.read_words.ensures
   where
-    r : lts.After-read_words tie.the-claims reads.Pre reads.Post invariant-loop decreases-loop
+    r : After-read_words
     r = c.before.before.before
 
-    j : goal.In-loop-done
+    j : In-loop-done
     j = i (p r)
 
-module _ (c : lts.After-mix_words tie.the-claims reads.Pre reads.Post invariant-loop decreases-loop) where
-  abbrev r : lts.After-read_words tie.the-claims reads.Pre reads.Post invariant-loop decreases-loop
+module _ (c : After-mix_words) where
+  abbrev r : After-read_words
   r = c.before.before.before.before
 
   abbrev after : List Float
@@ -141,10 +139,10 @@ slice_bounds-put_sounds-end c = sym c.before.before.before.before.mix_words.ensu
 pub put_sounds-level-requires : goal.put_sounds-level-requires
 put_sounds-level-requires c = put_asks (bands j) (l j) (s j).args.volume (s j).args.size (s j).args.at (s j).args.count (input j) (room j) (s j).requires (m j) (out j) (words j) (level j) (done j) (inv j) (n (p (r q))) (left (p (r q))) (few (p (r q))) (w (r q)) (r q).read_words.ensures (after q) (totals q) q.mix_words.ensures
   where
-    q : lts.After-mix_words tie.the-claims reads.Pre reads.Post invariant-loop decreases-loop
+    q : After-mix_words
     q = c.before.before.before.before.before
 
-    j : goal.In-loop-done
+    j : In-loop-done
     j = i (p (r q))
 
 pub overflow_add-done : goal.overflow_add-done
@@ -158,16 +156,16 @@ loop-done-preserved c =
     subst (λ (k : ℕ). Passing (bands j) (l j) (s j).args.volume (s j).args.size (s j).args.at (s j).args.count (input j) (room j) (after q) c.before.before.put_sounds-level.new.1.1.0 (totals q) c.before.before.put_sounds-level.result k) (add_comm (n (p (r q))) (done j))
     (passing_next (bands j) (l j) (s j).args.volume (s j).args.size (s j).args.at (s j).args.count (input j) (room j) (s j).requires (m j) (out j) (words j) (level j) (done j) (inv j) (n (p (r q))) (left (p (r q))) (few (p (r q))) (w (r q)) (r q).read_words.ensures (after q) (totals q) q.mix_words.ensures c.before.before.put_sounds-level.result c.before.before.put_sounds-level.new.1.1.0 c.before.before.put_sounds-level.ensures)
   where
-    q : lts.After-mix_words tie.the-claims reads.Pre reads.Post invariant-loop decreases-loop
+    q : After-mix_words
     q = c.before.before.before.before.before.before.before.before
 
-    j : goal.In-loop-done
+    j : In-loop-done
     j = i (p (r q))
 
 -- ---- after the last pass
 
-module _ (c : goal.After-loop-done) where
-  abbrev e : lts.Start tie.the-claims reads.Pre reads.Post invariant-loop decreases-loop
+module _ (c : After-loop-done) where
+  abbrev e : Start
   e = c.before.before.before.before.before
 
   last : Passing e.args.bands.now e.args.pair-1.now e.args.volume e.args.size e.args.at e.args.count e.args.input.now e.args.output-1.now c.before.loop-done.pair-1 c.before.loop-done.output-1 c.before.loop-done.words-1 c.before.loop-done.level e.args.count

@@ -12,9 +12,10 @@ use Rattle.integers.proofs.Abs.{abs_le}
 use Rattle.integers.proofs.Machine.{Num, num, literal, binary, binary_need, unsigned_need, range_fits}
 use Rattle.frames.specs.Bytes.{bits_of}
 use borrow.Author.Rules.{rules}
+use Rattle.frames.proofs.put_sample.Goals.{Start}
 use Rattle.frames.proofs.put_sample.Goals as goal
 
-module _ (c : goal.Start) where
+module _ (c : Start) where
   abbrev raised : ℤ
   raised = c.args.sample +ℤ pos 65536
 

@@ -29,9 +29,7 @@ use Rattle.engine.proofs.Carry.{carries, level_back, volume_moves}
 use Rattle.frames.specs.Column.{volume_played, put_sample, columns_stored}
 use Rattle.frames.specs.Run.{first_words, second_words, total_heard}
 use Rattle.frames.proofs.Column.{volume_fit, sample_length, stored_length}
-use Rattle.frames.proofs.put_sounds.Lts as lts
-use Rattle.frames.proofs.put_sounds.Reads as reads
-use Rattle.frames.proofs.put_sounds.Tie as tie
+use Rattle.frames.proofs.put_sounds.Goals.{After-loop-k, After-moved-level, After-output, After-output-in-loop-k, After-put_sample, After-sides_at-total, In-loop-k, Start}
 use Rattle.frames.proofs.put_sounds.Invariants.{Sounding, )}
 use Rattle.frames.proofs.put_sounds.Goals as goal
 
@@ -41,8 +39,8 @@ pub loop-k-init : goal.loop-k-init
 unfolding volume_played columns_stored
 loop-k-init c = record { most = omega arith; level_is = c.before.before.requires.volume_fit.whole; bytes = refl }
 
-module _ (c : goal.In-loop-k) where
-  abbrev s : lts.Start tie.the-claims reads.Pre reads.Post invariant-loop decreases-loop
+module _ (c : In-loop-k) where
+  abbrev s : Start
   s = c.before.before.before.before
 
   abbrev totals : List Float
@@ -88,8 +86,8 @@ moved-level-requires c = subst LevelCarries (sym (inv c).level_is) (volume_moves
 
 -- ---- the volume has moved
 
-module _ (c : goal.After-moved-level) where
-  abbrev n : goal.In-loop-k
+module _ (c : After-moved-level) where
+  abbrev n : In-loop-k
   n = c.before
 
   level-next : c.moved-level.result ≡ float_level (volume_played (volume n) (suc (k n)))
@@ -118,14 +116,14 @@ pub overflow_add-size : goal.overflow_add-size
 overflow_add-size c = omega (arith, here c.before.before.before)
 
 -- what the output asks, of one side's total
-output-asks : (c : lts.After-sides_at tie.the-claims reads.Pre reads.Post invariant-loop decreases-loop) (t : Float) → Carries t total_size → (u : Float) → u ≡ t → OutputAsks c.before.moved-level.result.present u
+output-asks : (c : After-sides_at-total) (t : Float) → Carries t total_size → (u : Float) → u ≡ t → OutputAsks c.before.moved-level.result.present u
 output-asks c t h u e = record { volume_carries = present-carries c.before; total_carries = subst (λ (x : Float). Carries x total_size) (sym e) h }
 
 pub output-requires : goal.output-requires
 output-requires c =
     output-asks c.before (float_at (totals i) (2 * k i)) ((s i).requires.first_totals (k i) (below i)) c.before.sides_at-total.result.first (ap (λ (x : Sides). x.first) c.before.sides_at-total.ensures)
   where
-    i : goal.In-loop-k
+    i : In-loop-k
     i = c.before.before.before
 
 -- an output is a sample
@@ -138,11 +136,11 @@ module _ (volume m : ℤ) where
   unfolding output
   output-high = limit_high sample_low sample_high (le_z_yes tt) _
 
-module _ (c : goal.After-output) where
-  abbrev m1 : goal.After-moved-level
+module _ (c : After-output) where
+  abbrev m1 : After-moved-level
   m1 = c.before.before.before
 
-  abbrev i1 : goal.In-loop-k
+  abbrev i1 : In-loop-k
   i1 = c.before.before.before.before
 
   first-is : to_z w64 (of_z w64 c.output.result) ≡ total_heard (s i1).args.volume (first_words (totals i1)) (k i1)
@@ -160,8 +158,8 @@ put_sample-requires c = (
 
 -- ---- the first sample is stored
 
-module _ (c : lts.After-put_sample tie.the-claims reads.Pre reads.Post invariant-loop decreases-loop) where
-  abbrev o1 : goal.After-output
+module _ (c : After-put_sample) where
+  abbrev o1 : After-output
   o1 = c.before
 
   half_is : c.put_sample.new.0 ≡ put_sample (out (i1 o1)) (size (i1 o1) * k (i1 o1) + at (i1 o1)) (total_heard (s (i1 o1)).args.volume (first_words (totals (i1 o1))) (k (i1 o1)))
@@ -180,11 +178,11 @@ pub output-requires-in-loop-k : goal.output-requires-in-loop-k
 output-requires-in-loop-k c =
     output-asks c.before.before.before.before.before.before (float_at (totals i) (2 * k i + 1)) ((s i).requires.second_totals (k i) (below i)) c.before.before.before.before.before.before.sides_at-total.result.second (ap (λ (x : Sides). x.second) c.before.before.before.before.before.before.sides_at-total.ensures)
   where
-    i : goal.In-loop-k
+    i : In-loop-k
     i = c.before.before.before.before.before.before.before.before
 
-module _ (c : goal.After-output-in-loop-k) where
-  abbrev i2 : goal.In-loop-k
+module _ (c : After-output-in-loop-k) where
+  abbrev i2 : In-loop-k
   i2 = c.before.before.before.before.before.before.before.before.before
 
   second_is : to_z w64 (of_z w64 c.output-in-loop-k.result) ≡ total_heard (s i2).args.volume (second_words (totals i2)) (k i2)
@@ -220,10 +218,10 @@ loop-k-preserved c =
           (second_is c.before.before.before);
     })
   where
-    i : goal.In-loop-k
+    i : In-loop-k
     i = c.before.before.before.before.before.before.before.before.before.before.before.before
 
-all : (c : goal.After-loop-k) → c.before.loop-k.k ≡ c.before.before.before.before.args.count
+all : (c : After-loop-k) → c.before.loop-k.k ≡ c.before.before.before.before.args.count
 all c = omega (arith, c.before.loop-k.invariant.most, c.loop-k-test.false)
 
 pub shape_of-output : goal.shape_of-output
@@ -236,5 +234,5 @@ returns c =
       bytes = c.before.loop-k.invariant.bytes ∙ ap (columns_stored z.args.size z.args.at (total_heard z.args.volume (first_words z.args.totals.now)) (total_heard z.args.volume (second_words z.args.totals.now)) z.args.output.now) (all c);
     }
   where
-    z : lts.Start tie.the-claims reads.Pre reads.Post invariant-loop decreases-loop
+    z : Start
     z = c.before.before.before.before

@@ -13,9 +13,7 @@ use Rattle.engine.proofs.Store.{sides-length}
 use Rattle.frames.specs.Column.{column_word}
 use Rattle.frames.specs.Run.{pass_words}
 use Rattle.frames.proofs.Words.{words_more}
-use Rattle.frames.proofs.read_words.Lts as lts
-use Rattle.frames.proofs.read_words.Reads as reads
-use Rattle.frames.proofs.read_words.Tie as tie
+use Rattle.frames.proofs.read_words.Goals.{After-loop-k, In-loop-k, Start}
 use Rattle.frames.proofs.read_words.Invariants.{words_of, Reading}
 use Rattle.frames.proofs.read_words.Goals as goal
 
@@ -26,8 +24,8 @@ use Rattle.frames.proofs.read_words.Goals as goal
 pub loop-k-init : goal.loop-k-init
 loop-k-init c = record { most = omega arith; words_size = c.before.before.requires.words_size; done = λ j h. absurd (omega arith) }
 
-module _ (c : goal.In-loop-k) where
-  abbrev s : lts.Start tie.the-claims reads.Pre reads.Post invariant-loop decreases-loop
+module _ (c : In-loop-k) where
+  abbrev s : Start
   s = c.before.before.before.before
 
   abbrev k : ℕ
@@ -70,11 +68,11 @@ word-requires-in-loop-k c = omega (arith, here c.before)
 pub overflow_mul-k : goal.overflow_mul-k
 overflow_mul-k c = omega (arith, below n, (s n).requires.few)
   where
-    n : goal.In-loop-k
+    n : In-loop-k
     n = c.before.before.before
 
 -- there is room for the words
-room : (n : goal.In-loop-k) → 2 * k n + 1 < length (words n)
+room : (n : In-loop-k) → 2 * k n + 1 < length (words n)
 room n = omega (arith, below n, (s n).requires.few, (inv n).words_size)
 
 pub put_sides-requires : goal.put_sides-requires
@@ -96,7 +94,7 @@ loop-k-preserved c =
       done = words_more (words n) (k n) x (words_of (s n).args.input.now (s n).args.size (s n).args.at) (room n) x-is (inv n).done;
     }))
   where
-    n : goal.In-loop-k
+    n : In-loop-k
     n = c.before.before.before.before.before.before
 
     x : Sides
@@ -105,7 +103,7 @@ loop-k-preserved c =
     x-is : x ≡ words_of (s n).args.input.now (s n).args.size (s n).args.at (k n)
     x-is = λ i. record { first = c.before.before.before.before.before.word.ensures i; second = c.before.before.before.before.word-in-loop-k.ensures i }
 
-all : (c : goal.After-loop-k) → c.before.loop-k.k ≡ c.before.before.before.before.args.count
+all : (c : After-loop-k) → c.before.loop-k.k ≡ c.before.before.before.before.args.count
 all c = omega (arith, c.before.loop-k.invariant.most, c.loop-k-test.false)
 
 pub shape_of-words : goal.shape_of-words

@@ -13,9 +13,10 @@ use mir.Facts.{to_z_pos}
 use Rattle.integers.proofs.Parts.{linear, var, ◌⊖◌}
 use Rattle.integers.proofs.Machine.{Num, literal, binary, binary_need, range_fits}
 use Rattle.frames.specs.Bytes.{sample_of, sample_at}
+use Rattle.frames.proofs.sample.Goals.{After-shared_slice_known-2-1}
 use Rattle.frames.proofs.sample.Goals as goal
 
-module _ (c : goal.After-shared_slice_known-2-1) where
+module _ (c : After-shared_slice_known-2-1) where
   abbrev low : ℕ
   low = get_or c.before.before.args.input.now c.before.before.args.at 0
 

@@ -15,9 +15,10 @@ use Rattle.floats.proofs.Casts.{int_in}
 use Rattle.unit.proofs.Ranges.{input_size}
 use Rattle.frames.specs.Bytes.{word_of, word_at}
 use Rattle.frames.proofs.Bytes.{word_input}
+use Rattle.frames.proofs.word.Goals.{After-sample}
 use Rattle.frames.proofs.word.Goals as goal
 
-module _ (c : goal.After-sample) where
+module _ (c : After-sample) where
   abbrev x : ℤ
   x = word_at c.before.before.args.input.now c.before.before.args.at
 

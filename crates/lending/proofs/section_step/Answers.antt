@@ -14,15 +14,13 @@ use Rattle.section.specs.declared.Section.{Section}
 use Rattle.section.specs.declared.Stepped.{Stepped}
 use Rattle.section.specs.Step.{stepped}
 use Rattle.lending.specs.Layout.{lone_section, lone_numbers, answer_of}
-use Rattle.lending.proofs.section_step.Lts as lts
-use Rattle.lending.proofs.section_step.Reads as reads
-use Rattle.lending.proofs.section_step.Tie as tie
+use Rattle.lending.proofs.section_step.Goals.{After-step-answer, After-struct_told-1, After-y2-1, Start}
 use Rattle.lending.proofs.section_step.Goals as goal
 
 -- ---- the lent numbers, as read
 
-module _ (c : goal.After-y2-1) where
-  abbrev start : goal.Start
+module _ (c : After-y2-1) where
+  abbrev start : Start
   start = c.before.before.before.before.before.before.before
 
   abbrev l : List ℤ
@@ -50,7 +48,7 @@ module _ (c : goal.After-y2-1) where
   y2-reads = reads_back w32 (get_or l 6 (pos 0)) (omega arith)
 
 -- the answer is that of the section as lent
-answer-is : (c : lts.After-step tie.the-claims reads.Pre reads.Post) → c.step-answer.result ≡ stepped (lone_section (l c.before)) (start c.before).args.x
+answer-is : (c : After-step-answer) → c.step-answer.result ≡ stepped (lone_section (l c.before)) (start c.before).args.x
 answer-is c =
     c.step-answer.ensures
     ∙ (λ i. stepped
@@ -63,12 +61,12 @@ answer-is c =
     })
     (to_z-of_z (start s).ranges.x i))
   where
-    s : goal.After-y2-1
+    s : After-y2-1
     s = c.before
 
 -- ---- the numbers of the section after the step, as stored
 
-module _ (c : lts.After-struct_told tie.the-claims reads.Pre reads.Post) where
+module _ (c : After-struct_told-1) where
   abbrev after : Section
   after = c.before.before.step-answer.result.section
 

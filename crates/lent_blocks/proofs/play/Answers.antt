@@ -15,13 +15,11 @@ use Rattle.blocks.specs.Block.{block_verdict, block_played}
 use Rattle.blocks.proofs.Block.{block_accepted, refused-output}
 use Rattle.blocks.proofs.Append.{accepted_unit, accepted_output}
 use Rattle.numbers.specs.Layout.{numbers_of, unit_of}
-use Rattle.lent_blocks.proofs.play.Lts as lts
-use Rattle.lent_blocks.proofs.play.Reads as reads
-use Rattle.lent_blocks.proofs.play.Tie as tie
+use Rattle.lent_blocks.proofs.play.Goals.{After-accepted, After-run, Start}
 use Rattle.lent_blocks.proofs.play.Goals as goal
 
-module _ (c : lts.After-accepted tie.the-claims reads.Pre reads.Post) where
-  abbrev s : lts.Start tie.the-claims reads.Pre reads.Post
+module _ (c : After-accepted) where
+  abbrev s : Start
   s = c.before.before.before.before.before
 
   abbrev l : List ℤ
@@ -61,10 +59,10 @@ returns-then-accepted c =
       output_is = r.run.ensures.bytes ∙ sym (accepted_output channel_count (u a) (input a) (room a) (block_accepted channel_count (u a) (length (input a)) (length (room a)) yes));
     }
   where
-    r : lts.After-run tie.the-claims reads.Pre reads.Post
+    r : After-run
     r = c.before.before
 
-    a : lts.After-accepted tie.the-claims reads.Pre reads.Post
+    a : After-accepted
     a = c.before.before.before.before.before.before.before.before
 
     yes : is_accepted (verdict a) ≡ true

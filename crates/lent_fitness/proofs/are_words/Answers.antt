@@ -13,7 +13,6 @@ use Rattle.words.specs.Words.{is_word}
 use Rattle.bands.specs.Bands.{band_count}
 use Rattle.numbers.specs.Layout.{section_size}
 use borrow.Author.Rules.{rules}
-use Rattle.lent_fitness.proofs.are_words.Tie as tie
 use Rattle.lent_fitness.proofs.are_words.Invariants.{tested}
 use Rattle.lent_fitness.proofs.are_words.Goals as goal
 

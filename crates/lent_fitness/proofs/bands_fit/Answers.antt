@@ -11,14 +11,12 @@ use Rattle.bands.specs.Bands.{band_count, band_at, band_verdict}
 use Rattle.unit.specs.Cleared.{bands_of}
 use Rattle.unit.specs.Fit.{band_fits}
 use Rattle.unit.proofs.PastEnd.{zero_band}
-use Rattle.lent_fitness.proofs.bands_fit.Lts as lts
-use Rattle.lent_fitness.proofs.bands_fit.Reads as reads
-use Rattle.lent_fitness.proofs.bands_fit.Tie as tie
+use Rattle.lent_fitness.proofs.bands_fit.Goals.{After-accepted, At-loop-b}
 use Rattle.lent_fitness.proofs.bands_fit.Goals as goal
 
 -- the test of band b
-module _ (c : lts.After-accepted tie.the-claims reads.Pre reads.Post invariant-loop decreases-loop) where
-  abbrev at : lts.At-loop tie.the-claims reads.Pre reads.Post invariant-loop decreases-loop
+module _ (c : After-accepted) where
+  abbrev at : At-loop-b
   at = c.before.before.before.before
 
   tested : c.accepted.result ≡ band_fits (get_or (bands_of at.before.args.set.now) at.loop-b.b zero_band)

@@ -13,13 +13,11 @@ use Rattle.unit.specs.Cleared.{bands_of}
 use Rattle.unit.specs.Fit.{band_fits, unit_fits}
 use Rattle.numbers.specs.Layout.{bands_place, unit_of}
 use borrow.Author.Rules.{rules}
-use Rattle.lent_fitness.proofs.is_fit.Lts as lts
-use Rattle.lent_fitness.proofs.is_fit.Reads as reads
-use Rattle.lent_fitness.proofs.is_fit.Tie as tie
+use Rattle.lent_fitness.proofs.is_fit.Goals.{After-bands_fit}
 use Rattle.lent_fitness.proofs.is_fit.Goals as goal
 
 -- the bands tested are those of the unit
-module _ (c : lts.After-bands_fit tie.the-claims reads.Pre reads.Post) where
+module _ (c : After-bands_fit) where
   abbrev l : List ℤ
   l = c.before.before.before.before.before.args.numbers.now
 

@@ -18,7 +18,6 @@ use Rattle.unit.specs.Cleared.{cleared_band_section}
 use Rattle.numbers.specs.Layout.{head_size, section_size, place, section_at, channel_of}
 use Rattle.lent_fitness.specs.Remainders.{remainder_within}
 use borrow.Author.Rules.{rules}
-use Rattle.lent_fitness.proofs.remainders_fit.Tie as tie
 use Rattle.lent_fitness.proofs.remainders_fit.Goals as goal
 
 pub loop-b-preserved : goal.loop-b-preserved

@@ -15,11 +15,12 @@ use Rattle.unit.specs.Fit.{is_remainder, is_plain}
 use Rattle.numbers.specs.Layout.{head_size, section_size, channel_of}
 use Rattle.lent_fitness.proofs.Laws.{remainder_fits, sections_fit_lem}
 use borrow.Author.Rules.{rules}
+use Rattle.lent_fitness.proofs.sections_fit.Goals.{After-remainders_fit-plain, Start}
 use Rattle.lent_fitness.proofs.sections_fit.Goals as goal
 
 -- the three tests are those of the channel's sections
-module _ (c : goal.After-remainders_fit-plain) where
-  abbrev s : goal.Start
+module _ (c : After-remainders_fit-plain) where
+  abbrev s : Start
   s = c.before.before.before
 
   abbrev l : List ℤ

@@ -13,9 +13,7 @@ use Rattle.settings.proofs.Laws.{place-below}
 use Rattle.lent_orders.specs.Places.{volume_target}
 use Rattle.lent_orders.proofs.Aimed.{named, named_size, numbers_named, numbers_volume}
 use borrow.Author.Rules.{rules}
-use Rattle.lent_orders.proofs.aim.Lts as lts
-use Rattle.lent_orders.proofs.aim.Reads as reads
-use Rattle.lent_orders.proofs.aim.Tie as tie
+use Rattle.lent_orders.proofs.aim.Goals.{After-aim_named, Else-band-eq-VOLUME_BAND, Start}
 use Rattle.lent_orders.proofs.aim.Goals as goal
 
 pub returns-then-band-eq-VOLUME_BAND : goal.returns-then-band-eq-VOLUME_BAND
@@ -25,12 +23,12 @@ returns-then-band-eq-VOLUME_BAND c =
     ∙ numbers_volume s.args.side s.args.band s.args.target s.args.numbers.now s.requires.0 c.if-band-eq-VOLUME_BAND.true
 
 -- one of the ten bands is named
-below : (c : lts.Else1 tie.the-claims reads.Pre reads.Post) → c.before.args.band < band_count
+below : (c : Else-band-eq-VOLUME_BAND) → c.before.args.band < band_count
 below c = place-below channel_count c.before.args.side c.before.args.band c.before.requires.1 c.if-band-eq-VOLUME_BAND.false
 
 -- what the first call leaves
-module _ (c : lts.After-aim_named tie.the-claims reads.Pre reads.Post) where
-  abbrev s : lts.Start tie.the-claims reads.Pre reads.Post
+module _ (c : After-aim_named) where
+  abbrev s : Start
   s = c.before.before.before
 
   abbrev l : List ℤ
@@ -57,7 +55,7 @@ returns c =
     ∙ ap (named side band (s f).args.target 1) (left_is f)
     ∙ numbers_named side band (s f).args.target (l f) (s f).requires.0 (below f.before.before)
   where
-    f : lts.After-aim_named tie.the-claims reads.Pre reads.Post
+    f : After-aim_named
     f = c.before.before
 
     side : ℕ

@@ -20,14 +20,12 @@ use Rattle.orders.specs.Orders.{aimed_unit, ordered}
 use Rattle.orders.proofs.Laws.{ordered_unfit, ordered-refused, ordered_accepted}
 use Rattle.numbers.specs.Layout.{numbers_of, unit_of, numbers_after}
 use borrow.Author.Rules.{rules}
-use Rattle.lent_orders.proofs.order.Lts as lts
-use Rattle.lent_orders.proofs.order.Reads as reads
-use Rattle.lent_orders.proofs.order.Tie as tie
+use Rattle.lent_orders.proofs.order.Goals.{After-accepted, After-is_fit, After-target_of-target, Else-not-accepted, Start}
 use Rattle.lent_orders.proofs.order.Goals as goal
 
 -- the answer of the definition, and what it tells
-module _ (c : lts.After-is_fit tie.the-claims reads.Pre reads.Post) where
-  abbrev s : goal.Start
+module _ (c : After-is_fit) where
+  abbrev s : Start
   s = c.before.before
 
   abbrev l : List ℤ
@@ -40,8 +38,8 @@ module _ (c : lts.After-is_fit tie.the-claims reads.Pre reads.Post) where
   tells v e n = (v ∙ sym (ap (λ (o : Ordered). o.verdict) e), n ∙ sym (ap (λ (o : Ordered). numbers_after l o.verdict o.unit) e))
 
 -- what the tests have shown
-module _ (c : lts.After-accepted tie.the-claims reads.Pre reads.Post) where
-  abbrev f : lts.After-is_fit tie.the-claims reads.Pre reads.Post
+module _ (c : After-accepted) where
+  abbrev f : After-is_fit
   f = c.before.before.before
 
   abbrev verdict : Verdict
@@ -53,12 +51,12 @@ module _ (c : lts.After-accepted tie.the-claims reads.Pre reads.Post) where
   arguments-test : c.accepted.result ≡ is_accepted verdict
   arguments-test = c.accepted.ensures ∙ ap is_accepted c.before.check_order-verdict.ensures
 
-arguments-right : (c : goal.Else-not-accepted) → is_accepted (verdict c.before) ≡ true
+arguments-right : (c : Else-not-accepted) → is_accepted (verdict c.before) ≡ true
 arguments-right c = sym (arguments-test c.before) ∙ not-false _ c.if-not-accepted.false
 
 -- the target is a word, which loses nothing in 32 bits
-module _ (c : lts.After-target_of tie.the-claims reads.Pre reads.Post) where
-  abbrev o : lts.After-is_fit tie.the-claims reads.Pre reads.Post
+module _ (c : After-target_of-target) where
+  abbrev o : After-is_fit
   o = f c.before.before
 
   target-size : nat_abs c.target_of-target.result ≤ word_size
@@ -99,7 +97,7 @@ returns c =
     ∙ ap after (narrow_reads g.target_of-target.result (target-size g) ∙ g.target_of-target.ensures)
     ∙ passed (is_accepted (verdict g.before.before)) (after (target_of (s (o g)).args.band (s (o g)).args.setting)) (l (o g)) (arguments-right g.before))
   where
-    g : lts.After-target_of tie.the-claims reads.Pre reads.Post
+    g : After-target_of-target
     g = c.before.before.before.before
 
     after : ℤ → List ℤ

@@ -16,9 +16,7 @@ use Rattle.engine.specs.Layout.{side_count, put_sides}
 use Rattle.packing.specs.Packing.{float_sides}
 use Rattle.lent_packing.specs.Runs.{number_at, PutRunsGives}
 use Rattle.lent_packing.proofs.Runs.{put_begin, put_more}
-use Rattle.lent_packing.proofs.put_runs.Lts as lts
-use Rattle.lent_packing.proofs.put_runs.Reads as reads
-use Rattle.lent_packing.proofs.put_runs.Tie as tie
+use Rattle.lent_packing.proofs.put_runs.Goals.{Start}
 use Rattle.lent_packing.proofs.put_runs.Goals as goal
 
 pub loop-k-init : goal.loop-k-init
@@ -34,7 +32,7 @@ loop-k-preserved c = (
       (le_trans (nat_abs-le z {H = 2 ^ 31} (omega arith)) (lit≤ tt))),
 )
   where
-    s : lts.Start tie.the-claims reads.Pre reads.Post invariant-loop decreases-loop
+    s : Start
     s = c.before.before.before.before.before.before.before.before.before.before
 
     k : ℕ
@@ -57,7 +55,7 @@ returns c =
     subst (λ (n : ℕ). PutRunsGives s.args.at s.args.first s.args.second n s.args.floats-1.now s.args.numbers.now c.before.loop-k.floats-1) all
     c.before.loop-k.invariant.1
   where
-    s : lts.Start tie.the-claims reads.Pre reads.Post invariant-loop decreases-loop
+    s : Start
     s = c.before.before.before
 
     all : c.before.loop-k.k ≡ s.args.count

@@ -12,12 +12,10 @@ use Rattle.engine.specs.Floats.{Carries, float_at}
 use Rattle.engine.specs.Layout.{pair_floats}
 use Rattle.lent_packing.proofs.Carry.{pair_carries}
 use Rattle.lent_packing.proofs.Stored.{stored}
-use Rattle.lent_packing.proofs.store.Lts as lts
-use Rattle.lent_packing.proofs.store.Reads as reads
-use Rattle.lent_packing.proofs.store.Tie as tie
+use Rattle.lent_packing.proofs.store.Goals.{Start}
 use Rattle.lent_packing.proofs.store.Goals as goal
 
-all-carry : (s : lts.Start tie.the-claims reads.Pre reads.Post) → (j : ℕ) → j < pair_floats → Carries (float_at s.args.pair.now j) word_size
+all-carry : (s : Start) → (j : ℕ) → j < pair_floats → Carries (float_at s.args.pair.now j) word_size
 all-carry s = pair_carries s.args.pair.now s.requires.size s.requires.whole s.requires.first_fit s.requires.second_fit
 
 pub take_runs-requires : goal.take_runs-requires
@@ -47,5 +45,5 @@ returns c =
     (reads_back w32 c.before.before.before.before.whole_of-target.result (omega arith) ∙ c.before.before.before.before.whole_of-target.ensures)
     c.before.before.Take-runs.new.0 c.take_runs-2.new.0 c.before.before.Take-runs.ensures c.take_runs-2.ensures
   where
-    s : lts.Start tie.the-claims reads.Pre reads.Post
+    s : Start
     s = c.before.before.before.before.before.before.before

@@ -8,9 +8,7 @@ use Rattle.integers.proofs.Machine.{reads_back}
 use Rattle.engine.specs.Layout.{side_count}
 use Rattle.lent_packing.specs.Runs.{TakeRunsGives}
 use Rattle.lent_packing.proofs.Runs.{take_begin, take_more}
-use Rattle.lent_packing.proofs.take_runs.Lts as lts
-use Rattle.lent_packing.proofs.take_runs.Reads as reads
-use Rattle.lent_packing.proofs.take_runs.Tie as tie
+use Rattle.lent_packing.proofs.take_runs.Goals.{Start}
 use Rattle.lent_packing.proofs.take_runs.Goals as goal
 
 pub loop-k-init : goal.loop-k-init
@@ -32,7 +30,7 @@ loop-k-preserved c = (
       (reads_back w32 c.whole_of-right.result (omega arith) ∙ c.whole_of-right.ensures),
 )
   where
-    s : lts.Start tie.the-claims reads.Pre reads.Post invariant-loop decreases-loop
+    s : Start
     s = c.before.before.before.before.before.before.before
 
     k : ℕ
@@ -43,7 +41,7 @@ returns c =
     subst (λ (n : ℕ). TakeRunsGives s.args.at s.args.first s.args.second n s.args.numbers.now s.args.pair.now c.before.loop-k.numbers) all
     c.before.loop-k.invariant.1
   where
-    s : lts.Start tie.the-claims reads.Pre reads.Post invariant-loop decreases-loop
+    s : Start
     s = c.before.before.before
 
     all : c.before.loop-k.k ≡ s.args.count

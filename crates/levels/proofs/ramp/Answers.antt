@@ -14,6 +14,7 @@ use Rattle.integers.proofs.Abs.{abs_le, mag_low, mag_high}
 use Rattle.integers.proofs.Machine.{Num, num, binary, binary_need, range_fits, test_of}
 use Rattle.levels.specs.Levels.{ramp}
 use Rattle.levels.proofs.Laws.{ramp_arrives, ramp_more_up, ramp_more_down}
+use Rattle.levels.proofs.ramp.Goals.{Else-present-step, Else-step-present, Start}
 use Rattle.levels.proofs.ramp.Goals as goal
 
 -- the ends of 64 bits
@@ -33,7 +34,7 @@ Low = record { bits = 9223372036854775808; value = low; reads = refl }
 ends-fit : (z : ℤ) → low ≤ℤ z → z ≤ℤ high → SFits w64 z
 ends-fit z l h = range_fits z (omega linear) (omega linear)
 
-module _ (s : goal.Start) where
+module _ (s : Start) where
   abbrev present : ℤ
   present = s.args.present
 
@@ -96,8 +97,8 @@ returns-then-step-present c =
     ∙ arrives-up s (omega (linear, lt_z_true (present s) (target s) (test_of lt_z (Present s) (Target s) c.before.if-present-target.true)))
     (omega (linear, gone, mag_high (target s) s.ranges.target.sfits, (var high ⊖ var (pos (slope s))).tie, (var (present s) ⊕ var (pos (slope s))).tie))
 
-module _ (c : goal.Else-step-present) where
-  abbrev s₂ : goal.Start
+module _ (c : Else-step-present) where
+  abbrev s₂ : Start
   s₂ = c.before.before
 
   up_fits : SFits w64 (present s₂ +ℤ pos (slope s₂))
@@ -138,8 +139,8 @@ returns-then-present-step c =
     ∙ arrives-down s (lt_z_false (present s) (target s) (test_of lt_z (Present s) (Target s) c.before.if-present-target.false))
     (omega (linear, gone, mag_low (target s) s.ranges.target.sfits, (var low ⊕ var (pos (slope s))).tie, (var (present s) ⊖ var (pos (slope s))).tie))
 
-module _ (c : goal.Else-present-step) where
-  abbrev s₄ : goal.Start
+module _ (c : Else-present-step) where
+  abbrev s₄ : Start
   s₄ = c.before.before
 
   down_fits : SFits w64 (present s₄ -ℤ pos (slope s₄))

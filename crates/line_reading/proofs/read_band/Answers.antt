@@ -15,9 +15,7 @@ use Rattle.sheet.specs.Lines.{band_letter, band_ranges, band_joint}
 use Rattle.line_reading.specs.Gives.{FieldsGive}
 use Rattle.line_reading.proofs.Fields.{any_fields}
 use Rattle.line_reading.proofs.Line.{room_from, letter_refused, fields_refused, numbers_there, line_ended}
-use Rattle.line_reading.proofs.read_band.Lts as lts
-use Rattle.line_reading.proofs.read_band.Reads as reads
-use Rattle.line_reading.proofs.read_band.Tie as tie
+use Rattle.line_reading.proofs.read_band.Goals.{After-read_fields-middle, Else-not-accepted, Start}
 use Rattle.line_reading.proofs.read_band.Goals as goal
 
 pub returns-then-not-accepted : goal.returns-then-not-accepted
@@ -28,8 +26,8 @@ returns-then-not-accepted c =
 
 -- ---- the letter accepted
 
-module _ (c : goal.Else-not-accepted) where
-  abbrev start : lts.Start tie.the-claims reads.Pre reads.Post
+module _ (c : Else-not-accepted) where
+  abbrev start : Start
   start = c.before.before.before.before
 
   abbrev bytes : List ℕ
@@ -47,8 +45,8 @@ read_fields-middle-requires c = (omega (arith, room c.before), (start c.before).
 
 -- ---- the fields read
 
-module _ (c : lts.After-read_fields tie.the-claims reads.Pre reads.Post) where
-  abbrev o : goal.Else-not-accepted
+module _ (c : After-read_fields-middle) where
+  abbrev o : Else-not-accepted
   o = c.before.before
 
   abbrev after : List ℤ

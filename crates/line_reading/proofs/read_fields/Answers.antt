@@ -20,15 +20,13 @@ use Rattle.forms.specs.Line.{field_verdict}
 use Rattle.line_reading.specs.Gives.{FieldsGive}
 use Rattle.line_reading.proofs.Field.{field_badly, field_number, field_tested}
 use Rattle.line_reading.proofs.Fields.{ReadUpTo, none_read_yet, all_read, read_off, read_on}
-use Rattle.line_reading.proofs.read_fields.Lts as lts
-use Rattle.line_reading.proofs.read_fields.Reads as reads
-use Rattle.line_reading.proofs.read_fields.Tie as tie
+use Rattle.line_reading.proofs.read_fields.Goals.{After-in_range_i32, After-read_field-number, Start}
 use Rattle.line_reading.proofs.read_fields.Invariants.{range_of}
 use Rattle.line_reading.proofs.read_fields.Goals as goal
 
 -- the range's ends are given by their bits
 
-module _ (c : lts.Start tie.the-claims reads.Pre reads.Post invariant-loop decreases-loop) where
+module _ (c : Start) where
   abbrev range : ℤ → Bool
   range = range_of (of_z w32 c.args.low) (of_z w32 c.args.high)
 
@@ -46,8 +44,8 @@ loop-i-init c =
 
 -- ---- the ith field read
 
-module _ (c : lts.After-read_field tie.the-claims reads.Pre reads.Post invariant-loop decreases-loop) where
-  abbrev start : lts.Start tie.the-claims reads.Pre reads.Post invariant-loop decreases-loop
+module _ (c : After-read_field-number) where
+  abbrev start : Start
   start = c.before.before.before.before
 
   abbrev bytes : List ℕ
@@ -82,8 +80,8 @@ returns-then-number-eq-NO_NUMBER c =
 
 -- ---- its number tested
 
-module _ (c : lts.After-in_range_i32 tie.the-claims reads.Pre reads.Post invariant-loop decreases-loop) where
-  abbrev o : lts.After-read_field tie.the-claims reads.Pre reads.Post invariant-loop decreases-loop
+module _ (c : After-in_range_i32) where
+  abbrev o : After-read_field-number
   o = c.before.before
 
   tested : (t : Bool) → c.in_range_i32.result ≡ t → field_verdict (range (start o)) (field_at (bytes o) (here o)) ≡ unless t Unfit Accepted

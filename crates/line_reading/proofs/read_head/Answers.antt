@@ -11,9 +11,7 @@ use Rattle.refusals.specs.Numbers.{is_accepted}
 use Rattle.forms.specs.Line.{line_size, alone}
 use Rattle.sheet.specs.Lines.{head_ranges}
 use Rattle.line_reading.proofs.Line.{room_from, letter_refused, fields_refused, line_ended}
-use Rattle.line_reading.proofs.read_head.Lts as lts
-use Rattle.line_reading.proofs.read_head.Reads as reads
-use Rattle.line_reading.proofs.read_head.Tie as tie
+use Rattle.line_reading.proofs.read_head.Goals.{Else-not-accepted, Start}
 use Rattle.line_reading.proofs.read_head.Goals as goal
 
 pub returns-then-not-accepted : goal.returns-then-not-accepted
@@ -24,8 +22,8 @@ returns-then-not-accepted c =
 
 -- ---- the letter accepted
 
-module _ (c : goal.Else-not-accepted) where
-  abbrev start : lts.Start tie.the-claims reads.Pre reads.Post
+module _ (c : Else-not-accepted) where
+  abbrev start : Start
   start = c.before.before.before.before
 
   abbrev bytes : List ℕ

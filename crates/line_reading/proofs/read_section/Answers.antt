@@ -13,9 +13,7 @@ use Rattle.sheet.specs.Lines.{section_letter, section_ranges}
 use Rattle.sheet.proofs.Sizes.{few_fields}
 use Rattle.line_reading.specs.Gives.{five_of}
 use Rattle.line_reading.proofs.Line.{room_from, letter_refused, fields_refused, line_ended}
-use Rattle.line_reading.proofs.read_section.Lts as lts
-use Rattle.line_reading.proofs.read_section.Reads as reads
-use Rattle.line_reading.proofs.read_section.Tie as tie
+use Rattle.line_reading.proofs.read_section.Goals.{Else-not-accepted, Start}
 use Rattle.line_reading.proofs.read_section.Goals as goal
 
 pub check_letter-front-requires : goal.check_letter-front-requires
@@ -32,8 +30,8 @@ returns-then-not-accepted c =
 
 -- ---- the letter accepted
 
-module _ (c : goal.Else-not-accepted) where
-  abbrev start : lts.Start tie.the-claims reads.Pre reads.Post
+module _ (c : Else-not-accepted) where
+  abbrev start : Start
   start = c.before.before.before.before.before
 
   abbrev bytes : List ℕ

@@ -12,9 +12,7 @@ use Rattle.forms.specs.Line.{line_size, alone}
 use Rattle.unit.specs.Fit.{is_volume}
 use Rattle.sheet.specs.Lines.{volume_letter, volume_ranges}
 use Rattle.line_reading.proofs.Line.{room_from, letter_refused, fields_refused, line_ended}
-use Rattle.line_reading.proofs.read_volume.Lts as lts
-use Rattle.line_reading.proofs.read_volume.Reads as reads
-use Rattle.line_reading.proofs.read_volume.Tie as tie
+use Rattle.line_reading.proofs.read_volume.Goals.{Else-not-accepted, Start}
 use Rattle.line_reading.proofs.read_volume.Goals as goal
 
 pub returns-then-not-accepted : goal.returns-then-not-accepted
@@ -25,8 +23,8 @@ returns-then-not-accepted c =
 
 -- ---- the letter accepted
 
-module _ (c : goal.Else-not-accepted) where
-  abbrev start : lts.Start tie.the-claims reads.Pre reads.Post
+module _ (c : Else-not-accepted) where
+  abbrev start : Start
   start = c.before.before.before.before
 
   abbrev bytes : List ℕ

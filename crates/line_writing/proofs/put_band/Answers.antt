@@ -8,9 +8,7 @@ use borrow.Author.Rules.{rules}
 use Rattle.integers.proofs.Machine.{reads_back}
 use Rattle.forms.specs.Line.{line_text}
 use Rattle.sheet.specs.Lines.{band_letter}
-use Rattle.line_writing.proofs.put_band.Lts as lts
-use Rattle.line_writing.proofs.put_band.Reads as reads
-use Rattle.line_writing.proofs.put_band.Tie as tie
+use Rattle.line_writing.proofs.put_band.Goals.{Start}
 use Rattle.line_writing.proofs.put_band.Goals as goal
 
 pub returns : goal.returns
@@ -18,5 +16,5 @@ returns c =
     c.before.before.put_line.ensures
     ∙ (λ i. sets s.args.out-1.now s.args.at (line_text band_letter (reads_back w32 s.args.band.alpha (omega arith) i ∷ reads_back w32 s.args.band.beta (omega arith) i ∷ reads_back w32 s.args.band.gamma (omega arith) i ∷ [])))
   where
-    s : lts.Start tie.the-claims reads.Pre reads.Post
+    s : Start
     s = c.before.before.before.before.before.before.before.before.before

@@ -13,14 +13,14 @@ use Rattle.integers.proofs.Machine.{reads_back}
 use Rattle.lists.specs.Lists.{joined}
 use Rattle.fields.specs.Fields.{field_size, field}
 use Rattle.line_writing.proofs.Runs.{field_put}
-use Rattle.line_writing.proofs.put_fields.Tie as tie
+use Rattle.line_writing.proofs.put_fields.Goals.{After-slice_known-in-loop-i-1}
 use Rattle.line_writing.proofs.put_fields.Invariants.{)}
 use Rattle.line_writing.proofs.put_fields.Goals as goal
 
 pub put_field-requires : goal.put_field-requires
 put_field-requires c = omega (arith, simp length-sets at (ap length c.before.before.before.loop-i.invariant.1)
 -- a turn writes field i
-module _ (c : goal.After-slice_known-in-loop-i-1) where
+module _ (c : After-slice_known-in-loop-i-1) where
   abbrev i : ℕ
   i = c.before.before.before.before.before.before.loop-i.i
 

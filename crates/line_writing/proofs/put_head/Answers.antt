@@ -5,9 +5,7 @@ use lib.Seq.{sets}
 use mir.Facts.{to_z-of_z}
 use borrow.Author.Rules.{rules}
 use Rattle.forms.specs.Line.{line_text}
-use Rattle.line_writing.proofs.put_head.Lts as lts
-use Rattle.line_writing.proofs.put_head.Reads as reads
-use Rattle.line_writing.proofs.put_head.Tie as tie
+use Rattle.line_writing.proofs.put_head.Goals.{Start}
 use Rattle.line_writing.proofs.put_head.Goals as goal
 
 pub returns : goal.returns
@@ -15,5 +13,5 @@ returns c =
     c.before.before.put_line.ensures
     ∙ (λ i. sets s.args.out-1.now s.args.at (line_text s.args.letter (to_z-of_z s.ranges.x1 i ∷ to_z-of_z s.ranges.x2 i ∷ to_z-of_z s.ranges.flag i ∷ [])))
   where
-    s : lts.Start tie.the-claims reads.Pre reads.Post
+    s : Start
     s = c.before.before.before.before.before.before

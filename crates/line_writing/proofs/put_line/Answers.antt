@@ -11,9 +11,7 @@ use Rattle.fields.specs.Fields.{field_size, field}
 use Rattle.forms.specs.Line.{line_feed}
 use Rattle.forms.proofs.Line.{fields_length}
 use Rattle.line_writing.proofs.Runs.{parts_put}
-use Rattle.line_writing.proofs.put_line.Lts as lts
-use Rattle.line_writing.proofs.put_line.Reads as reads
-use Rattle.line_writing.proofs.put_line.Tie as tie
+use Rattle.line_writing.proofs.put_line.Goals.{After-slice_known-2-1, Start}
 use Rattle.line_writing.proofs.put_line.Goals as goal
 
 pub put_fields-requires : goal.put_fields-requires
@@ -26,7 +24,7 @@ pub shape_of-out : goal.shape_of-out
 shape_of-out c = simp length-set (c.before.before.put_fields.auto.0 ∙ simp length-set)
 
 -- the fields end where the line feed stands
-module _ (c : goal.After-slice_known-2-1) where
+module _ (c : After-slice_known-2-1) where
   abbrev at : ℕ
   at = c.before.before.before.before.before.args.at
 
@@ -41,5 +39,5 @@ returns c =
     ap (λ (l : List ℕ). set l (at c + 1 + field_size * length (row c)) line_feed) c.before.before.put_fields.ensures
     ∙ parts_put s.args.out-1.now (at c) s.args.letter (joined field (row c)) line_feed (at c + 1 + field_size * length (row c)) (fields-end c)
   where
-    s : lts.Start tie.the-claims reads.Pre reads.Post
+    s : Start
     s = c.before.before.before.before.before

@@ -13,14 +13,12 @@ use Rattle.unit.proofs.Ranges.{remainder-size}
 use Rattle.forms.specs.Line.{line_size, line_text}
 use Rattle.sheet.specs.Lines.{section_letter, section_ranges, row_size}
 use Rattle.sheet.proofs.Sizes.{few_fields, row_front}
-use Rattle.line_writing.proofs.put_section.Lts as lts
-use Rattle.line_writing.proofs.put_section.Reads as reads
-use Rattle.line_writing.proofs.put_section.Tie as tie
+use Rattle.line_writing.proofs.put_section.Goals.{After-section_fields-count, Start}
 use Rattle.line_writing.proofs.put_section.Goals as goal
 
 -- ---- no number is larger than a word
 
-module _ (s : lts.Start tie.the-claims reads.Pre reads.Post) where
+module _ (s : Start) where
   y1-size : nat_abs s.args.section.y1 ≤ word_size
   y1-size = word_size_lem s.args.section.y1 s.requires.1.y1
 
@@ -58,7 +56,7 @@ pub overflow_cast-remainder : goal.overflow_cast-remainder
 overflow_cast-remainder c = narrow_need c.before.before.before.before.before.before.before.before.before.before.before.args.section.remainder (remainder-small c.before.before.before.before.before.before.before.before.before.before.before)
 
 -- the line has at most five fields
-few : (c : lts.After-section_fields tie.the-claims reads.Pre reads.Post) → c.section_fields-count.result ≤ row_size
+few : (c : After-section_fields-count) → c.section_fields-count.result ≤ row_size
 few c = omega (arith, c.section_fields-count.ensures, few_fields c.before.before.before.before.before.before.before.before.before.before.before.before.args.fifth)
 
 pub slice_bounds-row-end : goal.slice_bounds-row-end
@@ -81,5 +79,5 @@ returns c = (
   ap (λ (n : ℕ). s.args.at + n) c.section_line.ensures,
 )
   where
-    s : lts.Start tie.the-claims reads.Pre reads.Post
+    s : Start
     s = c.before.before.before.before.before.before.before.before.before.before.before.before.before.before.before.before.before.before

@@ -10,14 +10,12 @@ use Rattle.words.proofs.Laws.{narrow_need, narrow_reads}
 use Rattle.unit.proofs.Ranges.{volume_size}
 use Rattle.forms.specs.Line.{line_text}
 use Rattle.sheet.specs.Lines.{volume_letter}
-use Rattle.line_writing.proofs.put_volume.Lts as lts
-use Rattle.line_writing.proofs.put_volume.Reads as reads
-use Rattle.line_writing.proofs.put_volume.Tie as tie
+use Rattle.line_writing.proofs.put_volume.Goals.{Start}
 use Rattle.line_writing.proofs.put_volume.Goals as goal
 
 -- ---- no number is larger than a word
 
-module _ (s : lts.Start tie.the-claims reads.Pre reads.Post) where
+module _ (s : Start) where
   present-size : nat_abs s.args.volume.present ≤ word_size
   present-size = volume_size s.args.volume.present s.requires.1.present
 
@@ -37,5 +35,5 @@ returns c =
     c.before.before.put_line.ensures
     ∙ (λ i. sets s.args.out-1.now s.args.at (line_text volume_letter (narrow_reads s.args.volume.present (present-size s) i ∷ narrow_reads s.args.volume.target (target-size s) i ∷ [])))
   where
-    s : lts.Start tie.the-claims reads.Pre reads.Post
+    s : Start
     s = c.before.before.before.before.before.before.before.before.before.before

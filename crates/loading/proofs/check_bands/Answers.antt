@@ -12,14 +12,12 @@ use Rattle.refusals.proofs.Laws.{first_accepted, first_refused}
 use Rattle.bands.specs.Bands.{band_count}
 use Rattle.unit.specs.Fit.{bands_verdict}
 use Rattle.unit.proofs.PastEnd.{zero_band}
-use Rattle.loading.proofs.check_bands.Lts as lts
-use Rattle.loading.proofs.check_bands.Reads as reads
-use Rattle.loading.proofs.check_bands.Tie as tie
+use Rattle.loading.proofs.check_bands.Goals.{After-accepted, At-loop-i}
 use Rattle.loading.proofs.check_bands.Goals as goal
 
 -- the verdict from band i on
-module _ (c : lts.After-accepted tie.the-claims reads.Pre reads.Post invariant-loop decreases-loop) where
-  abbrev turn : lts.At-loop tie.the-claims reads.Pre reads.Post invariant-loop decreases-loop
+module _ (c : After-accepted) where
+  abbrev turn : At-loop-i
   turn = c.before.before.before.before
 
   abbrev behind : Verdict

@@ -12,20 +12,18 @@ use Rattle.loading.specs.Loading.{set_verdict, cleared_with}
 use Rattle.loading.proofs.Laws.{accepted_set, loaded_accepted, loaded-refused}
 use native.Mathlib.Omega.{arith}
 use borrow.Author.Rules.{rules}
-use Rattle.loading.proofs.load.Lts as lts
-use Rattle.loading.proofs.load.Reads as reads
-use Rattle.loading.proofs.load.Tie as tie
+use Rattle.loading.proofs.load.Goals.{After-accepted, Else-not-accepted}
 use Rattle.loading.proofs.load.Goals as goal
 
 -- the test is that of the set's verdict
-module _ (c : lts.After-accepted tie.the-claims reads.Pre reads.Post) where
+module _ (c : After-accepted) where
   abbrev the-set : List ℤ
   the-set = c.before.before.args.set.now
 
   set-test : c.accepted.result ≡ is_accepted (set_verdict the-set)
   set-test = c.accepted.ensures ∙ ap is_accepted c.before.check_set-verdict.ensures
 
-set-right : (c : goal.Else-not-accepted) → is_accepted (set_verdict (the-set c.before)) ≡ true
+set-right : (c : Else-not-accepted) → is_accepted (set_verdict (the-set c.before)) ≡ true
 set-right c = sym (set-test c.before) ∙ not-false _ c.if-not-accepted.false
 
 pub returns-then-not-accepted : goal.returns-then-not-accepted

@@ -6,9 +6,10 @@ use mir.Syntax.{w32}
 use mir.Val.{SFits}
 use Rattle.integers.proofs.Machine.{widened, widen_need}
 use borrow.Author.Rules.{rules}
+use Rattle.numbers.proofs.number_at.Goals.{After-result-1}
 use Rattle.numbers.proofs.number_at.Goals as goal
 
-fits : (c : goal.After-result-1) → SFits w32 (get_or c.before.args.numbers.now c.before.args.at (pos 0))
+fits : (c : After-result-1) → SFits w32 (get_or c.before.args.numbers.now c.before.args.at (pos 0))
 fits c = record { sfits = omega arith }
 
 pub overflow_cast-result : goal.overflow_cast-result

@@ -4,11 +4,10 @@ use mir.Syntax.{w32}
 use Rattle.integers.proofs.Machine.{reads_back}
 use Rattle.numbers.proofs.Put.{put_three_lem}
 use borrow.Author.Rules.{rules}
-use Rattle.numbers.proofs.put_band.Lts as lts
-use Rattle.numbers.proofs.put_band.Reads as reads
+use Rattle.numbers.proofs.put_band.Goals.{After-struct_told-3-1, Start}
 use Rattle.numbers.proofs.put_band.Goals as goal
 
-abbrev start : goal.After-struct_told-3-1 → lts.Start reads.Pre reads.Post
+abbrev start : After-struct_told-3-1 → Start
 start c = c.before.before.before
 
 pub returns : goal.returns

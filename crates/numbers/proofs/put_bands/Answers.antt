@@ -8,7 +8,6 @@ use Rattle.bands.specs.Bands.{band_count}
 use Rattle.unit.proofs.PastEnd.{zero_band}
 use Rattle.numbers.specs.Layout.{bands_place, left_place, band_numbers, PutGives}
 use Rattle.numbers.proofs.Put.{put_none, put_entry, put_entries}
-use Rattle.numbers.proofs.put_bands.Tie as tie
 use Rattle.numbers.proofs.put_bands.Invariants.{)}
 use Rattle.numbers.proofs.put_bands.Goals as goal
 

@@ -14,14 +14,12 @@ use Rattle.unit.proofs.Ranges.{input_size, flag-size}
 use Rattle.numbers.specs.Layout.{head_size, section_size, channel_size, channel_numbers, PutGives}
 use Rattle.numbers.proofs.Put.{put_three_lem, put_then}
 use borrow.Author.Rules.{rules}
-use Rattle.numbers.proofs.put_channel.Lts as lts
-use Rattle.numbers.proofs.put_channel.Reads as reads
-use Rattle.numbers.proofs.put_channel.Tie as tie
+use Rattle.numbers.proofs.put_channel.Goals.{After-sections-1, Start}
 use Rattle.numbers.proofs.put_channel.Goals as goal
 
 -- ---- the channel's own numbers are no larger than a word
 
-module _ (s : lts.Start tie.the-claims reads.Pre reads.Post) where
+module _ (s : Start) where
   x1-size : nat_abs s.args.channel.x1 ≤ word_size
   x1-size = input_size s.args.channel.x1 s.requires.2.x1
 
@@ -33,8 +31,8 @@ module _ (s : lts.Start tie.the-claims reads.Pre reads.Post) where
 
 -- ---- and stored ahead of the sections
 
-module _ (c : goal.After-sections-1) where
-  abbrev start : lts.Start tie.the-claims reads.Pre reads.Post
+module _ (c : After-sections-1) where
+  abbrev start : Start
   start = c.before.before.before.before.before.before.before
 
   abbrev stored : List ℤ
@@ -71,7 +69,7 @@ returns c =
     subst (λ (n : ℕ). PutGives s.args.out.now s.args.start (channel_numbers s.args.channel) n c.put_sections.new.0) all
     (put_then (ahead c.before.before) c.put_sections.ensures)
   where
-    s : lts.Start tie.the-claims reads.Pre reads.Post
+    s : Start
     s = start c.before.before
 
     all : s.args.start + head_size + section_size * band_count ≡ s.args.start + channel_size

@@ -8,13 +8,12 @@ use Rattle.unit.specs.Fit.{SectionFit}
 use Rattle.unit.proofs.Ranges.{remainder-size}
 use Rattle.numbers.proofs.Put.{put_five}
 use borrow.Author.Rules.{rules}
-use Rattle.numbers.proofs.put_section.Lts as lts
-use Rattle.numbers.proofs.put_section.Reads as reads
+use Rattle.numbers.proofs.put_section.Goals.{After-struct_told-5-1, Start}
 use Rattle.numbers.proofs.put_section.Goals as goal
 
 -- ---- the section's numbers are no larger than a word
 
-module _ (s : lts.Start reads.Pre reads.Post) where
+module _ (s : Start) where
   abbrev fit : SectionFit s.args.section
   fit = s.requires.2
 
@@ -33,7 +32,7 @@ module _ (s : lts.Start reads.Pre reads.Post) where
   the-remainder-size : nat_abs s.args.section.remainder ≤ word_size
   the-remainder-size = omega (arith, remainder-size s.args.section.remainder fit.remainder)
 
-abbrev start : goal.After-struct_told-5-1 → lts.Start reads.Pre reads.Post
+abbrev start : After-struct_told-5-1 → Start
 start c = c.before.before.before.before.before.before.before.before.before.before
 
 -- ---- the needs

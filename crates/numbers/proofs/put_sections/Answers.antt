@@ -12,7 +12,6 @@ use Rattle.lists.specs.Lists.{joined}
 use Rattle.unit.specs.Cleared.{cleared_band_section}
 use Rattle.numbers.specs.Layout.{section_size, section_numbers, PutGives}
 use Rattle.numbers.proofs.Put.{put_none, put_entry, put_entries}
-use Rattle.numbers.proofs.put_sections.Tie as tie
 use Rattle.numbers.proofs.put_sections.Invariants.{)}
 use Rattle.numbers.proofs.put_sections.Goals as goal
 

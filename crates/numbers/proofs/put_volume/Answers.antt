@@ -7,20 +7,19 @@ use Rattle.words.proofs.Laws.{narrow_need, narrow_reads}
 use Rattle.unit.proofs.Ranges.{volume_size}
 use Rattle.numbers.proofs.Put.{put_two}
 use borrow.Author.Rules.{rules}
-use Rattle.numbers.proofs.put_volume.Lts as lts
-use Rattle.numbers.proofs.put_volume.Reads as reads
+use Rattle.numbers.proofs.put_volume.Goals.{After-struct_told-2-1, Start}
 use Rattle.numbers.proofs.put_volume.Goals as goal
 
 -- ---- the volume's numbers are no larger than a word
 
-module _ (s : lts.Start reads.Pre reads.Post) where
+module _ (s : Start) where
   present-size : nat_abs s.args.volume.present ≤ word_size
   present-size = volume_size s.args.volume.present s.requires.1.present
 
   target-size : nat_abs s.args.volume.target ≤ word_size
   target-size = volume_size s.args.volume.target s.requires.1.target
 
-abbrev start : goal.After-struct_told-2-1 → lts.Start reads.Pre reads.Post
+abbrev start : After-struct_told-2-1 → Start
 start c = c.before.before.before.before
 
 -- ---- the needs

@@ -7,7 +7,6 @@ use borrow.Author.Rules.{rules}
 use Rattle.lists.proofs.Loops.{Tabulated, tabulated_begin, tabulated_next, tabulated_done}
 use Rattle.bands.specs.Bands.{band_count}
 use Rattle.numbers.specs.Layout.{section_at}
-use Rattle.numbers.proofs.sections_of.Tie as tie
 use Rattle.numbers.proofs.sections_of.Goals as goal
 
 pub loop-b-init : goal.loop-b-init

@@ -10,9 +10,7 @@ use Rattle.lists.specs.Lists.{changed}
 use Rattle.unit.specs.declared.Channel.{Channel}
 use Rattle.orders.specs.Orders.{aimed_section}
 use borrow.Author.Rules.{rules}
-use Rattle.orders.proofs.aim_channel.Lts as lts
-use Rattle.orders.proofs.aim_channel.Reads as reads
-use Rattle.orders.proofs.aim_channel.Tie as tie
+use Rattle.orders.proofs.aim_channel.Goals.{Start}
 use Rattle.orders.proofs.aim_channel.Goals as goal
 
 pub returns : goal.returns
@@ -27,7 +25,7 @@ returns c =
           ∙ ap (λ (t : ℤ). changed (eqb s.args.band) (aimed_section t) channel.sections-1) (to_z-of_z {w = w64} s.ranges.target)) i;
     }
   where
-    s : lts.Start tie.the-claims reads.Pre reads.Post
+    s : Start
     s = c.before.before.before
 
     channel : Channel

@@ -12,6 +12,7 @@ use Rattle.unit.proofs.PastEnd.{zero_channel}
 use Rattle.settings.specs.Settings.{names}
 use Rattle.orders.specs.Orders.{aimed_channel}
 use borrow.Author.Rules.{rules}
+use Rattle.orders.proofs.aim_channels.Goals.{Start}
 use Rattle.orders.proofs.aim_channels.Goals as goal
 
 pub returns : goal.returns
@@ -21,5 +22,5 @@ returns c =
     ∙ ap (changed (names s.args.side) (aimed_channel s.args.band (to_z w64 (of_z w64 s.args.target)))) (tabulate_all s.args.channels zero_channel 2 (omega arith))
     ∙ ap (λ (t : ℤ). changed (names s.args.side) (aimed_channel s.args.band t) s.args.channels) (to_z-of_z {w = w64} s.ranges.target)
   where
-    s : goal.Start
+    s : Start
     s = c.before.before.before.before

@@ -12,12 +12,10 @@ use Rattle.unit.specs.declared.Channel.{Channel}
 use Rattle.settings.specs.Settings.{both_sides}
 use Rattle.orders.specs.Orders.{aimed_channel}
 use borrow.Author.Rules.{rules}
-use Rattle.orders.proofs.aim_named.Lts as lts
-use Rattle.orders.proofs.aim_named.Reads as reads
-use Rattle.orders.proofs.aim_named.Tie as tie
+use Rattle.orders.proofs.aim_named.Goals.{Start}
 use Rattle.orders.proofs.aim_named.Goals as goal
 
-module _ (s : lts.Start tie.the-claims reads.Pre reads.Post) where
+module _ (s : Start) where
   abbrev aimed-is : ℤ → Channel
   aimed-is t = aimed_channel s.args.band t s.args.channel
 

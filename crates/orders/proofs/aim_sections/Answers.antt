@@ -13,10 +13,11 @@ use Rattle.unit.specs.Cleared.{cleared_band_section}
 use Rattle.unit.specs.declared.BandSection.{BandSection}
 use Rattle.orders.specs.Orders.{aimed_section}
 use borrow.Author.Rules.{rules}
+use Rattle.orders.proofs.aim_sections.Goals.{After-struct_told-1, Start}
 use Rattle.orders.proofs.aim_sections.Goals as goal
 
-module _ (c : goal.After-struct_told-1) where
-  abbrev s : goal.Start
+module _ (c : After-struct_told-1) where
+  abbrev s : Start
   s = c.before.before.before.before
 
   abbrev section : BandSection

@@ -10,9 +10,7 @@ use Rattle.settings.specs.Settings.{volume_band}
 use Rattle.settings.proofs.Laws.{place-below}
 use Rattle.orders.specs.Orders.{aimed_volume, aimed_band, aimed_unit}
 use borrow.Author.Rules.{rules}
-use Rattle.orders.proofs.aim_unit.Lts as lts
-use Rattle.orders.proofs.aim_unit.Reads as reads
-use Rattle.orders.proofs.aim_unit.Tie as tie
+use Rattle.orders.proofs.aim_unit.Goals.{Start}
 use Rattle.orders.proofs.aim_unit.Goals as goal
 
 pub returns-then-band-eq-VOLUME_BAND : goal.returns-then-band-eq-VOLUME_BAND
@@ -22,7 +20,7 @@ returns-then-band-eq-VOLUME_BAND c =
     ∙ ap (λ (t : ℤ). aimed_volume t s.args.unit) (to_z-of_z {w = w64} s.ranges.target)
     ∙ passed (eqb s.args.band volume_band) _ _ (eq-eqb s.args.band volume_band c.before.if-band-eq-VOLUME_BAND.true)
   where
-    s : lts.Start tie.the-claims reads.Pre reads.Post
+    s : Start
     s = c.before.before.before.before.before
 
 pub aim_channels-aimed-requires : goal.aim_channels-aimed-requires
@@ -35,5 +33,5 @@ returns c =
     ∙ ap (λ (t : ℤ). aimed_band s.args.side s.args.band t s.args.unit) (to_z-of_z {w = w64} s.ranges.target)
     ∙ failed (eqb s.args.band volume_band) _ _ (ne_eqb s.args.band volume_band c.before.if-band-eq-VOLUME_BAND.false)
   where
-    s : lts.Start tie.the-claims reads.Pre reads.Post
+    s : Start
     s = c.before.before.before.before.before

@@ -14,14 +14,12 @@ use Rattle.settings.proofs.Laws.{place_accepted, level_accepted}
 use Rattle.orders.specs.Orders.{aimed_unit}
 use Rattle.orders.proofs.Laws.{ordered_unfit, ordered-refused, ordered_accepted}
 use borrow.Author.Rules.{rules}
-use Rattle.orders.proofs.order.Lts as lts
-use Rattle.orders.proofs.order.Reads as reads
-use Rattle.orders.proofs.order.Tie as tie
+use Rattle.orders.proofs.order.Goals.{After-accepted, Else-not-accepted, Start}
 use Rattle.orders.proofs.order.Goals as goal
 
 -- what the tests have shown
-module _ (c : lts.After-accepted tie.the-claims reads.Pre reads.Post) where
-  abbrev s : goal.Start
+module _ (c : After-accepted) where
+  abbrev s : Start
   s = c.before.before.before.before
 
   abbrev verdict : Verdict
@@ -33,7 +31,7 @@ module _ (c : lts.After-accepted tie.the-claims reads.Pre reads.Post) where
   arguments-test : c.accepted.result ≡ is_accepted verdict
   arguments-test = c.accepted.ensures ∙ ap is_accepted c.before.check_order-verdict.ensures
 
-arguments-right : (c : goal.Else-not-accepted) → is_accepted (verdict c.before) ≡ true
+arguments-right : (c : Else-not-accepted) → is_accepted (verdict c.before) ≡ true
 arguments-right c = sym (arguments-test c.before) ∙ not-false _ c.if-not-accepted.false
 
 pub returns-then-not-is_fit : goal.returns-then-not-is_fit
@@ -49,7 +47,7 @@ returns-then-not-accepted c =
     (ordered-refused channel_count t.args.unit t.args.side t.args.band t.args.setting (fits c.before)
     (sym (arguments-test c.before) ∙ not-true _ c.if-not-accepted.true))
   where
-    t : goal.Start
+    t : Start
     t = s c.before
 
 pub target_of-target-requires : goal.target_of-target-requires
@@ -65,7 +63,7 @@ returns c =
     ∙ sym
     (ordered_accepted channel_count t.args.unit t.args.side t.args.band t.args.setting (fits c.before.before.before) (arguments-right c.before.before))
   where
-    t : goal.Start
+    t : Start
     t = s c.before.before.before
 
     unit-is : c.aim_unit-after.result ≡ aimed_unit t.args.side t.args.band (target_of t.args.band t.args.setting) t.args.unit

@@ -18,7 +18,6 @@ use Rattle.engine.specs.Layout.{band_floats, set_floats, first_side, second_side
 use Rattle.engine.proofs.Read.{zeros_whole, bands_read}
 use Rattle.packing.specs.Packing.{put_three}
 use Rattle.packing.proofs.Bands.{Exact, twice, with_band, Filled, filled_more}
-use Rattle.packing.proofs.band_floats.Tie as tie
 use Rattle.packing.proofs.band_floats.Goals as goal
 
 pub loop-b-init : goal.loop-b-init

@@ -13,9 +13,7 @@ use Rattle.engine.specs.Floats.{float_at, band_section_in}
 use Rattle.engine.specs.Layout.{side_count, section_at_side}
 use Rattle.packing.specs.Packing.{pair_side, SectionOfAsks}
 use Rattle.packing.proofs.Sides.{places, section_asks, section_is, x1_carries, x2_carries, flag_carries}
-use Rattle.packing.proofs.channel_of.Lts as lts
-use Rattle.packing.proofs.channel_of.Reads as reads
-use Rattle.packing.proofs.channel_of.Tie as tie
+use Rattle.packing.proofs.channel_of.Goals.{Start}
 use Rattle.packing.proofs.channel_of.Goals as goal
 
 pub section_of-section-requires : goal.section_of-section-requires
@@ -23,7 +21,7 @@ section_of-section-requires c =
     subst SectionOfAsks (sym c.section_at.ensures)
     (section_asks s.args.pair.now s.args.side s.requires c.before.before.loop-b.b (omega arith))
   where
-    s : lts.Start tie.the-claims reads.Pre reads.Post invariant-loop decreases-loop
+    s : Start
     s = c.before.before.before.before
 
 pub loop-b-preserved : goal.loop-b-preserved
@@ -32,7 +30,7 @@ loop-b-preserved c =
     (c.section_of-section.ensures ∙ ap band_section_in c.before.section_at.ensures
     ∙ section_is s.args.pair.now s.args.side s.requires c.before.before.before.loop-b.b (omega arith))
   where
-    s : lts.Start tie.the-claims reads.Pre reads.Post invariant-loop decreases-loop
+    s : Start
     s = c.before.before.before.before.before
 
 pub whole_of-x1-requires : goal.whole_of-x1-requires
@@ -54,7 +52,7 @@ returns c =
       sections = tabulated_done c.before.before.before.before.before.before.before.loop-b.invariant (omega arith) i;
     }
   where
-    s : lts.Start tie.the-claims reads.Pre reads.Post invariant-loop decreases-loop
+    s : Start
     s = c.before.before.before.before.before.before.before.before.before
 
     side : ℕ

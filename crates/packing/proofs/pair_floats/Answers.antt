@@ -18,9 +18,7 @@ use Rattle.unit.proofs.Ranges.{input_size, flag-size}
 use Rattle.engine.specs.Layout.{x1_place}
 use Rattle.packing.specs.Packing.{float_sides, put_three, PutSectionsAsks, PutSectionsGives}
 use Rattle.packing.proofs.Heads.{Exact, zeros, heads, heads_size, heads_whole, channels}
-use Rattle.packing.proofs.pair_floats.Lts as lts
-use Rattle.packing.proofs.pair_floats.Reads as reads
-use Rattle.packing.proofs.pair_floats.Tie as tie
+use Rattle.packing.proofs.pair_floats.Goals.{After-put_three, Start}
 use Rattle.packing.proofs.pair_floats.Goals as goal
 
 -- a number of a fit channel is read back from its 64 bits
@@ -46,23 +44,23 @@ module _ (c : Channel) (f : ChannelFit c) where
 pub sides_of-requires : goal.sides_of-requires
 sides_of-requires c = (kept-size s.args.first.x1 (x1-size s.args.first s.requires.first_fit), kept-size s.args.second.x1 (x1-size s.args.second s.requires.second_fit))
   where
-    s : lts.Start tie.the-claims reads.Pre reads.Post
+    s : Start
     s = c.before.before.before
 
 pub sides_of-requires-2 : goal.sides_of-requires-2
 sides_of-requires-2 c = (kept-size s.args.first.x2 (x2-size s.args.first s.requires.first_fit), kept-size s.args.second.x2 (x2-size s.args.second s.requires.second_fit))
   where
-    s : lts.Start tie.the-claims reads.Pre reads.Post
+    s : Start
     s = c.before.before.before.before.before.before
 
 pub sides_of-requires-3 : goal.sides_of-requires-3
 sides_of-requires-3 c = (kept-size s.args.first.flag (the-flag-size s.args.first s.requires.first_fit), kept-size s.args.second.flag (the-flag-size s.args.second s.requires.second_fit))
   where
-    s : lts.Start tie.the-claims reads.Pre reads.Post
+    s : Start
     s = c.before.before.before.before.before.before.before.before.before
 
-module _ (p : lts.After-put_three tie.the-claims reads.Pre reads.Post) where
-  abbrev s : lts.Start tie.the-claims reads.Pre reads.Post
+module _ (p : After-put_three) where
+  abbrev s : Start
   s = p.before.before.before.before.before.before.before.before.before.before.before
 
   abbrev first : Channel
@@ -96,7 +94,7 @@ put_sections-requires c =
       second_fit = (s p).requires.second_fit.sections;
     })
   where
-    p : lts.After-put_three tie.the-claims reads.Pre reads.Post
+    p : After-put_three
     p = c.before.before.before.before
 
 pub returns : goal.returns
@@ -104,5 +102,5 @@ returns c =
     channels (first p) (second p) (first-exact p) (second-exact p) c.put_sections.new.0
     (subst (λ (l : List Float). PutSectionsGives l (first p).sections (second p).sections c.put_sections.new.0) (heads-are p) c.put_sections.ensures)
   where
-    p : lts.After-put_three tie.the-claims reads.Pre reads.Post
+    p : After-put_three
     p = c.before.before.before.before.before

@@ -16,9 +16,7 @@ use Rattle.engine.specs.Layout.{section_floats, first_side, second_side, put_sec
 use Rattle.engine.proofs.Store.{section_length}
 use Rattle.engine.proofs.Read.{sections_read}
 use Rattle.packing.proofs.Sections.{Filled, filled_more}
-use Rattle.packing.proofs.put_sections.Lts as lts
-use Rattle.packing.proofs.put_sections.Reads as reads
-use Rattle.packing.proofs.put_sections.Tie as tie
+use Rattle.packing.proofs.put_sections.Goals.{After-put_section, MISSING-At-loop·own, Start}
 use Rattle.packing.proofs.put_sections.Goals as goal
 
 pub loop-b-init : goal.loop-b-init
@@ -40,17 +38,17 @@ pub section_floats-requires-in-loop-b : goal.section_floats-requires-in-loop-b
 section_floats-requires-in-loop-b c =
     each_get_d SectionFit s.args.second cleared_band_section s.requires.second_fit c.before.before.before.before.before.before.before.loop-b.b (omega arith)
   where
-    s : goal.Start
+    s : Start
     s = c.before.before.before.before.before.before.before.before
 
 pub put_section-requires-in-loop-b : goal.put_section-requires-in-loop-b
 put_section-requires-in-loop-b c =
     omega (arith, h.invariant.size, ap length p.put_section.ensures, section_length h.pair (section_floats * h.b) p.before.section_floats.result)
   where
-    p : lts.After-put_section tie.the-claims reads.Pre reads.Post invariant-loop decreases-loop
+    p : After-put_section
     p = c.before.before.before
 
-    h : lts.At-loop·own tie.the-claims reads.Pre reads.Post invariant-loop decreases-loop c.before.before.before.before.before.before.before.before.before
+    h : MISSING-At-loop·own c.before.before.before.before.before.before.before.before.before
     h = c.before.before.before.before.before.before.before.before.loop-b
 
 pub loop-b-preserved : goal.loop-b-preserved
@@ -60,7 +58,7 @@ loop-b-preserved c =
     (each_get_d SectionFit s.args.first cleared_band_section s.requires.first_fit b (omega arith))
     (each_get_d SectionFit s.args.second cleared_band_section s.requires.second_fit b (omega arith)))
   where
-    s : goal.Start
+    s : Start
     s = c.before.before.before.before.before.before.before.before.before.before
 
     b : ℕ

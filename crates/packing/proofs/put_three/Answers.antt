@@ -6,9 +6,7 @@ use lib.Ieee.{Float}
 use borrow.Author.Rules.{rules}
 use Rattle.engine.specs.Layout.{put_sides}
 use Rattle.packing.specs.Packing.{put_three}
-use Rattle.packing.proofs.put_three.Lts as lts
-use Rattle.packing.proofs.put_three.Reads as reads
-use Rattle.packing.proofs.put_three.Tie as tie
+use Rattle.packing.proofs.put_three.Goals.{Start}
 use Rattle.packing.proofs.put_three.Goals as goal
 
 pub returns : goal.returns
@@ -19,5 +17,5 @@ returns c =
     (c.before.before.before.before.before.before.put_sides-2.ensures
     ∙ ap (λ (l : List Float). put_sides l (s.args.at + 2) s.args.b) c.before.before.before.before.before.before.before.before.before.before.put_sides.ensures)
   where
-    s : lts.Start tie.the-claims reads.Pre reads.Post
+    s : Start
     s = c.before.before.before.before.before.before.before.before.before.before.before.before.before

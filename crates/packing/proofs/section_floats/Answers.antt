@@ -12,9 +12,7 @@ use Rattle.words.proofs.Laws.{word_size_lem}
 use Rattle.floats.specs.Whole.{float}
 use Rattle.unit.specs.declared.BandSection.{BandSection}
 use Rattle.unit.proofs.Ranges.{remainder-size}
-use Rattle.packing.proofs.section_floats.Lts as lts
-use Rattle.packing.proofs.section_floats.Reads as reads
-use Rattle.packing.proofs.section_floats.Tie as tie
+use Rattle.packing.proofs.section_floats.Goals.{Start}
 use Rattle.packing.proofs.section_floats.Goals as goal
 
 pub level_floats-gain-requires : goal.level_floats-gain-requires
@@ -39,7 +37,7 @@ float_of-requires-3 c =
     subst (λ (z : ℤ). nat_abs z ≤ word_size) (sym (reads_back w64 s.args.section.remainder (omega arith)))
     (le_trans (remainder-size s.args.section.remainder s.requires.remainder) (lit≤ tt))
   where
-    s : lts.Start tie.the-claims reads.Pre reads.Post
+    s : Start
     s = c.before.before.before.before.before.before.before
 
 pub returns : goal.returns

@@ -14,13 +14,11 @@ use Rattle.integers.proofs.Machine.{test_back}
 use Rattle.words.specs.Words.{is_word}
 use Rattle.preview.specs.Preview.{are_words}
 use Rattle.preview.proofs.Lists.{words_from}
-use Rattle.preview.proofs.are_words.Lts as lts
-use Rattle.preview.proofs.are_words.Reads as reads
-use Rattle.preview.proofs.are_words.Tie as tie
+use Rattle.preview.proofs.are_words.Goals.{After-is_word}
 use Rattle.preview.proofs.are_words.Goals as goal
 
 -- a number tested
-module _ (c : lts.After-is_word tie.the-claims reads.Pre reads.Post invariant-loop decreases-loop) where
+module _ (c : After-is_word) where
   abbrev words : List ℤ
   words = c.before.before.before.before.args.words.now
 

@@ -9,13 +9,11 @@ use Rattle.refusals.specs.Numbers.{is_accepted, unless}
 use Rattle.refusals.specs.declared.Verdict.TheVariants.{Accepted, NotWord}
 use Rattle.bands.specs.Bands.{band_verdict}
 use Rattle.preview.specs.Preview.{preview_verdict}
-use Rattle.preview.proofs.check.Lts as lts
-use Rattle.preview.proofs.check.Reads as reads
-use Rattle.preview.proofs.check.Tie as tie
+use Rattle.preview.proofs.check.Goals.{After-accepted, After-are_words, Else-results-words, Start}
 use Rattle.preview.proofs.check.Goals as goal
 
 -- the test of the band
-band-test : (c : lts.After-accepted tie.the-claims reads.Pre reads.Post) → is_accepted (band_verdict c.before.before.args.band) ≡ c.accepted.result
+band-test : (c : After-accepted) → is_accepted (band_verdict c.before.before.args.band) ≡ c.accepted.result
 band-test c = sym (c.accepted.ensures ∙ ap is_accepted c.before.check_band-verdict.ensures)
 
 pub returns-then-not-accepted : goal.returns-then-not-accepted
@@ -27,7 +25,7 @@ unfolding preview_verdict
 returns-then-results-words c = sym (simp (band-test c.before.before ∙ not-false _ c.before.if-not-accepted.false, lt-leb _ _ c.if-results-words.true))
 
 -- the band is accepted, and the results have room
-module _ (c : lts.Else2 tie.the-claims reads.Pre reads.Post) where
+module _ (c : Else-results-words) where
   band-right : is_accepted (band_verdict c.before.before.before.before.args.band) ≡ true
   band-right = band-test c.before.before ∙ not-false _ c.before.if-not-accepted.false
 
@@ -35,8 +33,8 @@ module _ (c : lts.Else2 tie.the-claims reads.Pre reads.Post) where
   results-have = le-leb _ _ c.if-results-words.false
 
 -- past these and the remainders' room, the test of the words decides
-module _ (c : lts.After-are_words tie.the-claims reads.Pre reads.Post) where
-  abbrev s : goal.Start
+module _ (c : After-are_words) where
+  abbrev s : Start
   s = c.before.before.before.before.before.before
 
   tested : (t : Bool) → c.are_words.result ≡ t → unless t NotWord Accepted ≡ preview_verdict s.args.band s.args.words.now s.args.results s.args.remainders

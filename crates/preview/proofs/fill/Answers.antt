@@ -8,20 +8,18 @@ use Rattle.refusals.specs.Numbers.{is_accepted}
 use Rattle.refusals.specs.declared.Verdict.{Verdict}
 use Rattle.preview.specs.Preview.{Buffers, buffers_of, preview_verdict}
 use Rattle.preview.proofs.Lists.{previewed_accepted, previewed-refused}
-use Rattle.preview.proofs.fill.Lts as lts
-use Rattle.preview.proofs.fill.Reads as reads
-use Rattle.preview.proofs.fill.Tie as tie
+use Rattle.preview.proofs.fill.Goals.{After-accepted, MISSING-now, Start}
 use Rattle.preview.proofs.fill.Goals as goal
 
-module _ (c : lts.After-accepted tie.the-claims reads.Pre reads.Post) where
-  abbrev s : goal.Start
+module _ (c : After-accepted) where
+  abbrev s : Start
   s = c.before.before
 
   abbrev words : List ℤ
   words = s.args.words.now
 
   abbrev room : List ℤ
-  room = s.args.results-1.now tie.the-claims reads.Pre reads.Post
+  room = s.args.resuMISSING-now
 
   abbrev spare : List ℤ
   spare = s.args.remainders-1.now
@@ -44,11 +42,11 @@ run-requires c = accepted-is c.before.before.before ∙ c.before.before.if-accep
 pub returns-then-accepted : goal.returns-then-accepted
 returns-then-accepted c = (verdict-is a, c.before.before.run.ensures ∙ sym (previewed_accepted (s a).args.band (words a) (lent a) (accepted-is a ∙ c.before.before.before.before.before.if-accepted.true)))
   where
-    a : lts.After-accepted tie.the-claims reads.Pre reads.Post
+    a : After-accepted
     a = c.before.before.before.before.before.before
 
 pub returns-else-accepted : goal.returns-else-accepted
 returns-else-accepted c = (verdict-is a, sym (previewed-refused (s a).args.band (words a) (lent a) (accepted-is a ∙ c.if-accepted.false)))
   where
-    a : lts.After-accepted tie.the-claims reads.Pre reads.Post
+    a : After-accepted
     a = c.before

@@ -7,11 +7,10 @@ use Rattle.rounding.specs.Rounding.{limit}
 use Rattle.words.specs.Words.{word_low, word_high}
 use Rattle.floats.specs.Whole.{float, whole_of}
 use Rattle.preview.proofs.Results.{chosen}
-use Rattle.preview.proofs.limit_word.Lts as lts
-use Rattle.preview.proofs.limit_word.Reads as reads
+use Rattle.preview.proofs.limit_word.Goals.{Start}
 use Rattle.preview.proofs.limit_word.Goals as goal
 
-module _ (s : lts.Start reads.Pre reads.Post) where
+module _ (s : Start) where
   abbrev z : ℤ
   z = whole_of s.args.rounded
 

@@ -30,9 +30,7 @@ use Rattle.preview-1.specs.Preview.{are_words, filled_front, buffers_of}
 use Rattle.preview-1.specs.Carried.{carried, carried_step, section_in, StepAsks}
 use Rattle.preview-1.proofs.Carry.{carried_back, may_step, result_back, remainder_back}
 use Rattle.preview-1.proofs.Lists.{words_from, answers_from, front_length, front_next, AcceptedCall, preview_accepted}
-use Rattle.preview.proofs.run.Lts as lts
-use Rattle.preview.proofs.run.Reads as reads
-use Rattle.preview.proofs.run.Tie as tie
+use Rattle.preview.proofs.run.Goals.{After-cleared-preview, After-loop-i, After-step-answer, After-step-arg-1, MISSING-now, Start}
 use Rattle.preview.proofs.run.Invariants.{Inv}
 use Rattle.preview.proofs.run.Goals as goal
 
@@ -40,15 +38,15 @@ use Rattle.preview.proofs.run.Goals as goal
 
 -- ---- before the loop
 
-module _ (c : goal.After-cleared-preview) where
-  abbrev start : goal.Start
+module _ (c : After-cleared-preview) where
+  abbrev start : Start
   start = c.before
 
   abbrev words : List ℤ
   words = start.args.words.now
 
   abbrev room : List ℤ
-  room = start.args.results.now tie.the-claims reads.Pre reads.Post invariant-loop decreases-loop
+  room = start.args.resuMISSING-now
 
   abbrev spare : List ℤ
   spare = start.args.remainders.now
@@ -86,8 +84,8 @@ loop-i-init c =
 
 -- ---- a word read
 
-module _ (c : goal.After-step-arg-1) where
-  abbrev begun : goal.After-cleared-preview
+module _ (c : After-step-arg-1) where
+  abbrev begun : After-cleared-preview
   begun = c.before.before.before
 
   abbrev i : ℕ
@@ -126,8 +124,8 @@ step-answer-requires c = subst (λ (z : ℤ). StepAsks c.before.before.loop-i.pr
 
 -- ---- the preview stepped
 
-module _ (c : lts.After-step tie.the-claims reads.Pre reads.Post invariant-loop decreases-loop) where
-  abbrev n : goal.After-step-arg-1
+module _ (c : After-step-answer) where
+  abbrev n : After-step-arg-1
   n = c.before
 
   -- the section before the step, and its answer
@@ -194,16 +192,16 @@ loop-i-preserved c =
           ∙ sym (append_snoc (inv m).done (answer a) (answers_over (answer a).section (drop (suc (i m)) (words (begun m)))));
     })
   where
-    a : lts.After-step tie.the-claims reads.Pre reads.Post invariant-loop decreases-loop
+    a : After-step-answer
     a = c.before.before.before
 
-    m : goal.After-step-arg-1
+    m : After-step-arg-1
     m = n a
 
 -- ---- after the last word
 
-module _ (c : goal.After-loop-i) where
-  abbrev origin : goal.After-cleared-preview
+module _ (c : After-loop-i) where
+  abbrev origin : After-cleared-preview
   origin = c.before.before
 
   last : Inv origin.cleared-preview.result (words origin) (room origin) (spare origin) c.before.loop-i.results c.before.loop-i.remainders c.before.loop-i.preview-1 c.before.loop-i.i

@@ -23,12 +23,10 @@ use Rattle.preview.specs.declared.Preview.{Preview}
 use Rattle.preview.specs.Carried.{carried_step, section_in}
 use Rattle.preview.proofs.Sum.{float_sum, sum_exact}
 use Rattle.preview.proofs.Results.{quotient_of, left_over, roundable, quotient_rounds, rounded_size, remainder_is}
-use Rattle.preview.proofs.step.Lts as lts
-use Rattle.preview.proofs.step.Reads as reads
-use Rattle.preview.proofs.step.Tie as tie
+use Rattle.preview.proofs.step.Goals.{After-nearest_whole-rounded, Start}
 use Rattle.preview.proofs.step.Goals as goal
 
-module _ (s : lts.Start tie.the-claims reads.Pre reads.Post) where
+module _ (s : Start) where
   abbrev p : Preview
   p = s.args.preview
 
@@ -77,13 +75,13 @@ pub nearest_whole-rounded-requires : goal.nearest_whole-rounded-requires
 unfolding of_bits
 nearest_whole-rounded-requires c = subst (λ (t : Float). NearestWholeAsks (quotient_of t)) (sym (total-is s)) (roundable (S s) (S-size s))
   where
-    s : lts.Start tie.the-claims reads.Pre reads.Post
+    s : Start
     s = c.before.before.before
 
 -- ---- S rounded
 
-module _ (c : goal.After-nearest_whole-rounded) where
-  abbrev s : lts.Start tie.the-claims reads.Pre reads.Post
+module _ (c : After-nearest_whole-rounded) where
+  abbrev s : Start
   s = c.before.before.before.before
 
   abbrev r : ℤ
@@ -124,5 +122,5 @@ returns c =
     })
     ∙ ap carried_step (sym (accepted_advances (section (s m)) (x (s m)) (s m).requires.accepted))
   where
-    m : goal.After-nearest_whole-rounded
+    m : After-nearest_whole-rounded
     m = c.before

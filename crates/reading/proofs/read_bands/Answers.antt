@@ -9,7 +9,6 @@ use Rattle.forms.specs.Line.{line_size}
 use Rattle.sheet.specs.Lines.{band_letter, band_ranges, band_row, band_form}
 use Rattle.sheet.proofs.Lines.{band_sound}
 use Rattle.side_reading.proofs.Rows.{RowsRead, rows_begin, rows_done, rows_refused, rows_next}
-use Rattle.reading.proofs.read_bands.Tie as tie
 use Rattle.reading.proofs.read_bands.Goals as goal
 
 pub read_band-found-requires : goal.read_band-found-requires

@@ -5,9 +5,7 @@ use borrow.Author.Rules.{rules}
 use borrow.Author.Tests.{not-true, not-false}
 use Rattle.refusals.specs.Numbers.{is_accepted}
 use Rattle.reading.proofs.Front.{volume_refused, volume_room, bands_read}
-use Rattle.reading.proofs.read_front.Lts as lts
-use Rattle.reading.proofs.read_front.Reads as reads
-use Rattle.reading.proofs.read_front.Tie as tie
+use Rattle.reading.proofs.read_front.Goals.{Else-not-accepted, Start}
 use Rattle.reading.proofs.read_front.Goals as goal
 
 pub returns-then-not-accepted : goal.returns-then-not-accepted
@@ -17,8 +15,8 @@ returns-then-not-accepted c =
 
 -- ---- past the V line
 
-module _ (c : lts.Else1 tie.the-claims reads.Pre reads.Post) where
-  abbrev start : lts.Start tie.the-claims reads.Pre reads.Post
+module _ (c : Else-not-accepted) where
+  abbrev start : Start
   start = c.before.before.before.before.before.before
 
   passed : is_accepted c.before.before.before.read_volume-first.result ≡ true

@@ -9,9 +9,7 @@ use Rattle.refusals.specs.Numbers.{is_accepted}
 use Rattle.unit.specs.declared.Unit.{Unit}
 use Rattle.sheet.specs.Sheet.{side_letters}
 use Rattle.reading.proofs.Lines.{front_room, front_refused, behind_refused, lines_accepted}
-use Rattle.reading.proofs.read_lines.Lts as lts
-use Rattle.reading.proofs.read_lines.Reads as reads
-use Rattle.reading.proofs.read_lines.Tie as tie
+use Rattle.reading.proofs.read_lines.Goals.{After-read_front-front, Else-not-accepted, Else-not-accepted-2, Start}
 use Rattle.reading.proofs.read_lines.Goals as goal
 
 pub returns-then-not-accepted : goal.returns-then-not-accepted
@@ -22,11 +20,11 @@ returns-then-not-accepted c =
 
 -- ---- past the V line and the C lines
 
-module _ (c : goal.Else-not-accepted) where
-  abbrev front : lts.After-read_front tie.the-claims reads.Pre reads.Post
+module _ (c : Else-not-accepted) where
+  abbrev front : After-read_front-front
   front = c.before.before.before.before
 
-  abbrev start : lts.Start tie.the-claims reads.Pre reads.Post
+  abbrev start : Start
   start = front.before.before.before.before
 
   abbrev bytes : List ℕ
@@ -45,7 +43,7 @@ pub read_rest-rest-requires : goal.read_rest-rest-requires
 read_rest-rest-requires c = front_room (bytes c) (ap is_accepted (sym (front c).read_front-front.ensures.verdict_is) ∙ passed c)
 
 -- past the sides and the end of the bytes
-module _ (c : lts.Else2 tie.the-claims reads.Pre reads.Post) where
+module _ (c : Else-not-accepted-2) where
   passed-rest : is_accepted c.before.before.read_rest-rest.result.verdict ≡ true
   passed-rest = sym c.before.accepted-2.ensures ∙ not-false _ c.if-not-accepted-2.false
 

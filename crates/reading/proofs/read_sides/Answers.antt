@@ -6,7 +6,6 @@ use borrow.Author.Rules.{rules}
 use borrow.Author.Tests.{not-true, not-false}
 use Rattle.unit.specs.Sizes.{channel_count}
 use Rattle.reading.proofs.Sides.{SidesTurned, sides_begin, sides_done, sides-refused, sides-next}
-use Rattle.reading.proofs.read_sides.Tie as tie
 use Rattle.reading.proofs.read_sides.Goals as goal
 
 pub loop-i-init : goal.loop-i-init

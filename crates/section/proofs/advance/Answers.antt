@@ -19,10 +19,11 @@ use Rattle.section.specs.Equation.{exact_sum, sum_shift, worked}
 use Rattle.section.specs.Step.{accepted_step}
 use Rattle.section.specs.Asks.{ExactSumAsks, sum_size}
 use Rattle.section.proofs.Laws.{accepted_small, sum-size, sum_roundable, worked-low, worked_high}
+use Rattle.section.proofs.advance.Goals.{After-in_range-limited, After-remainder_of-remainder, After-saturate-saturated, After-step_sum-sum, After-struct_told-4-1}
 use Rattle.section.proofs.advance.Goals as goal
 
 -- the section and its numbers, as read
-module _ (c : goal.After-struct_told-4-1) where
+module _ (c : After-struct_told-4-1) where
   abbrev section : Section
   section = c.before.before.before.before.before.args.section
 
@@ -53,8 +54,8 @@ step_sum-sum-requires c =
 
 -- ---- the exact sum
 
-module _ (c : goal.After-step_sum-sum) where
-  abbrev t : goal.After-struct_told-4-1
+module _ (c : After-step_sum-sum) where
+  abbrev t : After-struct_told-4-1
   t = c.before
 
   sum-reads : to_z w64 (of_z w64 c.step_sum-sum.result) ≡ S t
@@ -76,11 +77,11 @@ round_near-rounded-requires c =
 
 -- ---- rounded and saturated
 
-module _ (c : goal.After-saturate-saturated) where
-  abbrev summed : goal.After-step_sum-sum
+module _ (c : After-saturate-saturated) where
+  abbrev summed : After-step_sum-sum
   summed = c.before.before
 
-  abbrev start : goal.After-struct_told-4-1
+  abbrev start : After-struct_told-4-1
   start = t summed
 
   rounded-reads : to_z w64 (of_z w64 c.before.round_near-rounded.result) ≡ nearest (S start) sum_shift
@@ -104,10 +105,10 @@ module _ (c : goal.After-saturate-saturated) where
   y-reads : to_z w32 (of_z w32 (to_z w64 (of_z w64 c.saturate-saturated.result))) ≡ (worked (S start)).y
   y-reads = (unary (λ (z : ℤ). z) (num c.saturate-saturated.result y-wide) y-fits).reads ∙ y-is
 
-cast-y : tie.Need-overflow-cast-y
-cast-y c = unary_need (λ (z : ℤ). z) (num c.saturate-saturated.result (y-wide c)) (y-fits c)
+pub overflow_cast-y : goal.overflow_cast-y
+overflow_cast-y c = unary_need (λ (z : ℤ). z) (num c.saturate-saturated.result (y-wide c)) (y-fits c)
 
-limited-is : (c : goal.After-in_range-limited) → not c.in_range-limited.result ≡ (worked (S (start c.before))).limited
+limited-is : (c : After-in_range-limited) → not c.in_range-limited.result ≡ (worked (S (start c.before))).limited
 unfolding worked
 limited-is c = ap not (c.in_range-limited.ensures ∙ ap is_word (rounded-reads c.before))
 
@@ -122,10 +123,10 @@ remainder_of-remainder-requires c =
       rounded_is = rounded-reads c.before ∙ ap (λ (z : ℤ). nearest z sum_shift) (sym (sum-reads m));
     }
   where
-    m : goal.After-step_sum-sum
+    m : After-step_sum-sum
     m = summed c.before
 
-remainder-reads : (c : goal.After-remainder_of-remainder) → to_z w32 (of_z w32 c.remainder_of-remainder.result) ≡ (worked (S (start c.before.before))).remainder
+remainder-reads : (c : After-remainder_of-remainder) → to_z w32 (of_z w32 c.remainder_of-remainder.result) ≡ (worked (S (start c.before.before))).remainder
 unfolding worked
 remainder-reads c =
     to_z-of_z (record { sfits = c.remainder_of-remainder.type_inv })
@@ -151,8 +152,5 @@ returns c =
           };
     }
   where
-    k : goal.After-saturate-saturated
+    k : After-saturate-saturated
     k = c.before.before
-
-pub overflow_cast-y : goal.overflow_cast-y
-overflow_cast-y = cast-y

@@ -48,7 +48,7 @@ returns-then-not-is_word-4 c =
     (and_passes (test_back is_word w32 s.args.section.x2 (omega (arith, t3)) t3.is_word-3.ensures) t4.before.before.if-not-is_word-3.false
     (and_fails (test_back is_word w32 s.args.section.y1 (omega (arith, t4)) t4.is_word-4.ensures) _ c.if-not-is_word-4.true)))
 
-pub returns-then-not-is_word : goal.returns
+pub returns : goal.returns
 unfolding all_words
 returns c =
     let t4 = c.before.before.before in

@@ -8,16 +8,17 @@ use Rattle.refusals.specs.Numbers.{is_accepted}
 use Rattle.bands.specs.Bands.{band_verdict}
 use Rattle.section.specs.declared.Section.{Section}
 use Rattle.section.specs.Step.{all_words, step_verdict}
+use Rattle.section.proofs.check_step.Goals.{After-accepted, After-all_words}
 use Rattle.section.proofs.check_step.Goals as goal
 
-module _ (c : goal.After-accepted) where
+module _ (c : After-accepted) where
   abbrev section : Section
   section = c.before.before.before.args.section
 
   band-test : c.accepted.result ≡ is_accepted (band_verdict section.band-1)
   band-test = c.accepted.ensures ∙ ap is_accepted c.before.check_band-verdict.ensures
 
-module _ (c : goal.After-all_words) where
+module _ (c : After-all_words) where
   band-right : is_accepted (band_verdict (section c.before.before).band-1) ≡ true
   band-right = sym (band-test c.before.before) ∙ not-false _ c.before.if-not-accepted.false
 
@@ -32,6 +33,6 @@ pub returns-then-not-all_words : goal.returns-then-not-all_words
 unfolding step_verdict
 returns-then-not-all_words c = sym (simp (band-right c.before, sym (words-test c.before) ∙ not-true _ c.if-not-all_words.true))
 
-pub returns-then-not-accepted : goal.returns
+pub returns : goal.returns
 unfolding step_verdict
 returns c = sym (simp (band-right c.before, sym (words-test c.before) ∙ not-false _ c.if-not-all_words.false))

@@ -5,12 +5,13 @@ use mir.Syntax.{w64}
 use Rattle.integers.proofs.Machine.{Bounded, num, below-fits, sum, difference, product, result, result_need}
 use Rattle.words.specs.Words.{word_size}
 use Rattle.section.specs.Equation.{exact_sum}
+use Rattle.section.proofs.exact_sum.Goals.{Start}
 use Rattle.section.proofs.exact_sum.Goals as goal
 
 abbrev operand : (z : ℤ) → nat_abs z ≤ word_size → Bounded w64
 operand z h = record { held = num z (below-fits h tt); bound = word_size; within = h }
 
-module _ (s : goal.Start) where
+module _ (s : Start) where
   abbrev X : Bounded w64
   X = operand s.args.x s.requires.x_size
 
@@ -50,42 +51,24 @@ module _ (s : goal.Start) where
   abbrev Whole : Bounded w64
   Whole = result difference Both Back2 tt
 
-sub-result : tie.Need-overflow-sub-result
-sub-result c = result_need difference (X c) (X2 c) tt
+pub overflow_sub-result : goal.overflow_sub-result
+overflow_sub-result c = result_need difference (X c) (X2 c) tt
 
-mul-result : tie.Need-overflow-mul-result
-mul-result c = result_need product (A c) (Change c) tt
+pub overflow_mul-result : goal.overflow_mul-result
+overflow_mul-result c = result_need product (A c) (Change c) tt
 
-mul-result-2 : tie.Need-overflow-mul-result-2
-mul-result-2 c = result_need product (G c) (Y1 c) tt
+pub overflow_mul-result-2 : goal.overflow_mul-result-2
+overflow_mul-result-2 c = result_need product (G c) (Y1 c) tt
 
-add-result : tie.Need-overflow-add-result
-add-result c = result_need sum (Forward c) (Back1 c) tt
+pub overflow_add-result : goal.overflow_add-result
+overflow_add-result c = result_need sum (Forward c) (Back1 c) tt
 
-mul-result-3 : tie.Need-overflow-mul-result-3
-mul-result-3 c = result_need product (B c) (Y2 c) tt
+pub overflow_mul-result-3 : goal.overflow_mul-result-3
+overflow_mul-result-3 c = result_need product (B c) (Y2 c) tt
 
-sub-result-2 : tie.Need-overflow-sub-result-2
-sub-result-2 c = result_need difference (Both c) (Back2 c) tt
+pub overflow_sub-result-2 : goal.overflow_sub-result-2
+overflow_sub-result-2 c = result_need difference (Both c) (Back2 c) tt
 
 pub returns : goal.returns
 unfolding exact_sum
 returns c = (Whole c).held.reads
-
-pub overflow_sub-result : goal.overflow_sub-result
-overflow_sub-result = sub-result
-
-pub overflow_mul-result : goal.overflow_mul-result
-overflow_mul-result = mul-result
-
-pub overflow_mul-result-2 : goal.overflow_mul-result-2
-overflow_mul-result-2 = mul-result-2
-
-pub overflow_add-result : goal.overflow_add-result
-overflow_add-result = add-result
-
-pub overflow_mul-result-3 : goal.overflow_mul-result-3
-overflow_mul-result-3 = mul-result-3
-
-pub overflow_sub-result-2 : goal.overflow_sub-result-2
-overflow_sub-result-2 = sub-result-2

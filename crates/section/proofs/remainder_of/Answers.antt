@@ -11,9 +11,10 @@ use Rattle.rounding.proofs.Nearest.{nearest-size}
 use Rattle.section.specs.Equation.{sum_shift, worked}
 use Rattle.section.specs.Asks.{sum_size}
 use Rattle.section.proofs.Laws.{remainder-size}
+use Rattle.section.proofs.remainder_of.Goals.{Start}
 use Rattle.section.proofs.remainder_of.Goals as goal
 
-module _ (s : goal.Start) where
+module _ (s : Start) where
   abbrev S : ℤ
   S = s.args.sum
 
@@ -43,23 +44,14 @@ module _ (s : goal.Start) where
   unfolding worked
   left-fits = subst (λ (z : ℤ). SFits w32 z) (sym left_is) (below-fits (remainder-size S) tt)
 
-mul-result : tie.Need-overflow-mul-result
-mul-result c = result_need product (Scale c) (Rounded c) tt
+pub overflow_mul-result : goal.overflow_mul-result
+overflow_mul-result c = result_need product (Scale c) (Rounded c) tt
 
-sub-result : tie.Need-overflow-sub-result
-sub-result c = result_need difference (Sum c) (Whole c) tt
+pub overflow_sub-result : goal.overflow_sub-result
+overflow_sub-result c = result_need difference (Sum c) (Whole c) tt
 
-cast-result : tie.Need-overflow-cast-result
-cast-result c = unary_need (λ (z : ℤ). z) (Left c).held (left-fits c)
+pub overflow_cast-result : goal.overflow_cast-result
+overflow_cast-result c = unary_need (λ (z : ℤ). z) (Left c).held (left-fits c)
 
 pub returns : goal.returns
 returns c = (unary (λ (z : ℤ). z) (Left c).held (left-fits c)).reads ∙ left_is c
-
-pub overflow_mul-result : goal.overflow_mul-result
-overflow_mul-result = mul-result
-
-pub overflow_sub-result : goal.overflow_sub-result
-overflow_sub-result = sub-result
-
-pub overflow_cast-result : goal.overflow_cast-result
-overflow_cast-result = cast-result

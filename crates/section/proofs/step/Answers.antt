@@ -7,9 +7,10 @@ use Rattle.refusals.specs.Numbers.{is_accepted}
 use Rattle.refusals.specs.declared.Verdict.{Verdict}
 use Rattle.section.specs.declared.Section.{Section}
 use Rattle.section.specs.Step.{step_verdict, accepted_step, refused, stepped}
+use Rattle.section.proofs.step.Goals.{After-accepted}
 use Rattle.section.proofs.step.Goals as goal
 
-module _ (c : goal.After-accepted) where
+module _ (c : After-accepted) where
   abbrev section : Section
   section = c.before.before.args.section
 
@@ -32,13 +33,13 @@ pub returns-then-accepted : goal.returns-then-accepted
 unfolding stepped
 returns-then-accepted c =
     c.advance.ensures
-    ∙ ap (accepted_step (section s)) (to_z-of_z s.before.before.fits.x)
+    ∙ ap (accepted_step (section s)) (to_z-of_z s.before.before.ranges.x)
     ∙ sym (simp (accepted-is s ∙ c.before.if-accepted.true))
   where
-    s : goal.After-accepted
+    s : After-accepted
     s = c.before.before
 
-pub returns-then-accepted : goal.returns
+pub returns : goal.returns
 unfolding stepped
 returns c =
     ap (λ (v : Verdict). refused v (section c.before)) (verdict-is c.before)

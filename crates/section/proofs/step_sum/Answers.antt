@@ -9,6 +9,7 @@ use Rattle.integers.proofs.Machine.{Num, below-fits, widened, widen_need}
 use Rattle.words.specs.Words.{word_size}
 use Rattle.bands.specs.Bands.{band_of}
 use Rattle.section.specs.Equation.{exact_sum}
+use Rattle.section.proofs.step_sum.Goals.{After-struct_told-3-1, Start}
 use Rattle.section.proofs.step_sum.Goals as goal
 
 small : {z : ℤ} → nat_abs z ≤ word_size → SFits w32 z
@@ -18,7 +19,7 @@ small h = below-fits h tt
 abbrev operand : (z : ℤ) → nat_abs z ≤ word_size → Num w64
 operand z h = widened tt z (small h)
 
-module _ (s : goal.Start) where
+module _ (s : Start) where
   abbrev X : Num w64
   X = operand s.args.x s.requires.x_size
 
@@ -41,30 +42,30 @@ module _ (s : goal.Start) where
   G = operand s.args.band.gamma s.requires.gamma_size
 
 -- the function's entry, from where all three coefficients have been read
-abbrev start : goal.After-struct_told-3-1 → goal.Start
+abbrev start : After-struct_told-3-1 → Start
 start c = c.before.before.before.before.before.before
 
-cast-alpha : tie.Need-overflow-cast-alpha
-cast-alpha c = widen_need tt c.before.before.args.band.alpha (small c.before.before.requires.alpha_size)
+pub overflow_cast-alpha : goal.overflow_cast-alpha
+overflow_cast-alpha c = widen_need tt c.before.before.args.band.alpha (small c.before.before.requires.alpha_size)
 
-cast-beta : tie.Need-overflow-cast-beta
-cast-beta c =
+pub overflow_cast-beta : goal.overflow_cast-beta
+overflow_cast-beta c =
     widen_need tt c.before.before.before.before.args.band.beta (small c.before.before.before.before.requires.beta_size)
 
-cast-gamma : tie.Need-overflow-cast-gamma
-cast-gamma c = widen_need tt (start c).args.band.gamma (small (start c).requires.gamma_size)
+pub overflow_cast-gamma : goal.overflow_cast-gamma
+overflow_cast-gamma c = widen_need tt (start c).args.band.gamma (small (start c).requires.gamma_size)
 
-cast-exact-sum : tie.Need-overflow-cast-exact-sum
-cast-exact-sum c = widen_need tt (start c).args.x (small (start c).requires.x_size)
+pub overflow_cast-x : goal.overflow_cast-x
+overflow_cast-x c = widen_need tt (start c).args.x (small (start c).requires.x_size)
 
-cast-exact-sum-2 : tie.Need-overflow-cast-exact-sum-2
-cast-exact-sum-2 c = widen_need tt (start c).args.x2 (small (start c).requires.x2_size)
+pub overflow_cast-x2 : goal.overflow_cast-x2
+overflow_cast-x2 c = widen_need tt (start c).args.x2 (small (start c).requires.x2_size)
 
-cast-exact-sum-3 : tie.Need-overflow-cast-exact-sum-3
-cast-exact-sum-3 c = widen_need tt (start c).args.y1 (small (start c).requires.y1_size)
+pub overflow_cast-y1 : goal.overflow_cast-y1
+overflow_cast-y1 c = widen_need tt (start c).args.y1 (small (start c).requires.y1_size)
 
-cast-exact-sum-4 : tie.Need-overflow-cast-exact-sum-4
-cast-exact-sum-4 c = widen_need tt (start c).args.y2 (small (start c).requires.y2_size)
+pub overflow_cast-y2 : goal.overflow_cast-y2
+overflow_cast-y2 c = widen_need tt (start c).args.y2 (small (start c).requires.y2_size)
 
 pub exact_sum-requires : goal.exact_sum-requires
 exact_sum-requires c =
@@ -73,30 +74,9 @@ exact_sum-requires c =
 
 pub returns : goal.returns
 returns c =
-    to_z-of_z (record { sfits = c.exact-sum.type_inv })
-    ∙ c.exact-sum.ensures
+    to_z-of_z (record { sfits = c.exact_sum.type_inv })
+    ∙ c.exact_sum.ensures
     ∙ (λ i. exact_sum (band_of ((A s).reads i) ((B s).reads i) ((G s).reads i)) ((X s).reads i) ((X2 s).reads i) ((Y1 s).reads i) ((Y2 s).reads i))
   where
-    s : goal.Start
+    s : Start
     s = start c.before
-
-pub overflow_cast-alpha : goal.overflow_cast-alpha
-overflow_cast-alpha = cast-alpha
-
-pub overflow_cast-beta : goal.overflow_cast-beta
-overflow_cast-beta = cast-beta
-
-pub overflow_cast-gamma : goal.overflow_cast-gamma
-overflow_cast-gamma = cast-gamma
-
-pub overflow_cast-x : goal.overflow_cast-x
-overflow_cast-x = cast-exact-sum
-
-pub overflow_cast-x2 : goal.overflow_cast-x2
-overflow_cast-x2 = cast-exact-sum-2
-
-pub overflow_cast-y1 : goal.overflow_cast-y1
-overflow_cast-y1 = cast-exact-sum-3
-
-pub overflow_cast-y2 : goal.overflow_cast-y2
-overflow_cast-y2 = cast-exact-sum-4

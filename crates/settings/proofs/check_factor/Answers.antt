@@ -5,14 +5,12 @@ use borrow.Author.Tests.{not-true, not-false}
 use Rattle.floats.specs.Value.{is_finite, in_range}
 use Rattle.settings.specs.Settings.{lowest, level_verdict}
 use borrow.Author.Rules.{rules}
-use Rattle.settings.proofs.check_factor.Lts as lts
-use Rattle.settings.proofs.check_factor.Reads as reads
-use Rattle.settings.proofs.check_factor.Tie as tie
+use Rattle.settings.proofs.check_factor.Goals.{After-is_factor, Start}
 use Rattle.settings.proofs.check_factor.Goals as goal
 
 -- what the first test has shown, and what the second then tells
-module _ (c : lts.After-is_factor tie.the-claims reads.Pre reads.Post) where
-  abbrev s : goal.Start
+module _ (c : After-is_factor) where
+  abbrev s : Start
   s = c.before.before.before
 
   finite : is_finite s.args.factor ≡ true

@@ -12,6 +12,7 @@ use borrow.Author.Tests.{eq-eqb, ne_eqb}
 use Rattle.integers.proofs.Machine.{Bounded, literal, num, difference, product, result, result_need}
 use Rattle.refusals.proofs.Laws.{passed, failed}
 use Rattle.settings.specs.Settings.{volume_band, band_step, band_position, volume_position, target_of}
+use Rattle.settings.proofs.position_target.Goals.{After-band_step-step, Start}
 use Rattle.settings.proofs.position_target.Goals as goal
 
 -- ---- the numbers
@@ -32,8 +33,8 @@ Middle = record { held = literal 16; bound = 16; within = lit≤ tt }
 abbrev position-of : (p : ℕ) → p ≤ 255 → Bounded w64
 position-of p h = record { held = record { bits = p; value = pos p; reads = to_z_pos w64 (omega arith) }; bound = 255; within = h }
 
-module _ (c : goal.After-band_step-step) where
-  abbrev s : goal.Start
+module _ (c : After-band_step-step) where
+  abbrev s : Start
   s = c.before.before
 
   abbrev P : Bounded w64

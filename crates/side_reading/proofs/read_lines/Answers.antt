@@ -9,9 +9,7 @@ use Rattle.refusals.specs.Numbers.{is_accepted}
 use Rattle.forms.specs.Line.{line_size}
 use Rattle.sheet.specs.Lines.{head_ranges}
 use Rattle.side_reading.proofs.Side.{head_refused, head_room, sections_read}
-use Rattle.side_reading.proofs.read_lines.Lts as lts
-use Rattle.side_reading.proofs.read_lines.Reads as reads
-use Rattle.side_reading.proofs.read_lines.Tie as tie
+use Rattle.side_reading.proofs.read_lines.Goals.{Else-not-accepted, Start}
 use Rattle.side_reading.proofs.read_lines.Goals as goal
 
 pub returns-then-not-accepted : goal.returns-then-not-accepted
@@ -21,8 +19,8 @@ returns-then-not-accepted c =
 
 -- ---- past the head
 
-module _ (c : goal.Else-not-accepted) where
-  abbrev start : lts.Start tie.the-claims reads.Pre reads.Post
+module _ (c : Else-not-accepted) where
+  abbrev start : Start
   start = c.before.before.before.before.before.before
 
   passed : is_accepted c.before.before.before.read_head-first.result ≡ true

@@ -12,9 +12,7 @@ use Rattle.sheet.specs.Sheet.{section_kinds}
 use Rattle.sheet.proofs.Lines.{section_sound}
 use Rattle.sheet.proofs.Sizes.{few_fields, kind_at}
 use Rattle.side_reading.proofs.Rows.{RowsRead, rows_begin, rows_done, rows_refused, rows_next}
-use Rattle.side_reading.proofs.read_sections.Lts as lts
-use Rattle.side_reading.proofs.read_sections.Reads as reads
-use Rattle.side_reading.proofs.read_sections.Tie as tie
+use Rattle.side_reading.proofs.read_sections.Goals.{Start}
 use Rattle.side_reading.proofs.read_sections.Goals as goal
 
 pub read_section-found-requires : goal.read_section-found-requires
@@ -33,7 +31,7 @@ returns-then-not-accepted c =
     rows_refused l.invariant false (omega arith) (sym (kind_at s.args.long l.i (omega arith))) c.before.before.before.read_section-found.ensures c.before.accepted.ensures c.if-not-accepted.true
 
 -- the place behind a line is a number of a place
-module _ (s : lts.Start tie.the-claims reads.Pre reads.Post invariant-loop decreases-loop) where
+module _ (s : Start) where
   bytes_fit : length s.args.bytes.now < 2 ^ 63
   bytes_fit = omega arith
 

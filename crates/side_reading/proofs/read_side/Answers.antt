@@ -7,13 +7,11 @@ use borrow.Author.Rules.{rules}
 use Rattle.sheet.specs.Sheet.{side_size}
 use Rattle.sheet.proofs.Sizes.{few_lines}
 use Rattle.side_reading.proofs.Side.{side_read}
-use Rattle.side_reading.proofs.read_side.Lts as lts
-use Rattle.side_reading.proofs.read_side.Reads as reads
-use Rattle.side_reading.proofs.read_side.Tie as tie
+use Rattle.side_reading.proofs.read_side.Goals.{Start}
 use Rattle.side_reading.proofs.read_side.Goals as goal
 
 -- the place behind a side is a number of a place
-module _ (s : lts.Start tie.the-claims reads.Pre reads.Post) where
+module _ (s : Start) where
   behind-fits : s.args.at + side_size true < 2 ^ 64
   behind-fits = omega (arith, s.requires)
 

@@ -6,7 +6,6 @@ use borrow.Author.Rules.{rules}
 use Rattle.lists.proofs.Loops.{Tabulated, tabulated_begin, tabulated_next, tabulated_done}
 use Rattle.bands.specs.Bands.{band_count}
 use Rattle.side_reading.specs.Side.{section_in_rows}
-use Rattle.side_reading.proofs.sections_of.Tie as tie
 use Rattle.side_reading.proofs.sections_of.Goals as goal
 
 pub loop-b-preserved : goal.loop-b-preserved

@@ -5,7 +5,6 @@ use native.Mathlib.Omega.{arith}
 use borrow.Author.Rules.{rules}
 use Rattle.lists.proofs.Loops.{Tabulated, tabulated_begin, tabulated_next, tabulated_done}
 use Rattle.bands.specs.Bands.{band_count, band_at}
-use Rattle.unit.proofs.bands_of.Tie as tie
 use Rattle.unit.proofs.bands_of.Goals as goal
 
 pub returns : goal.returns

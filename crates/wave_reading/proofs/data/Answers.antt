@@ -8,12 +8,10 @@ use borrow.Author.Rules.{rules}
 use Rattle.wave_reading.specs.declared.Located.{Located}
 use Rattle.wave_reading.specs.Reading.{found, data_of}
 use Rattle.wave_reading.proofs.Inside.{found_within}
-use Rattle.wave_reading.proofs.data.Lts as lts
-use Rattle.wave_reading.proofs.data.Reads as reads
-use Rattle.wave_reading.proofs.data.Tie as tie
+use Rattle.wave_reading.proofs.data.Goals.{After-find-place}
 use Rattle.wave_reading.proofs.data.Goals as goal
 
-within : (c : lts.After-find tie.the-claims reads.Pre reads.Post) → c.find-place.result-1.from + c.find-place.result-1.size ≤ length c.before.before.args.file.now
+within : (c : After-find-place) → c.find-place.result-1.from + c.find-place.result-1.size ≤ length c.before.before.args.file.now
 within c = rw c.find-place.ensures (found_within c.before.before.args.file.now)
 
 -- the part from one place to another, by how many bytes it has

@@ -12,14 +12,12 @@ use lib.ListN.{length}
 use Rattle.wave.specs.Chunks.{four_at, format, data_name}
 use Rattle.wave_reading.specs.Walk.{chunks, next_at, data_from, misfits}
 use Rattle.wave_reading.proofs.Steps.{walk_over, walk_data, walk_misfit, walk_next}
-use Rattle.wave_reading.proofs.walk.Lts as lts
-use Rattle.wave_reading.proofs.walk.Reads as reads
-use Rattle.wave_reading.proofs.walk.Tie as tie
+use Rattle.wave_reading.proofs.walk.Goals.{After-four_at-size, At-loop-at}
 use Rattle.wave_reading.proofs.walk.Goals as goal
 
 -- at the head of a turn there is a chunk
-module _ (c : lts.After-four_at2 tie.the-claims reads.Pre reads.Post invariant-loop decreases-loop) where
-  abbrev head : goal.At-loop-at
+module _ (c : After-four_at-size) where
+  abbrev head : At-loop-at
   head = c.before.before.before
 
   abbrev b : List ℕ

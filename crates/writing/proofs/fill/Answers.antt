@@ -7,9 +7,7 @@ use Rattle.unit.proofs.Fitness.{fit_of_test}
 use Rattle.sheet.specs.Sheet.{side_letters}
 use Rattle.writing.proofs.Typed.{unit_typed}
 use Rattle.writing.proofs.Filled.{short_filled, unfit_filled, sheet_filled}
-use Rattle.writing.proofs.fill.Lts as lts
-use Rattle.writing.proofs.fill.Reads as reads
-use Rattle.writing.proofs.fill.Tie as tie
+use Rattle.writing.proofs.fill.Goals.{Start}
 use Rattle.writing.proofs.fill.Goals as goal
 
 pub returns-then-out-lt-SHEET_SIZE : goal.returns-then-out-lt-SHEET_SIZE
@@ -29,5 +27,5 @@ pub returns : goal.returns
 returns c =
     sheet_filled side_letters s.args.unit s.args.out-1.now (omega arith) c.before.before.before.before.before.is_fit.ensures (not-false _ c.before.before.before.before.if-not-is_fit.false) (unit_typed s.args.unit _ s.well_formed.0) c.before.before.put_sheet.ensures
   where
-    s : lts.Start tie.the-claims reads.Pre reads.Post
+    s : Start
     s = c.before.before.before.before.before.before.before.before

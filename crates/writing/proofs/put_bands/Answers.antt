@@ -9,7 +9,6 @@ use Rattle.forms.specs.Line.{line_size}
 use Rattle.forms.proofs.Line.{text_length}
 use Rattle.forms.proofs.Texts.{Onward, onward_begin, onward_size, onward_next, onward_done}
 use Rattle.sheet.specs.Lines.{band_letter, band_ranges, band_row, band_form}
-use Rattle.writing.proofs.put_bands.Tie as tie
 use Rattle.writing.proofs.put_bands.Goals as goal
 
 pub loop-i-init : goal.loop-i-init

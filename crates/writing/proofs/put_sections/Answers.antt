@@ -14,7 +14,6 @@ use Rattle.forms.proofs.Texts.{Onward, onward_begin, onward_size, onward_room, o
 use Rattle.sheet.specs.Lines.{section_form}
 use Rattle.sheet.specs.Sheet.{section_kinds}
 use Rattle.sheet.proofs.Sizes.{section_length, sections_length, long_kind_at}
-use Rattle.writing.proofs.put_sections.Tie as tie
 use Rattle.writing.proofs.put_sections.Goals as goal
 
 pub put_section-next-requires : goal.put_section-next-requires

@@ -12,9 +12,7 @@ use Rattle.sheet.proofs.Sizes.{bands_length}
 use Rattle.sheet.specs.Lines.{volume_letter, volume_ranges, volume_row, volume_form}
 use Rattle.sheet.specs.Sheet.{side_letters, bands_form, front_form, sides_form, front_size, sheet_of}
 use Rattle.writing.proofs.Typed.{unit_typed}
-use Rattle.writing.proofs.put_sheet.Lts as lts
-use Rattle.writing.proofs.put_sheet.Reads as reads
-use Rattle.writing.proofs.put_sheet.Tie as tie
+use Rattle.writing.proofs.put_sheet.Goals.{Start}
 use Rattle.writing.proofs.put_sheet.Goals as goal
 
 pub returns : goal.returns
@@ -24,7 +22,7 @@ returns c =
     (sets_behind s.args.out-1.now (volume_form.text u.volume-1) (bands_form.text u.bands-1) 0 (line_size (length volume_ranges)) (omega (arith, volume-long)) c.before.before.before.before.before.before.before.before.before.before.before.put_volume.ensures c.before.before.before.before.before.before.before.put_bands.ensures)
     c.before.before.put_sides.ensures
   where
-    s : lts.Start tie.the-claims reads.Pre reads.Post
+    s : Start
     s = c.before.before.before.before.before.before.before.before.before.before.before.before.before.before.before.before.before
 
     u : Unit

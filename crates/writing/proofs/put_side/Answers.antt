@@ -16,14 +16,12 @@ use Rattle.forms.specs.Line.{line_size}
 use Rattle.forms.proofs.Line.{text_length}
 use Rattle.sheet.specs.Lines.{head_ranges, head_row, head_form}
 use Rattle.sheet.specs.Sheet.{sections_form}
-use Rattle.writing.proofs.put_side.Lts as lts
-use Rattle.writing.proofs.put_side.Reads as reads
-use Rattle.writing.proofs.put_side.Tie as tie
+use Rattle.writing.proofs.put_side.Goals.{Start}
 use Rattle.writing.proofs.put_side.Goals as goal
 
 -- ---- no number of the head is larger than a word
 
-module _ (s : lts.Start tie.the-claims reads.Pre reads.Post) where
+module _ (s : Start) where
   x1-size : nat_abs s.args.channel.x1 ≤ word_size
   x1-size = input_size s.args.channel.x1 s.requires.1.x1
 
@@ -48,5 +46,5 @@ returns c = (
   refl,
 )
   where
-    s : lts.Start tie.the-claims reads.Pre reads.Post
+    s : Start
     s = c.before.before.before.before.before.before.before.before.before.before.before.before.before.before.before.before

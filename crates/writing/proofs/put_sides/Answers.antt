@@ -14,9 +14,7 @@ use Rattle.forms.proofs.Texts.{Onward, onward_begin, onward_size, onward_next, o
 use Rattle.sheet.proofs.Sizes.{side_length}
 use Rattle.sheet.specs.Sheet.{side_form, side_size}
 use Rattle.writing.proofs.Typed.{channels_typed}
-use Rattle.writing.proofs.put_sides.Lts as lts
-use Rattle.writing.proofs.put_sides.Reads as reads
-use Rattle.writing.proofs.put_sides.Tie as tie
+use Rattle.writing.proofs.put_sides.Goals.{At-loop-i, Start}
 use Rattle.writing.proofs.put_sides.Goals as goal
 
 pub loop-i-init : goal.loop-i-init
@@ -28,7 +26,7 @@ put_side-next-requires c = (
   each_get_d ChannelFit s.args.channels zero_channel s.requires.2 c.before.before.before.before.loop-i.i (omega arith),
 )
   where
-    s : lts.Start tie.the-claims reads.Pre reads.Post invariant-loop decreases-loop
+    s : Start
     s = c.before.before.before.before.before.before.before
 
 pub loop-i-preserved : goal.loop-i-preserved
@@ -37,10 +35,10 @@ loop-i-preserved c = (
   onward_next turn.loop-i.invariant.1 0 zero_channel (omega arith) (omega arith) refl c.before.before.put_side-next.ensures.0 (omega (arith, c.before.before.put_side-next.ensures.1, side_length true (get_or s.args.letters.now turn.loop-i.i 0) (get_or s.args.channels turn.loop-i.i zero_channel) ten)),
 )
   where
-    s : lts.Start tie.the-claims reads.Pre reads.Post invariant-loop decreases-loop
+    s : Start
     s = c.before.before.before.before.before.before.before.before.before.before
 
-    turn : lts.At-loop tie.the-claims reads.Pre reads.Post invariant-loop decreases-loop
+    turn : At-loop-i
     turn = c.before.before.before.before.before.before.before
 
     ten : TenSections (get_or s.args.channels turn.loop-i.i zero_channel)

@@ -9,13 +9,11 @@ use Rattle.unit.specs.declared.Unit.{Unit}
 use Rattle.sheet.specs.Sheet.{side_letters}
 use Rattle.writing.specs.Written.{filled_part}
 use Rattle.writing.proofs.Filled.{part_filled}
-use Rattle.writing.proofs.write.Lts as lts
-use Rattle.writing.proofs.write.Reads as reads
-use Rattle.writing.proofs.write.Tie as tie
+use Rattle.writing.proofs.write.Goals.{After-fill-count}
 use Rattle.writing.proofs.write.Goals as goal
 
 -- what is filled is as long as the buffer, so that its front can be handed back
-module _ (c : lts.After-fill tie.the-claims reads.Pre reads.Post) where
+module _ (c : After-fill-count) where
   abbrev unit : Unit
   unit = c.before.before.before.args.unit
 

@@ -20,9 +20,7 @@ use Rattle.levels.specs.Levels.{ramp}
 use Rattle.engine.specs.Floats.{largest}
 use Rattle.engine.specs.Frame.{limited_float}
 use Rattle.engine.proofs.Carry.{carries_whole, limited_is}
-use Rattle.engine.proofs.FloatLevel.moved.Lts as lts
-use Rattle.engine.proofs.FloatLevel.moved.Reads as reads
-use Rattle.engine.proofs.FloatLevel.moved.Tie as tie
+use Rattle.engine.proofs.FloatLevel.moved.Goals.{After-row_known-1, Start}
 use Rattle.engine.proofs.FloatLevel.moved.Goals as goal
 
 -- the slope downwards: 0 - slope, which is never minus zero
@@ -33,8 +31,8 @@ falling-is : (n : ℕ) → n ≤ largest → falling (float (pos n)) ≡ float (
 unfolding of_bits of_int
 falling-is n h = sub_whole binary64 (pos 0) (lit≤ tt) (of_whole binary64 (pos n) h) ∙ ap float (+ℤ_idl (neg_ℤ (pos n)))
 
-module _ (c : goal.After-row_known-1) where
-  abbrev s : lts.Start tie.the-claims reads.Pre reads.Post
+module _ (c : After-row_known-1) where
+  abbrev s : Start
   s = c.before
 
   abbrev slope : ℕ

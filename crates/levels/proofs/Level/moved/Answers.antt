@@ -7,9 +7,7 @@ use mir.Val.{to_z, of_z}
 use mir.Facts.{to_z-of_z}
 use Rattle.integers.proofs.Machine.{reads_back}
 use Rattle.levels.specs.Levels.{ramp}
-use Rattle.levels.proofs.Level.moved.Lts as lts
-use Rattle.levels.proofs.Level.moved.Reads as reads
-use Rattle.levels.proofs.Level.moved.Tie as tie
+use Rattle.levels.proofs.Level.moved.Goals.{Start}
 use Rattle.levels.proofs.Level.moved.Goals as goal
 
 pub returns : goal.returns
@@ -23,7 +21,7 @@ returns c =
       target = target-reads i;
     }
   where
-    s : lts.Start tie.the-claims reads.Pre reads.Post
+    s : Start
     s = c.before.before.before
 
     present-reads : to_z w64 (of_z w64 s.args.self.present) ≡ s.args.self.present
