@@ -22,7 +22,7 @@ word_size_lem v e = abs_le v word_size bounds.0 (omega (linear, bounds.1))
 -- a number of that size loses nothing in 32 bits
 module _ (z : ℤ) (size : nat_abs z ≤ word_size) where
   pub narrow_need : SFits w32 (to_z w64 (of_z w64 z))
-  narrow_need = unary_need (λ (x : ℤ). x) (num z (below-fits size tt)) (below-fits size tt)
+  narrow_need = unary_need {u = w64} (λ (x : ℤ). x) (num z (below-fits size tt)) (below-fits size tt)
 
   pub narrow_reads : to_z w32 (of_z w32 (to_z w64 (of_z w64 z))) ≡ z
-  narrow_reads = unary_reads (λ (x : ℤ). x) (num z (below-fits size tt)) (below-fits size tt)
+  narrow_reads = unary_reads {u = w64} {w = w32} (λ (x : ℤ). x) (num z (below-fits size tt)) (below-fits size tt)

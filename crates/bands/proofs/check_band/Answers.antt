@@ -40,7 +40,7 @@ alpha-test c = c.in_range_i32.ensures ∙ ap (within (pos 0) (pos 8388607)) (to_
 
 pub returns-then-not-in_range_i32 : goal.returns-then-not-in_range_i32
 unfolding band_verdict
-returns-then-not-in_range_i32 c = sym (simp (sym (alpha-test c.before) ∙ not-true _ c.if-not-in_range_i32.true))
+returns-then-not-in_range_i32 c = sym (simp (sym (alpha-test c.before) ∙ c.if-not-in_range_i32.true))
 
 -- the second is beta's
 module _ (c : After-in_range_i32-2) where
@@ -48,7 +48,7 @@ module _ (c : After-in_range_i32-2) where
   s₂ = c.before.before.before
 
   alpha-right : alpha_accepted (band s₂).alpha ≡ true
-  alpha-right = sym (alpha-test c.before.before) ∙ not-false _ c.before.if-not-in_range_i32.false
+  alpha-right = sym (alpha-test c.before.before) ∙ c.before.if-not-in_range_i32.false
 
   beta-test : c.in_range_i32-2.result ≡ beta_accepted (band s₂).beta
   unfolding beta_accepted
@@ -56,7 +56,7 @@ module _ (c : After-in_range_i32-2) where
 
 pub returns-then-not-in_range_i32-2 : goal.returns-then-not-in_range_i32-2
 unfolding band_verdict
-returns-then-not-in_range_i32-2 c = sym (simp (alpha-right c.before, sym (beta-test c.before) ∙ not-true _ c.if-not-in_range_i32-2.true))
+returns-then-not-in_range_i32-2 c = sym (simp (alpha-right c.before, sym (beta-test c.before) ∙ c.if-not-in_range_i32-2.true))
 
 -- the ends of gamma's range, which fit 32 bits by beta's range
 module _ (c : Else-not-in_range_i32-2) where
@@ -64,7 +64,7 @@ module _ (c : Else-not-in_range_i32-2) where
   s₃ = s₂ c.before
 
   beta-right : beta_accepted (band s₃).beta ≡ true
-  beta-right = sym (beta-test c.before) ∙ not-false _ c.if-not-in_range_i32-2.false
+  beta-right = sym (beta-test c.before) ∙ c.if-not-in_range_i32-2.false
 
   beta-bounds : (beta_low ≤ℤ (band s₃).beta) × ((band s₃).beta ≤ℤ beta_high)
   unfolding beta_accepted
@@ -115,7 +115,7 @@ returns-then-not-in_range_i32-3 c =
     (simp (
       alpha-right c.before.before.before,
       beta-right c.before.before,
-      sym (gamma-test c.before) ∙ not-true _ c.if-not-in_range_i32-3.true,
+      sym (gamma-test c.before) ∙ c.if-not-in_range_i32-3.true,
     ))
 
 pub returns : goal.returns
@@ -125,5 +125,5 @@ returns c =
     (simp (
       alpha-right c.before.before.before,
       beta-right c.before.before,
-      sym (gamma-test c.before) ∙ not-false _ c.if-not-in_range_i32-3.false,
+      sym (gamma-test c.before) ∙ c.if-not-in_range_i32-3.false,
     ))

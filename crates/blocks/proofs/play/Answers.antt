@@ -22,7 +22,7 @@ module _ (c : After-accepted) where
   s = c.before.before.before.before
 
   abbrev verdict : Verdict
-  verdict = block_verdict 2 s.args.unit (length s.args.input.now) (length s.args.output-1.now)
+  verdict = block_verdict 2 s.args.unit (length s.args.input.now) (length s.args.output.now)
 
   verdict-is : c.before.check_block-verdict.result ≡ verdict
   verdict-is = c.before.check_block-verdict.ensures
@@ -54,7 +54,7 @@ returns-then-accepted c = (
     input = (s a).args.input.now
 
     room : List ℕ
-    room = (s a).args.output-1.now
+    room = (s a).args.output.now
 
     yes : is_accepted (verdict a) ≡ true
     yes = accepted-is a ∙ r.before.before.before.before.before.if-accepted.taken

@@ -24,7 +24,7 @@ module _ (s : Start) where
   input = s.args.input.now
 
   abbrev room : List ℕ
-  room = s.args.output-1.now
+  room = s.args.output.now
 
   abbrev U : Unit
   U = unit_of_parts s.args.volume s.args.bands s.args.channels
@@ -116,7 +116,7 @@ returns c =
       unit =
           (λ i. record {
             volume = c.before.before.before.before.level_of-volume_after.ensures i;
-            bands = sym (packed (p f)).bands_are.first-1 i;
+            bands = sym (packed (p f)).bands_are.first i;
             channels = c.before.before.channel_of-first_after.ensures i ∷ c.channel_of-second_after.ensures i ∷ [];
           })
           ∙ unit_after_lem (U (z (p f))) (input (z (p f))) (room (z (p f))) (accepts (z (p f))) (level (p f)) (bands (p f)) (pair (p f)) (packed (p f)) f.frames-level.result (after f) (filled f) f.frames-level.ensures;

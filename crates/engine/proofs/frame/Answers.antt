@@ -36,7 +36,7 @@ module _ (c : After-sides_at-flags) where
   bands = s.args.bands.now
 
   abbrev l : List Float
-  l = s.args.pair-1.now
+  l = s.args.pair.now
 
   abbrev x : Sides
   x = s.args.x

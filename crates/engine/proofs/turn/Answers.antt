@@ -57,10 +57,7 @@ scale-is = refl
 
 -- ---- S
 
-abbrev Increased : Type 0
-Increased = After-increased-sum
-
-module _ (a : Increased) where
+module _ (a : After-increased-sum) where
   abbrev s : Start
   s = a.before.before.before.before.before
 
@@ -135,11 +132,8 @@ nearest_whole-rounded-requires c = quotient_roundable sum_shift (sum c) (S c) (l
 
 -- ---- rounded
 
-abbrev Rounded : Type 0
-Rounded = After-nearest_whole-rounded
-
-module _ (c : Rounded) where
-  abbrev a : Increased
+module _ (c : After-nearest_whole-rounded) where
+  abbrev a : After-increased-sum
   a = c.before
 
   rounded-is : c.nearest_whole-rounded.result ≡ float (r a)
@@ -160,10 +154,7 @@ module _ (c : Rounded) where
 
 -- ---- limited
 
-abbrev Limited : Type 0
-Limited = After-limited-y
-
-module _ (c : Limited) where
+module _ (c : After-limited-y) where
   y-whole : c.limited-y.result ≡ float (limit word_low word_high (r (a c.before)))
   y-whole =
       c.limited-y.ensures
@@ -187,7 +178,7 @@ moved-gain-requires c =
       target_carries = carries (s n).args.section.gain.target (section n).gain.target (ap (λ h. h.gain.target) (s n).requires.section_carries) (target-size n) (lit≤ tt);
     }
   where
-    n : Increased
+    n : After-increased-sum
     n = a c.before.before
 
 pub carried-requires : goal.carried-requires
@@ -215,10 +206,10 @@ returns c =
           };
     }
   where
-    l : Limited
+    l : After-limited-y
     l = c.before.before.before.before.before
 
-    n : Increased
+    n : After-increased-sum
     n = a l.before
 
     y : ℤ

@@ -14,7 +14,7 @@ use Rattle.engine.proofs.turn_bands.Goals as goal
 
 module _ (bands : List Float) (d : Sides) (from : ℕ) (s : Between) where
   -- a turn leaves the number of floats
-  length-after : (n : ℕ) → length (after_turns bands d from n s).pair-1 ≡ length s.pair-1
+  length-after : (n : ℕ) → length (after_turns bands d from n s).pair ≡ length s.pair
   length-after zero = refl
   length-after (suc n) = simp section_length (length-after n)
 
@@ -35,10 +35,10 @@ module _ (c : In-loop-b) where
   s = c.before.before.before
 
   abbrev start : Between
-  start = between s.args.pair-1.now s.args.before
+  start = between s.args.pair.now s.args.before
 
   abbrev here : Between
-  here = between c.before.loop-b.pair-1 c.before.loop-b.tallies
+  here = between c.before.loop-b.pair c.before.loop-b.tallies
 
   inv : Reached s.args.bands.now s.args.d s.args.from start s.args.to c.before.loop-b.b here
   inv = c.before.loop-b.invariant
@@ -48,8 +48,8 @@ module _ (c : In-loop-b) where
 
 pub turn_pair-tallies-requires : goal.turn_pair-tallies-requires
 turn_pair-tallies-requires c =
-    subst (λ (b : ℕ). TurnPairAsks (s k).args.bands.now (here k).pair-1 b (s k).args.d (here k).tallies) (sym (inv k).place)
-    (subst (λ (m : Between). TurnPairAsks (s k).args.bands.now m.pair-1 ((s k).args.from + (inv k).turns) (s k).args.d m.tallies) (sym (inv k).is)
+    subst (λ (b : ℕ). TurnPairAsks (s k).args.bands.now (here k).pair b (s k).args.d (here k).tallies) (sym (inv k).place)
+    (subst (λ (m : Between). TurnPairAsks (s k).args.bands.now m.pair ((s k).args.from + (inv k).turns) (s k).args.d m.tallies) (sym (inv k).is)
     ((s k).requires.each (inv k).turns (below k)))
   where
     k : In-loop-b
@@ -70,8 +70,8 @@ loop-b-preserved c =
       is =
           (λ i. between (c.before.before.turn_pair-tallies.ensures.1 i) (c.before.before.turn_pair-tallies.ensures.0 i))
           ∙ (λ i. between
-          (pair_after (feeds-are i) (s k).args.bands.now ((inv k).is i).pair-1 ((inv k).place i) (s k).args.d ((inv k).is i).tallies)
-          (tallies_after (feeds-are i) (s k).args.bands.now ((inv k).is i).pair-1 ((inv k).place i) (s k).args.d ((inv k).is i).tallies));
+          (pair_after (feeds-are i) (s k).args.bands.now ((inv k).is i).pair ((inv k).place i) (s k).args.d ((inv k).is i).tallies)
+          (tallies_after (feeds-are i) (s k).args.bands.now ((inv k).is i).pair ((inv k).place i) (s k).args.d ((inv k).is i).tallies));
     }
   where
     k : In-loop-b
@@ -86,10 +86,10 @@ module _ (c : After-loop-b) where
   abbrev e : Start
   e = c.before.before.before
 
-  all : between c.before.loop-b.pair-1 c.before.loop-b.tallies ≡ after_turns e.args.bands.now e.args.d e.args.from (e.args.to - e.args.from) (between e.args.pair-1.now e.args.before)
+  all : between c.before.loop-b.pair c.before.loop-b.tallies ≡ after_turns e.args.bands.now e.args.d e.args.from (e.args.to - e.args.from) (between e.args.pair.now e.args.before)
   all =
       c.before.loop-b.invariant.is
-      ∙ ap (λ (n : ℕ). after_turns e.args.bands.now e.args.d e.args.from n (between e.args.pair-1.now e.args.before))
+      ∙ ap (λ (n : ℕ). after_turns e.args.bands.now e.args.d e.args.from n (between e.args.pair.now e.args.before))
       count
     where
       count : c.before.loop-b.invariant.turns ≡ e.args.to - e.args.from
@@ -97,8 +97,8 @@ module _ (c : After-loop-b) where
 
 pub shape_of-pair : goal.shape_of-pair
 shape_of-pair c =
-    ap (λ (m : Between). length m.pair-1) (all c)
-    ∙ length-after (e c).args.bands.now (e c).args.d (e c).args.from (between (e c).args.pair-1.now (e c).args.before) ((e c).args.to - (e c).args.from)
+    ap (λ (m : Between). length m.pair) (all c)
+    ∙ length-after (e c).args.bands.now (e c).args.d (e c).args.from (between (e c).args.pair.now (e c).args.before) ((e c).args.to - (e c).args.from)
 
 pub returns : goal.returns
 returns c = all c

@@ -44,7 +44,7 @@ put_section-requires-2 c =
       s.requires.below,
       s.requires.room,
       ap length c.before.before.before.put_section.ensures,
-      section_length s.args.pair-1.now (section_floats * s.args.b) t.turn-first.result.section,
+      section_length s.args.pair.now (section_floats * s.args.b) t.turn-first.result.section,
     )
   where
     s : Start
@@ -58,19 +58,19 @@ returns c = (
   (λ i. record { first = (first-is i).tally; second = (second_is i).tally }),
   c.before.before.before.before.put_section-2.ensures
       ∙ ap₂ (λ (l : List Float) (h : FloatSection). put_section l (section_floats * s.args.b + 1) h)
-      (c.before.before.before.before.before.before.before.before.put_section.ensures ∙ ap (λ (x : Turned). put_section s.args.pair-1.now (section_floats * s.args.b) x.section) first-is)
+      (c.before.before.before.before.before.before.before.before.put_section.ensures ∙ ap (λ (x : Turned). put_section s.args.pair.now (section_floats * s.args.b) x.section) first-is)
       (ap (λ (x : Turned). x.section) second_is),
 )
   where
     s : Start
     s = c.before.before.before.before.before.before.before.before.before.before.before.before.before.before.before.before.before.before.before.before.before.before.before
 
-    first-is : c.before.before.before.before.before.before.before.before.before.before.before.before.before.before.before.before.turn-first.result ≡ first_turned s.args.feeds s.args.bands.now s.args.pair-1.now s.args.b s.args.d s.args.tallies
+    first-is : c.before.before.before.before.before.before.before.before.before.before.before.before.before.before.before.before.turn-first.result ≡ first_turned s.args.feeds s.args.bands.now s.args.pair.now s.args.b s.args.d s.args.tallies
     first-is =
         c.before.before.before.before.before.before.before.before.before.before.before.before.before.before.before.before.turn-first.ensures
         ∙ ap₂ (λ (k : FloatBand) (h : FloatSection). turned s.args.feeds k h s.args.d.first s.args.tallies.first) c.before.before.before.before.before.before.before.before.before.before.before.before.before.before.before.before.before.before.before.band_at.ensures c.before.before.before.before.before.before.before.before.before.before.before.before.before.before.before.before.before.section_at.ensures
 
-    second_is : c.before.before.before.before.before.before.before.before.before.before.before.before.turn-second.result ≡ second_turned s.args.feeds s.args.bands.now s.args.pair-1.now s.args.b s.args.d s.args.tallies
+    second_is : c.before.before.before.before.before.before.before.before.before.before.before.before.turn-second.result ≡ second_turned s.args.feeds s.args.bands.now s.args.pair.now s.args.b s.args.d s.args.tallies
     second_is =
         c.before.before.before.before.before.before.before.before.before.before.before.before.turn-second.ensures
         ∙ ap₂ (λ (k : FloatBand) (h : FloatSection). turned s.args.feeds k h s.args.d.second s.args.tallies.second) c.before.before.before.before.before.before.before.before.before.before.before.before.before.before.before.band_at-2.ensures c.before.before.before.before.before.before.before.before.before.before.before.before.before.section_at-2.ensures

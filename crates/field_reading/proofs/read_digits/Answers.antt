@@ -81,7 +81,7 @@ module _ (c : In-loop-i) where
 
 module _ (c : Else-not-is_digit) where
   is_one : is_digit (byte c.before.before.before) ≡ true
-  is_one = sym c.before.is_digit.ensures ∙ not-false _ c.if-not-is_digit.false
+  is_one = sym c.before.is_digit.ensures ∙ c.if-not-is_digit.false
 
   high : byte c.before.before.before ≤ 57
   high = digit_high (byte c.before.before.before) is_one
@@ -94,7 +94,7 @@ unfolding digits_read
 loop-i-init c = (search rules, search rules, one-le-pow (c.before.args.from - c.before.args.from) 10 (zero-lt-suc 9), refl)
 
 pub returns-then-not-is_digit : goal.returns-then-not-is_digit
-returns-then-not-is_digit c = answer-is c.before.before.before false _ (sym c.before.is_digit.ensures ∙ not-true _ c.if-not-is_digit.true) refl
+returns-then-not-is_digit c = answer-is c.before.before.before false _ (sym c.before.is_digit.ensures ∙ c.if-not-is_digit.true) refl
 
 pub overflow_mul-value : goal.overflow_mul-value
 overflow_mul-value c = record { fits = omega (arith, value_low c.before.before.before) }

@@ -60,10 +60,10 @@ bounds-out-at-then-size-lt10 c = simp length-set (omega (arith, c.before.before.
 pub returns-then-size-lt10 : goal.returns-then-size-lt10
 returns-then-size-lt10 c =
     let start = c.before.before.before.before.before.before.before.before in
-    stored_short start.args.out-1.now start.args.at (to_z w32 (of_z w32 start.args.number))
+    stored_short start.args.out.now start.args.at (to_z w32 (of_z w32 start.args.number))
     c.before.before.before.before.before.before.magnitude-size.ensures
     c.before.before.before.put_blanks.ensures c.column.ensures c.before.before.before.before.before.if-size-lt10.true
-    ∙ ap (λ (z : ℤ). sets start.args.out-1.now start.args.at (field z)) (to_z-of_z start.ranges.number)
+    ∙ ap (λ (z : ℤ). sets start.args.out.now start.args.at (field z)) (to_z-of_z start.ranges.number)
 
 pub put_columns-requires : goal.put_columns-requires
 put_columns-requires c = simp length-set (omega arith)
@@ -75,6 +75,6 @@ pub returns : goal.returns
 returns c =
     let start = c.before.before.before.before.before.before.before in
     c.before.before.put_columns.ensures
-    ∙ stored-field start.args.out-1.now start.args.at (to_z w32 (of_z w32 start.args.number))
+    ∙ stored-field start.args.out.now start.args.at (to_z w32 (of_z w32 start.args.number))
     c.before.before.before.before.before.magnitude-size.ensures
-    ∙ ap (λ (z : ℤ). sets start.args.out-1.now start.args.at (field z)) (to_z-of_z start.ranges.number)
+    ∙ ap (λ (z : ℤ). sets start.args.out.now start.args.at (field z)) (to_z-of_z start.ranges.number)

@@ -15,11 +15,11 @@ loop-i-init c = every_begin
 
 pub returns-then-not-is_plain : goal.returns-then-not-is_plain
 returns-then-not-is_plain c =
-    every_fails c.before.before.before.before.loop-i.invariant cleared_band_section (omega arith) c.before.is_plain.ensures c.if-not-is_plain.true
+    every_fails c.before.before.before.before.loop-i.invariant cleared_band_section (omega arith) c.before.is_plain.ensures c.if-not-is_plain.true-raw
 
 pub loop-i-preserved : goal.loop-i-preserved
 loop-i-preserved c =
-    every-passes c.before.before.before.before.loop-i.invariant cleared_band_section (omega arith) c.before.is_plain.ensures c.if-not-is_plain.false
+    every-passes c.before.before.before.before.loop-i.invariant cleared_band_section (omega arith) c.before.is_plain.ensures c.if-not-is_plain.false-raw
 
 pub returns : goal.returns
 returns c =

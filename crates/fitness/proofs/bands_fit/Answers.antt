@@ -11,10 +11,10 @@ use Rattle.unit.specs.Fit.{band_fits}
 use Rattle.fitness.proofs.bands_fit.Goals as goal
 
 pub returns-then-not-accepted : goal.returns-then-not-accepted
-returns-then-not-accepted c = every_fails c.before.before.before.before.before.loop-i.invariant zero_band (omega arith) (c.before.accepted.ensures ∙ ap is_accepted c.before.before.check_band-verdict.ensures) c.if-not-accepted.true
+returns-then-not-accepted c = every_fails c.before.before.before.before.before.loop-i.invariant zero_band (omega arith) (c.before.accepted.ensures ∙ ap is_accepted c.before.before.check_band-verdict.ensures) c.if-not-accepted.true-raw
 
 pub loop-i-preserved : goal.loop-i-preserved
-loop-i-preserved c = every-passes c.before.before.before.before.before.loop-i.invariant zero_band (omega arith) (c.before.accepted.ensures ∙ ap is_accepted c.before.before.check_band-verdict.ensures) c.if-not-accepted.false
+loop-i-preserved c = every-passes c.before.before.before.before.before.loop-i.invariant zero_band (omega arith) (c.before.accepted.ensures ∙ ap is_accepted c.before.before.check_band-verdict.ensures) c.if-not-accepted.false-raw
 
 pub returns : goal.returns
 returns c = every_done c.before.loop-i.invariant (omega arith)

@@ -13,15 +13,15 @@ pub returns-then-not-input_fits : goal.returns-then-not-input_fits
 returns-then-not-input_fits c =
     let t = c.before in
     let s = t.before.before.args.channel in
-    and_fails (test_back is_input w64 s.x1 (omega arith) t.input_fits.ensures) _ c.if-not-input_fits.true
+    and_fails (test_back is_input w64 s.x1 (omega arith) t.input_fits.ensures) _ c.if-not-input_fits.true-raw
 
 pub returns-then-not-input_fits-2 : goal.returns-then-not-input_fits-2
 returns-then-not-input_fits-2 c =
     let u = c.before in
     let t = u.before.before.before in
     let s = t.before.before.args.channel in
-    and_passes (test_back is_input w64 s.x1 (omega arith) t.input_fits.ensures) u.before.before.if-not-input_fits.false
-    (and_fails (test_back is_input w64 s.x2 (omega arith) u.input_fits-2.ensures) _ c.if-not-input_fits-2.true)
+    and_passes (test_back is_input w64 s.x1 (omega arith) t.input_fits.ensures) u.before.before.if-not-input_fits.false-raw
+    (and_fails (test_back is_input w64 s.x2 (omega arith) u.input_fits-2.ensures) _ c.if-not-input_fits-2.true-raw)
 
 pub returns-then-not-in_range : goal.returns-then-not-in_range
 unfolding is_flag
@@ -30,9 +30,9 @@ returns-then-not-in_range c =
     let u = v.before.before.before in
     let t = u.before.before.before in
     let s = t.before.before.args.channel in
-    and_passes (test_back is_input w64 s.x1 (omega arith) t.input_fits.ensures) u.before.before.if-not-input_fits.false
-    (and_passes (test_back is_input w64 s.x2 (omega arith) u.input_fits-2.ensures) v.before.before.if-not-input_fits-2.false
-    (and_fails (test_back (within (pos 0) (pos 1)) w64 s.flag (omega arith) v.in_range.ensures) _ c.if-not-in_range.true))
+    and_passes (test_back is_input w64 s.x1 (omega arith) t.input_fits.ensures) u.before.before.if-not-input_fits.false-raw
+    (and_passes (test_back is_input w64 s.x2 (omega arith) u.input_fits-2.ensures) v.before.before.if-not-input_fits-2.false-raw
+    (and_fails (test_back (within (pos 0) (pos 1)) w64 s.flag (omega arith) v.in_range.ensures) _ c.if-not-in_range.true-raw))
 
 pub returns : goal.returns
 unfolding is_flag
@@ -41,7 +41,7 @@ returns c =
     let u = v.before.before.before in
     let t = u.before.before.before in
     let s = t.before.before.args.channel in
-    and_passes (test_back is_input w64 s.x1 (omega arith) t.input_fits.ensures) u.before.before.if-not-input_fits.false
-    (and_passes (test_back is_input w64 s.x2 (omega arith) u.input_fits-2.ensures) v.before.before.if-not-input_fits-2.false
-    (and_passes (test_back (within (pos 0) (pos 1)) w64 s.flag (omega arith) v.in_range.ensures) c.before.before.if-not-in_range.false
+    and_passes (test_back is_input w64 s.x1 (omega arith) t.input_fits.ensures) u.before.before.if-not-input_fits.false-raw
+    (and_passes (test_back is_input w64 s.x2 (omega arith) u.input_fits-2.ensures) v.before.before.if-not-input_fits-2.false-raw
+    (and_passes (test_back (within (pos 0) (pos 1)) w64 s.flag (omega arith) v.in_range.ensures) c.before.before.if-not-in_range.false-raw
     c.sections_fit.ensures))

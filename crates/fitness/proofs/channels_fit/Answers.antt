@@ -9,10 +9,10 @@ use Rattle.unit.specs.Fit.{channel_fits}
 use Rattle.fitness.proofs.channels_fit.Goals as goal
 
 pub returns-then-not-channel_fits : goal.returns-then-not-channel_fits
-returns-then-not-channel_fits c = every_fails c.before.before.before.before.loop-i.invariant zero_channel (omega arith) c.before.channel_fits.ensures c.if-not-channel_fits.true
+returns-then-not-channel_fits c = every_fails c.before.before.before.before.loop-i.invariant zero_channel (omega arith) c.before.channel_fits.ensures c.if-not-channel_fits.true-raw
 
 pub loop-i-preserved : goal.loop-i-preserved
-loop-i-preserved c = every-passes c.before.before.before.before.loop-i.invariant zero_channel (omega arith) c.before.channel_fits.ensures c.if-not-channel_fits.false
+loop-i-preserved c = every-passes c.before.before.before.before.loop-i.invariant zero_channel (omega arith) c.before.channel_fits.ensures c.if-not-channel_fits.false-raw
 
 pub returns : goal.returns
 returns c = every_done c.before.loop-i.invariant (omega arith)

@@ -14,11 +14,11 @@ loop-i-init c =
 
 pub returns-then-not-section_fits : goal.returns-then-not-section_fits
 returns-then-not-section_fits c =
-    every_fails c.before.before.before.before.loop-i.invariant cleared_band_section (omega arith) c.before.section_fits.ensures c.if-not-section_fits.true
+    every_fails c.before.before.before.before.loop-i.invariant cleared_band_section (omega arith) c.before.section_fits.ensures c.if-not-section_fits.true-raw
 
 pub loop-i-preserved : goal.loop-i-preserved
 loop-i-preserved c =
-    every-passes c.before.before.before.before.loop-i.invariant cleared_band_section (omega arith) c.before.section_fits.ensures c.if-not-section_fits.false
+    every-passes c.before.before.before.before.loop-i.invariant cleared_band_section (omega arith) c.before.section_fits.ensures c.if-not-section_fits.false-raw
 
 pub returns : goal.returns
 returns c =

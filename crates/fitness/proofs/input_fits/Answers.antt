@@ -21,11 +21,11 @@ module _ (c : Else-not-is_word) where
   v = c.before.before.args.v
 
   size : nat_abs v ≤ word_size
-  size = word_size_lem v (sym (word_test c.before) ∙ not-false _ c.if-not-is_word.false)
+  size = word_size_lem v (sym (word_test c.before) ∙ c.if-not-is_word.false)
 
 pub returns-then-not-is_word : goal.returns-then-not-is_word
 unfolding is_input
-returns-then-not-is_word c = and_fails (word_test c.before) _ c.if-not-is_word.true
+returns-then-not-is_word c = and_fails (word_test c.before) _ c.if-not-is_word.true-raw
 
 pub overflow_cast-v : goal.overflow_cast-v
 overflow_cast-v c = narrow_need (v c) (size c)

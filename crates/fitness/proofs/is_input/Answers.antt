@@ -16,7 +16,7 @@ word_test c = c.is_IsWord.ensures ∙ ap is_word (to_z-of_z c.before.ranges.v)
 
 pub returns-then-not-is_word : goal.returns-then-not-is_word
 unfolding is_input
-returns-then-not-is_word c = and_fails (word_test c.before) _ c.if-not-is_word.true
+returns-then-not-is_word c = and_fails (word_test c.before) _ c.if-not-is_word.true-raw
 
 pub overflow_mul-result : goal.overflow_mul-result
 overflow_mul-result c = multiple_need 23 8 refl c.before.before.args.v c.before.before.ranges.v 256 refl
@@ -27,5 +27,5 @@ overflow_sub-result c = rest_need 23 8 refl c.before.before.args.v c.before.befo
 pub returns : goal.returns
 unfolding is_input
 returns c =
-    and_passes (word_test c.before) c.if-not-is_word.false
+    and_passes (word_test c.before) c.if-not-is_word.false-raw
     (ap (λ (z : ℤ). le_z z (pos 0)) (rest_reads 23 8 refl c.before.before.args.v c.before.before.ranges.v 256 refl))

@@ -5,7 +5,7 @@ use borrow.Author.Rules.{rules}
 use Rattle.fitness.proofs.sections_fit.Goals as goal
 
 pub returns-then-not-each_fits : goal.returns-then-not-each_fits
-returns-then-not-each_fits c = and_fails c.before.each_fits.ensures _ c.if-not-each_fits.true
+returns-then-not-each_fits c = and_fails c.before.each_fits.ensures _ c.if-not-each_fits.true-raw
 
 pub returns : goal.returns
-returns c = and_passes c.before.before.each_fits.ensures c.before.if-not-each_fits.false c.are_plain.ensures
+returns c = and_passes c.before.before.each_fits.ensures c.before.if-not-each_fits.false-raw c.are_plain.ensures

@@ -15,12 +15,12 @@ unfolding is_volume
 returns-then-not-in_range c =
     let t = c.before in
     let v = t.before.before.args.level in
-    and_fails (test_back (within (pos 0) word_high) w64 v.present (omega arith) t.in_range.ensures) _ c.if-not-in_range.true
+    and_fails (test_back (within (pos 0) word_high) w64 v.present (omega arith) t.in_range.ensures) _ c.if-not-in_range.true-raw
 
 pub returns : goal.returns
 unfolding is_volume
 returns c =
     let t = c.before.before.before in
     let v = t.before.before.args.level in
-    and_passes (test_back (within (pos 0) word_high) w64 v.present (omega arith) t.in_range.ensures) c.before.before.if-not-in_range.false
+    and_passes (test_back (within (pos 0) word_high) w64 v.present (omega arith) t.in_range.ensures) c.before.before.if-not-in_range.false-raw
     (test_back (within (pos 0) word_high) w64 v.target (omega arith) c.in_range-2.ensures)

@@ -20,29 +20,23 @@ use Rattle.floats.proofs.Target.{scaled_roundable, scaled_whole, target_back}
 use Rattle.floats.proofs.factor_target.Goals.{After-row_known-2-1, Start}
 use Rattle.floats.proofs.factor_target.Goals as goal
 
-abbrev Rounded : Type 0
-Rounded = After-row_known-2-1
-
-abbrev Start : Type 0
-Start = Start
-
 fitting : (s : Start) → T (fits binary32 s.args.f)
-fitting s = passes (fits binary32 s.args.f) s.well-formed.0.1
+fitting s = passes (fits binary32 s.args.f) s.well_formed.0.1
 
 pub float_to_float-scaled : goal.float_to_float-scaled
 float_to_float-scaled c =
-    and_i (fits binary64 c.before.args.f) (not (is_nan c.before.args.f))
-    (fits_widens c.before.args.f (fitting c.before))
+    and_i (fits binary64 c.args.f) (not (is_nan c.args.f))
+    (fits_widens c.args.f (fitting c.before.before))
     (finite_no_nan c.before.args.f (factor_says band_lowest c.before.args.f c.before.requires).0)
 
 pub nearest_whole-rounded-requires : goal.nearest_whole-rounded-requires
 unfolding of_bits
-nearest_whole-rounded-requires c = scaled_roundable c.before.args.f (fitting c.before) c.before.requires
+nearest_whole-rounded-requires c = scaled_roundable c.before.args.f (fitting (goal.at.nearest_whole-rounded-requires c).Start) c.before.requires
 
 -- the rounded product is the float of the rounded units
-module _ (c : Rounded) where
+module _ (c : After-row_known-2-1) where
   abbrev s : Start
-  s = c.before.before.before
+  s = c.before.before.before.before
 
   abbrev whole : ℤ
   whole = nearest (in_units binary32 s.args.f) target_shift
@@ -56,7 +50,7 @@ module _ (c : Rounded) where
 
   -- and its cast is that whole number
   cast : to_z w64 (of_z w64 (to_signed 63 c.before.nearest_whole-rounded.result)) ≡ whole
-  cast = to_z-of_z (record { sfits = to_signed_in 63 c.before.nearest_whole-rounded.result }) ∙ ap (to_signed 63) rounded ∙ back.1
+  cast = to_z-of_z {w = w64} (record { sfits = to_signed_in 63 c.before.nearest_whole-rounded.result }) ∙ ap (to_signed 63) rounded ∙ back.1
 
 pub float_to_int-rounded : goal.float_to_int-rounded
 float_to_int-rounded c = subst (λ (y : Float). T (in_signed binary64 63 y)) (sym (rounded c)) (back c).0

@@ -12,10 +12,10 @@ unfolding of_bits
 returns-then-f c =
     c.is_band_factor.ensures
     ∙ sym (ap (λ (b : Bool). b && is_factor band_lowest c.before.before.args.f) c.before.if-f.true)
-    ∙ volume_tests c.before.before.args.f c.before.before.well-formed.0.1
+    ∙ volume_tests c.before.before.args.f c.before.before.well_formed.0.1
 
 pub returns : goal.returns
 unfolding of_bits
 returns c =
     sym (ap (λ (b : Bool). b && is_factor band_lowest c.before.args.f) c.if-f.false)
-    ∙ volume_tests c.before.args.f c.before.well-formed.0.1
+    ∙ volume_tests c.before.args.f c.before.well_formed.0.1

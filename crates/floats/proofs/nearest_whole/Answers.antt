@@ -7,4 +7,4 @@ use Rattle.floats.proofs.nearest_whole.Goals as goal
 
 pub returns : goal.returns
 unfolding of_bits
-returns c = shift_nearest binary64 50 refl c.args.x (passes (fits binary64 c.args.x) c.well-formed.0.1) c.requires.finite c.requires.small
+returns c = shift_nearest binary64 50 refl c.args.x (passes (fits binary64 c.args.x) c.well_formed.0.1) c.requires.finite c.requires.small

@@ -14,7 +14,7 @@ use Rattle.frames.proofs.mix_words.Goals.{After-loop-k, After-sides_at-x, In-loo
 use Rattle.frames.proofs.mix_words.Goals as goal
 
 pub loop-k-init : goal.loop-k-init
-loop-k-init c = mixing_begins s.args.bands.now s.args.pair-1.now s.args.words-1.now s.args.count s.requires
+loop-k-init c = mixing_begins s.args.bands.now s.args.pair.now s.args.words.now s.args.count s.requires
   where
     s : Start
     s = c.before.before
@@ -27,19 +27,19 @@ module _ (c : In-loop-k) where
   bands = s.args.bands.now
 
   abbrev l : List Float
-  l = s.args.pair-1.now
+  l = s.args.pair.now
 
   abbrev words : List Float
-  words = s.args.words-1.now
+  words = s.args.words.now
 
   abbrev k : ℕ
   k = c.before.loop-k.k
 
   abbrev m : List Float
-  m = c.before.loop-k.pair-1
+  m = c.before.loop-k.pair
 
   abbrev w : List Float
-  w = c.before.loop-k.words-1
+  w = c.before.loop-k.words
 
   inv : Mixing bands l words s.args.count m w k
   inv = c.before.loop-k.invariant
@@ -109,8 +109,8 @@ shape_of-words c = c.before.loop-k.invariant.words_size ∙ sym c.before.before.
 
 pub returns : goal.returns
 returns c =
-    mixing_ends s'.args.bands.now s'.args.pair-1.now s'.args.words-1.now s'.args.count s'.requires c.before.loop-k.pair-1 c.before.loop-k.words-1
-    (subst (λ (j : ℕ). Mixing s'.args.bands.now s'.args.pair-1.now s'.args.words-1.now s'.args.count c.before.loop-k.pair-1 c.before.loop-k.words-1 j) (all c) c.before.loop-k.invariant)
+    mixing_ends s'.args.bands.now s'.args.pair.now s'.args.words.now s'.args.count s'.requires c.before.loop-k.pair c.before.loop-k.words
+    (subst (λ (j : ℕ). Mixing s'.args.bands.now s'.args.pair.now s'.args.words.now s'.args.count c.before.loop-k.pair c.before.loop-k.words j) (all c) c.before.loop-k.invariant)
   where
     s' : Start
     s' = c.before.before.before.before

@@ -16,7 +16,7 @@ use Rattle.frames.proofs.pair_frames.Goals as goal
 
 pub loop-done-init : goal.loop-done-init
 loop-done-init c =
-    passing_begins z.args.bands.now z.args.pair-1.now z.args.volume z.args.size z.args.at z.args.count z.args.input.now z.args.output-1.now z.requires _ (omega arith)
+    passing_begins z.args.bands.now z.args.pair.now z.args.volume z.args.size z.args.at z.args.count z.args.input.now z.args.output.now z.requires _ (omega arith)
   where
     z : Start
     z = c.before.before.before
@@ -31,25 +31,25 @@ module _ (c : In-loop-done) where
   bands = s.args.bands.now
 
   abbrev l : List Float
-  l = s.args.pair-1.now
+  l = s.args.pair.now
 
   abbrev input : List ℕ
   input = s.args.input.now
 
   abbrev room : List ℕ
-  room = s.args.output-1.now
+  room = s.args.output.now
 
   abbrev done : ℕ
   done = c.before.loop-done.done
 
   abbrev m : List Float
-  m = c.before.loop-done.pair-1
+  m = c.before.loop-done.pair
 
   abbrev out : List ℕ
-  out = c.before.loop-done.output-1
+  out = c.before.loop-done.output
 
   abbrev words : List Float
-  words = c.before.loop-done.words-1
+  words = c.before.loop-done.words
 
   abbrev level : FloatLevel
   level = c.before.loop-done.level
@@ -168,9 +168,9 @@ module _ (c : After-loop-done) where
   abbrev e : Start
   e = c.before.before.before.before.before
 
-  last : Passing e.args.bands.now e.args.pair-1.now e.args.volume e.args.size e.args.at e.args.count e.args.input.now e.args.output-1.now c.before.loop-done.pair-1 c.before.loop-done.output-1 c.before.loop-done.words-1 c.before.loop-done.level e.args.count
+  last : Passing e.args.bands.now e.args.pair.now e.args.volume e.args.size e.args.at e.args.count e.args.input.now e.args.output.now c.before.loop-done.pair c.before.loop-done.output c.before.loop-done.words c.before.loop-done.level e.args.count
   last =
-      subst (λ (k : ℕ). Passing e.args.bands.now e.args.pair-1.now e.args.volume e.args.size e.args.at e.args.count e.args.input.now e.args.output-1.now c.before.loop-done.pair-1 c.before.loop-done.output-1 c.before.loop-done.words-1 c.before.loop-done.level k)
+      subst (λ (k : ℕ). Passing e.args.bands.now e.args.pair.now e.args.volume e.args.size e.args.at e.args.count e.args.input.now e.args.output.now c.before.loop-done.pair c.before.loop-done.output c.before.loop-done.words c.before.loop-done.level k)
       (omega (arith, c.before.loop-done.invariant.most, c.loop-done-test.false)) c.before.loop-done.invariant
 
 pub shape_of-pair : goal.shape_of-pair
@@ -181,4 +181,4 @@ shape_of-output c = ap length (last c).bytes ∙ stored_length _ _ _ _ _ _
 
 pub returns : goal.returns
 returns c =
-    passing_ends (e c).args.bands.now (e c).args.pair-1.now (e c).args.volume (e c).args.size (e c).args.at (e c).args.count (e c).args.input.now (e c).args.output-1.now (e c).requires c.before.loop-done.pair-1 c.before.loop-done.output-1 c.before.loop-done.words-1 c.before.loop-done.level (last c)
+    passing_ends (e c).args.bands.now (e c).args.pair.now (e c).args.volume (e c).args.size (e c).args.at (e c).args.count (e c).args.input.now (e c).args.output.now (e c).requires c.before.loop-done.pair c.before.loop-done.output c.before.loop-done.words c.before.loop-done.level (last c)

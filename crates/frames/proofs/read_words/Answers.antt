@@ -32,7 +32,7 @@ module _ (c : In-loop-k) where
   k = c.before.loop-k.k
 
   abbrev words : List Float
-  words = c.before.loop-k.words-1
+  words = c.before.loop-k.words
 
   inv : Reading s.args.input.now s.args.size s.args.at s.args.count words k
   inv = c.before.loop-k.invariant

@@ -1,7 +1,7 @@
 -- `lending::load` meets its contract: whatever the set, the loaded unit is fit, so that its numbers can be stored.
 use mathlib.Core.Path.{sym, ap, ◌∙◌, subst}
 use Rattle.refusals.specs.Numbers.{number_of}
-use Rattle.unit-1.specs.Fit.{Fit}
+use Rattle.unit.specs.Fit.{Fit}
 use Rattle.loading.specs.declared.Loaded.{Loaded}
 use Rattle.loading.proofs.Laws.{loaded_fit}
 use Rattle.numbers.specs.Layout.{numbers_of}
@@ -10,10 +10,10 @@ use Rattle.lending.proofs.load.Goals as goal
 
 pub numbers_of-requires : goal.numbers_of-requires
 numbers_of-requires c =
-    subst (λ (l : Loaded). Fit l.unit-1) (sym c.before.load-answer.ensures) (loaded_fit c.before.before.args.set.now)
+    subst (λ (l : Loaded). Fit l.unit) (sym c.before.load-answer.ensures) (loaded_fit c.before.before.args.set.now)
 
 pub returns : goal.returns
 returns c = (
   c.number.ensures ∙ ap (λ (l : Loaded). number_of l.verdict) c.before.before.before.load-answer.ensures,
-  c.before.Numbers-of.ensures ∙ ap (λ (l : Loaded). numbers_of l.unit-1) c.before.before.before.load-answer.ensures,
+  c.before.Numbers-of.ensures ∙ ap (λ (l : Loaded). numbers_of l.unit) c.before.before.before.load-answer.ensures,
 )

@@ -24,7 +24,7 @@ module _ (c : After-y2-1) where
   start = c.before.before.before.before.before.before.before
 
   abbrev l : List ℤ
-  l = start.args.numbers-1.now
+  l = start.args.numbers.now
 
   alpha-reads : to_z w32 (of_z w32 (get_or l 0 (pos 0))) ≡ get_or l 0 (pos 0)
   alpha-reads = reads_back w32 (get_or l 0 (pos 0)) (omega arith)
@@ -70,16 +70,16 @@ module _ (c : After-struct_told-1) where
   abbrev after : Section
   after = c.before.before.step-answer.result.section
 
-  numbers-stored : ◌≡◌ {A = List ℤ} (to_z w32 (of_z w32 after.band.alpha-1) ∷ to_z w32 (of_z w32 after.band.beta-1) ∷ to_z w32 (of_z w32 after.band.gamma-1) ∷ to_z w32 (of_z w32 after.x1-1) ∷ to_z w32 (of_z w32 after.x2-1) ∷ to_z w32 (of_z w32 after.y1-1) ∷ to_z w32 (of_z w32 after.y2-1) ∷ []) (lone_numbers after)
+  numbers-stored : ◌≡◌ {A = List ℤ} (to_z w32 (of_z w32 after.band.alpha) ∷ to_z w32 (of_z w32 after.band.beta) ∷ to_z w32 (of_z w32 after.band.gamma) ∷ to_z w32 (of_z w32 after.x1) ∷ to_z w32 (of_z w32 after.x2) ∷ to_z w32 (of_z w32 after.y1) ∷ to_z w32 (of_z w32 after.y2) ∷ []) (lone_numbers after)
   numbers-stored =
       λ i.
-      reads_back w32 after.band.alpha-1 (omega arith) i
-      ∷ reads_back w32 after.band.beta-1 (omega arith) i
-      ∷ reads_back w32 after.band.gamma-1 (omega arith) i
-      ∷ reads_back w32 after.x1-1 (omega arith) i
-      ∷ reads_back w32 after.x2-1 (omega arith) i
-      ∷ reads_back w32 after.y1-1 (omega arith) i
-      ∷ reads_back w32 after.y2-1 (omega arith) i
+      reads_back w32 after.band.alpha (omega arith) i
+      ∷ reads_back w32 after.band.beta (omega arith) i
+      ∷ reads_back w32 after.band.gamma (omega arith) i
+      ∷ reads_back w32 after.x1 (omega arith) i
+      ∷ reads_back w32 after.x2 (omega arith) i
+      ∷ reads_back w32 after.y1 (omega arith) i
+      ∷ reads_back w32 after.y2 (omega arith) i
       ∷ []
 
 -- ---- the needs

@@ -32,7 +32,7 @@ module _ (c : After-accepted) where
   input = s.args.input.now
 
   abbrev room : List ℕ
-  room = s.args.output-1.now
+  room = s.args.output.now
 
   abbrev verdict : Verdict
   verdict = block_verdict channel_count u (length input) (length room)

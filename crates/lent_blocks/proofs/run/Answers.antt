@@ -29,7 +29,7 @@ module _ (z : Start) where
   input = z.args.input.now
 
   abbrev room : List ℕ
-  room = z.args.output-1.now
+  room = z.args.output.now
 
   accepts : BlockAccepts 2 (unit_of l) (length input) (length room)
   accepts = block_accepted 2 (unit_of l) (length input) (length room) z.requires.accepted
@@ -75,7 +75,7 @@ module _ (c : After-frames-level) where
   fit = fit_after (unit_of (l (s (p)))) (input (s (p))) (room (s (p))) (accepts (s (p))) (level (p)) (bands (p)) (pair (p)) (packed (p)) c.frames-level.result after filled c.frames-level.ensures
 
   -- the unit that is stored is the one that is played
-  stored_is : unit_stored (unit_of (l (s p))).bands-1 c.frames-level.result after ≡ unit_in c.frames-level.result (bands p) 1 after
+  stored_is : unit_stored (unit_of (l (s p))).bands c.frames-level.result after ≡ unit_in c.frames-level.result (bands p) 1 after
   stored_is = λ i. unit_stored (sym (packed p).bands_are.first i) c.frames-level.result after
 
 pub store-requires : goal.store-requires

@@ -26,10 +26,10 @@ module _ (c : After-accepted) where
       ∙ ap band_fits (sym (tabulate-at band_count (band_at at.before.args.set.now) zero_band at.loop-b.b (omega arith)))
 
 pub returns-then-not-accepted : goal.returns-then-not-accepted
-returns-then-not-accepted c = every_fails (at c.before).loop-b.invariant zero_band (omega arith) (tested c.before) c.if-not-accepted.true
+returns-then-not-accepted c = every_fails (at c.before).loop-b.invariant zero_band (omega arith) (tested c.before) c.if-not-accepted.true-raw
 
 pub loop-b-preserved : goal.loop-b-preserved
-loop-b-preserved c = every-passes (at c.before).loop-b.invariant zero_band (omega arith) (tested c.before) c.if-not-accepted.false
+loop-b-preserved c = every-passes (at c.before).loop-b.invariant zero_band (omega arith) (tested c.before) c.if-not-accepted.false-raw
 
 pub returns : goal.returns
 returns c = every_done c.before.loop-b.invariant (omega arith)

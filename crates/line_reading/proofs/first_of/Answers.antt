@@ -8,9 +8,9 @@ use Rattle.line_reading.proofs.first_of.Goals as goal
 pub returns-then-not-accepted : goal.returns-then-not-accepted
 returns-then-not-accepted c =
     let args = c.before.before.args in
-    sym (first_refused args.verdict args.next (sym c.before.accepted.ensures ∙ not-true _ c.if-not-accepted.true))
+    sym (first_refused args.verdict args.next (sym c.before.accepted.ensures ∙ c.if-not-accepted.true))
 
 pub returns : goal.returns
 returns c =
     let args = c.before.before.args in
-    sym (first_accepted args.verdict args.next (sym c.before.accepted.ensures ∙ not-false _ c.if-not-accepted.false))
+    sym (first_accepted args.verdict args.next (sym c.before.accepted.ensures ∙ c.if-not-accepted.false))

@@ -92,7 +92,7 @@ module _ (c : After-in_range_i32) where
 pub returns-then-not-in_range_i32 : goal.returns-then-not-in_range_i32
 returns-then-not-in_range_i32 c =
     let t = c.before in
-    refused (o t) (tested t false (not-true _ c.if-not-in_range_i32.true)) refl
+    refused (o t) (tested t false (c.if-not-in_range_i32.true)) refl
 
 pub loop-i-preserved : goal.loop-i-preserved
 loop-i-preserved c =
@@ -100,7 +100,7 @@ loop-i-preserved c =
     let f = o t in
     let s = start f in
     read_on (range s) s.args.count (bytes f) s.args.at s.args.slots.now s.args.place f.before.before.loop-i.invariant (below f)
-    (tested t true (not-false _ c.if-not-in_range_i32.false))
+    (tested t true (c.if-not-in_range_i32.false))
     (field_number (range s) (bytes f) (here f) (long f) (number f) f.read_field-number.ok f.read_field-number.ensures t.before.if-number-eq-NO_NUMBER.false)
 
 pub returns : goal.returns

@@ -20,7 +20,7 @@ returns-then-not-is_input c =
     let s = c.before.before.before.before.before in
     refusal
     (sym (field_tested is_input s.args.bytes.now s.args.at s.requires.0 f.read_field-input.result f.read_field-input.type_inv f.read_field-input.ensures o.before.if-input-eq-NO_NUMBER.false false
-    (sym o.is_input.ensures ∙ not-true _ c.if-not-is_input.true)))
+    (sym o.is_input.ensures ∙ c.if-not-is_input.true)))
     refl refl
 
 pub returns : goal.returns
@@ -31,7 +31,7 @@ returns c =
     record {
       verdict_is =
           sym (field_tested is_input s.args.bytes.now s.args.at s.requires.0 f.read_field-input.result f.read_field-input.type_inv f.read_field-input.ensures o.before.if-input-eq-NO_NUMBER.false true
-          (sym o.is_input.ensures ∙ not-false _ c.if-not-is_input.false));
+          (sym o.is_input.ensures ∙ c.if-not-is_input.false));
       size_is = length-set s.args.slots.now _ _;
       numbers_are = λ e.
           ap (set s.args.slots.now s.args.place)

@@ -38,7 +38,7 @@ loop-i-preserved c = (
   search rules,
   c.before.before.put_field.ensures
       ∙ ap₂ (λ (l : List ℕ) (z : ℤ). sets l (at c + field_size * i c) (field z)) c.before.before.before.before.before.before.loop-i.invariant.1 (number_is c)
-      ∙ field_put c.before.before.before.before.before.before.before.before.args.out-1.now (at c) (row c) (i c) (omega arith),
+      ∙ field_put c.before.before.before.before.before.before.before.before.args.out.now (at c) (row c) (i c) (omega arith),
 )
 
 pub shape_of-out : goal.shape_of-out
@@ -47,4 +47,4 @@ shape_of-out c = ap length c.before.loop-i.invariant.1 ∙ simp length-sets
 pub returns : goal.returns
 returns c =
     c.before.loop-i.invariant.1
-    ∙ ap (λ (l : List ℤ). sets c.before.before.before.args.out-1.now c.before.before.before.args.at (joined field l)) (take_all c.before.loop-i.i c.before.before.before.args.row.now (omega arith))
+    ∙ ap (λ (l : List ℤ). sets c.before.before.before.args.out.now c.before.before.before.args.at (joined field l)) (take_all c.before.loop-i.i c.before.before.before.args.row.now (omega arith))

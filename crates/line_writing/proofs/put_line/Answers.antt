@@ -37,7 +37,7 @@ module _ (c : After-slice_known-2-1) where
 pub returns : goal.returns
 returns c =
     ap (λ (l : List ℕ). set l (at c + 1 + field_size * length (row c)) line_feed) c.before.before.put_fields.ensures
-    ∙ parts_put s.args.out-1.now (at c) s.args.letter (joined field (row c)) line_feed (at c + 1 + field_size * length (row c)) (fields-end c)
+    ∙ parts_put s.args.out.now (at c) s.args.letter (joined field (row c)) line_feed (at c + 1 + field_size * length (row c)) (fields-end c)
   where
     s : Start
     s = c.before.before.before.before.before

@@ -74,8 +74,8 @@ overflow_add-result c = omega (arith, c.section_line.ensures, behind-fits c.befo
 pub returns : goal.returns
 returns c = (
   c.before.before.before.put_line.ensures
-      ∙ (λ i. sets s.args.out-1.now s.args.at (line_text section_letter (take (c.before.before.before.before.before.before.section_fields-count.ensures i) (narrow_reads s.args.section.y1 (y1-size s) i ∷ narrow_reads s.args.section.y2 (y2-size s) i ∷ narrow_reads s.args.section.gain.present (present-size s) i ∷ narrow_reads s.args.section.gain.target (target-size s) i ∷ narrow_reads s.args.section.remainder (remainder-small s) i ∷ []))))
-      ∙ ap (λ (row : List ℤ). sets s.args.out-1.now s.args.at (line_text section_letter row)) (row_front s.args.fifth s.args.section),
+      ∙ (λ i. sets s.args.out.now s.args.at (line_text section_letter (take (c.before.before.before.before.before.before.section_fields-count.ensures i) (narrow_reads s.args.section.y1 (y1-size s) i ∷ narrow_reads s.args.section.y2 (y2-size s) i ∷ narrow_reads s.args.section.gain.present (present-size s) i ∷ narrow_reads s.args.section.gain.target (target-size s) i ∷ narrow_reads s.args.section.remainder (remainder-small s) i ∷ []))))
+      ∙ ap (λ (row : List ℤ). sets s.args.out.now s.args.at (line_text section_letter row)) (row_front s.args.fifth s.args.section),
   ap (λ (n : ℕ). s.args.at + n) c.section_line.ensures,
 )
   where

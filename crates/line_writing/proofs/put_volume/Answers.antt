@@ -33,7 +33,7 @@ overflow_cast-target c = narrow_need c.before.before.before.before.before.args.v
 pub returns : goal.returns
 returns c =
     c.before.before.put_line.ensures
-    ∙ (λ i. sets s.args.out-1.now s.args.at (line_text volume_letter (narrow_reads s.args.volume.present (present-size s) i ∷ narrow_reads s.args.volume.target (target-size s) i ∷ [])))
+    ∙ (λ i. sets s.args.out.now s.args.at (line_text volume_letter (narrow_reads s.args.volume.present (present-size s) i ∷ narrow_reads s.args.volume.target (target-size s) i ∷ [])))
   where
     s : Start
     s = c.before.before.before.before.before.before.before.before.before.before

@@ -29,10 +29,10 @@ module _ (c : After-accepted) where
       ∙ ap (λ (v : Verdict). first_of v behind) (sym c.before.check_band-verdict.ensures)
 
 pub returns-then-not-accepted : goal.returns-then-not-accepted
-returns-then-not-accepted c = sym (from-here c.before ∙ first_refused _ _ (sym c.before.accepted.ensures ∙ not-true _ c.if-not-accepted.true))
+returns-then-not-accepted c = sym (from-here c.before ∙ first_refused _ _ (sym c.before.accepted.ensures ∙ c.if-not-accepted.true))
 
 pub loop-i-preserved : goal.loop-i-preserved
-loop-i-preserved c = from-here c.before ∙ first_accepted c.before.before.check_band-verdict.result _ (sym c.before.accepted.ensures ∙ not-false _ c.if-not-accepted.false)
+loop-i-preserved c = from-here c.before ∙ first_accepted c.before.before.check_band-verdict.result _ (sym c.before.accepted.ensures ∙ c.if-not-accepted.false)
 
 pub loop-i-init : goal.loop-i-init
 loop-i-init c =

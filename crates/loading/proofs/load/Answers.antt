@@ -24,12 +24,12 @@ module _ (c : After-accepted) where
   set-test = c.accepted.ensures ∙ ap is_accepted c.before.check_set-verdict.ensures
 
 set-right : (c : Else-not-accepted) → is_accepted (set_verdict (the-set c.before)) ≡ true
-set-right c = sym (set-test c.before) ∙ not-false _ c.if-not-accepted.false
+set-right c = sym (set-test c.before) ∙ c.if-not-accepted.false
 
 pub returns-then-not-accepted : goal.returns-then-not-accepted
 returns-then-not-accepted c =
     (λ i. record { verdict = c.before.before.before.check_set-verdict.ensures i; unit = c.house_unit-unit.ensures i })
-    ∙ sym (loaded-refused (the-set c.before.before) (sym (set-test c.before.before) ∙ not-true _ c.before.if-not-accepted.true))
+    ∙ sym (loaded-refused (the-set c.before.before) (sym (set-test c.before.before) ∙ c.before.if-not-accepted.true))
 
 pub bands_of-bands-requires : goal.bands_of-bands-requires
 bands_of-bands-requires c = omega (arith, (accepted_set (the-set c.before) (set-right c)).thirty)

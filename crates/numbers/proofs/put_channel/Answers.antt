@@ -62,7 +62,7 @@ pub overflow_cast-flag : goal.overflow_cast-flag
 overflow_cast-flag c = narrow_need c.before.before.before.before.before.before.args.channel.flag (the-flag-size c.before.before.before.before.before.before)
 
 pub put_sections-requires : goal.put_sections-requires
-put_sections-requires c = ((ahead c.before).size, omega (arith, (start c.before).requires.1), (start c.before).requires.2.sections-1)
+put_sections-requires c = ((ahead c.before).size, omega (arith, (start c.before).requires.1), (start c.before).requires.2.sections)
 
 pub returns : goal.returns
 returns c =

@@ -22,7 +22,7 @@ returns c =
       flag = reads_back w64 channel.flag (omega arith) i;
       sections =
           (c.before.aim_sections-aimed.ensures
-          ∙ ap (λ (t : ℤ). changed (eqb s.args.band) (aimed_section t) channel.sections-1) (to_z-of_z {w = w64} s.ranges.target)) i;
+          ∙ ap (λ (t : ℤ). changed (eqb s.args.band) (aimed_section t) channel.sections) (to_z-of_z {w = w64} s.ranges.target)) i;
     }
   where
     s : Start

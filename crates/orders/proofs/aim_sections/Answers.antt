@@ -28,7 +28,7 @@ module _ (c : After-struct_told-1) where
       record {
         y1 = reads_back w64 section.y1 (omega arith) i;
         y2 = reads_back w64 section.y2 (omega arith) i;
-        gain = (c.before.aim-aimed.ensures ∙ ap (λ (t : ℤ). aimed t section.gain-1) (to_z-of_z {w = w64} s.ranges.target)) i;
+        gain = (c.before.aim-aimed.ensures ∙ ap (λ (t : ℤ). aimed t section.gain) (to_z-of_z {w = w64} s.ranges.target)) i;
         remainder = reads_back w64 section.remainder (omega arith) i;
       }
 

@@ -16,7 +16,7 @@ use Rattle.orders.proofs.aim_unit.Goals as goal
 pub returns-then-band-eq-VOLUME_BAND : goal.returns-then-band-eq-VOLUME_BAND
 unfolding aimed_unit
 returns-then-band-eq-VOLUME_BAND c =
-    (λ i. record { volume = c.aim-aimed.ensures i; bands = s.args.unit.bands-1; channels = s.args.unit.channels-1 })
+    (λ i. record { volume = c.aim-aimed.ensures i; bands = s.args.unit.bands; channels = s.args.unit.channels })
     ∙ ap (λ (t : ℤ). aimed_volume t s.args.unit) (to_z-of_z {w = w64} s.ranges.target)
     ∙ passed (eqb s.args.band volume_band) _ _ (eq-eqb s.args.band volume_band c.before.if-band-eq-VOLUME_BAND.true)
   where
@@ -29,7 +29,7 @@ aim_channels-aimed-requires c = place-below _ _ _ c.before.before.before.before.
 pub returns : goal.returns
 unfolding aimed_unit
 returns c =
-    (λ i. record { volume = s.args.unit.volume-1; bands = s.args.unit.bands-1; channels = c.aim_channels-aimed.ensures i })
+    (λ i. record { volume = s.args.unit.volume; bands = s.args.unit.bands; channels = c.aim_channels-aimed.ensures i })
     ∙ ap (λ (t : ℤ). aimed_band s.args.side s.args.band t s.args.unit) (to_z-of_z {w = w64} s.ranges.target)
     ∙ failed (eqb s.args.band volume_band) _ _ (ne_eqb s.args.band volume_band c.before.if-band-eq-VOLUME_BAND.false)
   where

@@ -26,26 +26,26 @@ module _ (c : After-accepted) where
   verdict = order_arguments channel_count s.args.side s.args.band s.args.setting
 
   fits : unit_fits s.args.unit ≡ true
-  fits = sym c.before.before.before.is_fit.ensures ∙ not-false _ c.before.before.if-not-is_fit.false
+  fits = sym c.before.before.before.is_fit.ensures ∙ c.before.before.if-not-is_fit.false
 
   arguments-test : c.accepted.result ≡ is_accepted verdict
   arguments-test = c.accepted.ensures ∙ ap is_accepted c.before.check_order-verdict.ensures
 
 arguments-right : (c : Else-not-accepted) → is_accepted (verdict c.before) ≡ true
-arguments-right c = sym (arguments-test c.before) ∙ not-false _ c.if-not-accepted.false
+arguments-right c = sym (arguments-test c.before) ∙ c.if-not-accepted.false
 
 pub returns-then-not-is_fit : goal.returns-then-not-is_fit
 returns-then-not-is_fit c =
     sym
     (ordered_unfit channel_count c.before.before.args.unit c.before.before.args.side c.before.before.args.band c.before.before.args.setting
-    (sym c.before.is_fit.ensures ∙ not-true _ c.if-not-is_fit.true))
+    (sym c.before.is_fit.ensures ∙ c.if-not-is_fit.true))
 
 pub returns-then-not-accepted : goal.returns-then-not-accepted
 returns-then-not-accepted c =
     (λ i. record { verdict = c.before.before.check_order-verdict.ensures i; unit = t.args.unit })
     ∙ sym
     (ordered-refused channel_count t.args.unit t.args.side t.args.band t.args.setting (fits c.before)
-    (sym (arguments-test c.before) ∙ not-true _ c.if-not-accepted.true))
+    (sym (arguments-test c.before) ∙ c.if-not-accepted.true))
   where
     t : Start
     t = s c.before

@@ -33,7 +33,7 @@ loop-b-init c =
 pub loop-b-preserved : goal.loop-b-preserved
 loop-b-preserved c =
     subst (λ (l : List Float). Filled bands (b + 1) l) (sym is)
-    (filled_more bands b c.before.before.before.before.before.before.before.before.before.before.before.loop-b.floats-1 (omega arith) exact c.before.before.before.before.before.before.before.before.before.before.before.loop-b.invariant)
+    (filled_more bands b c.before.before.before.before.before.before.before.before.before.before.before.loop-b.floats (omega arith) exact c.before.before.before.before.before.before.before.before.before.before.before.loop-b.invariant)
   where
     bands : List Band
     bands = c.before.before.before.before.before.before.before.before.before.before.before.before.args.bands
@@ -53,11 +53,11 @@ loop-b-preserved c =
         }
 
     -- the coefficients are stored as they are
-    is : c.before.put_three.new.0 ≡ with_band c.before.before.before.before.before.before.before.before.before.before.before.loop-b.floats-1 (band_floats * b) band
+    is : c.before.put_three.new.0 ≡ with_band c.before.before.before.before.before.before.before.before.before.before.before.loop-b.floats (band_floats * b) band
     is =
         c.before.put_three.ensures
         ∙ (λ i.
-        put_three c.before.before.before.before.before.before.before.before.before.before.before.loop-b.floats-1 (band_floats * b)
+        put_three c.before.before.before.before.before.before.before.before.before.before.before.loop-b.floats (band_floats * b)
         ((c.before.before.before.before.before.before.both.ensures ∙ ap twice (reads_back w32 band.alpha (omega arith))) i)
         ((c.before.before.before.before.both-in-loop-b.ensures ∙ ap twice (reads_back w32 band.beta (omega arith))) i)
         ((c.before.before.both-in-loop-b-2.ensures ∙ ap twice (reads_back w32 band.gamma (omega arith))) i))
@@ -67,6 +67,6 @@ returns c =
     record {
       size = c.before.loop-b.invariant.size;
       whole = c.before.loop-b.invariant.whole;
-      first = bands_read c.before.loop-b.floats-1 first_side c.before.before.args.bands (omega arith) (λ b h. c.before.loop-b.invariant.first b (omega arith));
-      second = bands_read c.before.loop-b.floats-1 second_side c.before.before.args.bands (omega arith) (λ b h. c.before.loop-b.invariant.second b (omega arith));
+      first = bands_read c.before.loop-b.floats first_side c.before.before.args.bands (omega arith) (λ b h. c.before.loop-b.invariant.first b (omega arith));
+      second = bands_read c.before.loop-b.floats second_side c.before.before.args.bands (omega arith) (λ b h. c.before.loop-b.invariant.second b (omega arith));
     }

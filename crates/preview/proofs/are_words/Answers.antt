@@ -39,10 +39,10 @@ pub loop-i-init : goal.loop-i-init
 loop-i-init c = (search rules, refl)
 
 pub returns-then-not-is_word : goal.returns-then-not-is_word
-returns-then-not-is_word c = sym (decides c.before _ (not-true _ c.if-not-is_word.true))
+returns-then-not-is_word c = sym (decides c.before _ (c.if-not-is_word.true))
 
 pub loop-i-preserved : goal.loop-i-preserved
-loop-i-preserved c = (search rules, rw add-one (decides c.before _ (not-false _ c.if-not-is_word.false)))
+loop-i-preserved c = (search rules, rw add-one (decides c.before _ (c.if-not-is_word.false)))
 
 pub returns : goal.returns
 unfolding are_words

@@ -18,16 +18,16 @@ band-test c = sym (c.accepted.ensures ∙ ap is_accepted c.before.check_band-ver
 
 pub returns-then-not-accepted : goal.returns-then-not-accepted
 unfolding preview_verdict
-returns-then-not-accepted c = c.before.before.check_band-verdict.ensures ∙ sym (simp (band-test c.before ∙ not-true _ c.if-not-accepted.true))
+returns-then-not-accepted c = c.before.before.check_band-verdict.ensures ∙ sym (simp (band-test c.before ∙ c.if-not-accepted.true))
 
 pub returns-then-results-words : goal.returns-then-results-words
 unfolding preview_verdict
-returns-then-results-words c = sym (simp (band-test c.before.before ∙ not-false _ c.before.if-not-accepted.false, lt-leb _ _ c.if-results-words.true))
+returns-then-results-words c = sym (simp (band-test c.before.before ∙ c.before.if-not-accepted.false, lt-leb _ _ c.if-results-words.true))
 
 -- the band is accepted, and the results have room
 module _ (c : Else-results-words) where
   band-right : is_accepted (band_verdict c.before.before.before.before.args.band) ≡ true
-  band-right = band-test c.before.before ∙ not-false _ c.before.if-not-accepted.false
+  band-right = band-test c.before.before ∙ c.before.if-not-accepted.false
 
   results-have : leb (length c.before.before.before.before.args.words.now) c.before.before.before.before.args.results ≡ true
   results-have = le-leb _ _ c.if-results-words.false
@@ -53,7 +53,7 @@ unfolding preview_verdict
 returns-then-remainders-words c = sym (simp (band-right c.before, results-have c.before, lt-leb _ _ c.if-remainders-words.true))
 
 pub returns-then-not-are_words : goal.returns-then-not-are_words
-returns-then-not-are_words c = tested c.before _ (not-true _ c.if-not-are_words.true)
+returns-then-not-are_words c = tested c.before _ (c.if-not-are_words.true)
 
 pub returns : goal.returns
-returns c = tested c.before _ (not-false _ c.if-not-are_words.false)
+returns c = tested c.before _ (c.if-not-are_words.false)

@@ -22,7 +22,7 @@ module _ (c : After-accepted) where
   room = s.args.resuMISSING-now
 
   abbrev spare : List ℤ
-  spare = s.args.remainders-1.now
+  spare = s.args.remainders.now
 
   abbrev lent : Buffers
   lent = buffers_of room spare

@@ -24,12 +24,12 @@ use Rattle.section.specs.declared.Section.{Section}
 use Rattle.section.specs.declared.Stepped.{Stepped}
 use Rattle.section.specs.Step.{cleared_section, stepped, answers_over, result_of, remainder_of}
 use Rattle.section.proofs.Ready.{HoldsWords, cleared_ready, ready_stays}
-use Rattle.preview-1.specs.declared.Preview.{Preview}
-use Rattle.preview-1.specs.declared.PreviewStep.{PreviewStep}
-use Rattle.preview-1.specs.Preview.{are_words, filled_front, buffers_of}
-use Rattle.preview-1.specs.Carried.{carried, carried_step, section_in, StepAsks}
-use Rattle.preview-1.proofs.Carry.{carried_back, may_step, result_back, remainder_back}
-use Rattle.preview-1.proofs.Lists.{words_from, answers_from, front_length, front_next, AcceptedCall, preview_accepted}
+use Rattle.preview.specs.declared.Preview.{Preview}
+use Rattle.preview.specs.declared.PreviewStep.{PreviewStep}
+use Rattle.preview.specs.Preview.{are_words, filled_front, buffers_of}
+use Rattle.preview.specs.Carried.{carried, carried_step, section_in, StepAsks}
+use Rattle.preview.proofs.Carry.{carried_back, may_step, result_back, remainder_back}
+use Rattle.preview.proofs.Lists.{words_from, answers_from, front_length, front_next, AcceptedCall, preview_accepted}
 use Rattle.preview.proofs.run.Goals.{After-cleared-preview, After-loop-i, After-step-answer, After-step-arg-1, MISSING-now, Start}
 use Rattle.preview.proofs.run.Invariants.{Inv}
 use Rattle.preview.proofs.run.Goals as goal
@@ -91,7 +91,7 @@ module _ (c : After-step-arg-1) where
   abbrev i : ℕ
   i = c.before.before.loop-i.i
 
-  inv : Inv begun.cleared-preview.result (words begun) (room begun) (spare begun) c.before.before.loop-i.results c.before.before.loop-i.remainders c.before.before.loop-i.preview-1 i
+  inv : Inv begun.cleared-preview.result (words begun) (room begun) (spare begun) c.before.before.loop-i.results c.before.before.loop-i.remainders c.before.before.loop-i.preview i
   inv = c.before.before.loop-i.invariant
 
   below : i < length (words begun)
@@ -116,11 +116,11 @@ module _ (c : After-step-arg-1) where
   remainders-room =
       omega (arith, below, (accepts begun).remainders_have, front_length remainder_of inv.done (spare begun) _ i inv.remainders_hold inv.done_length (omega (arith, below, (accepts begun).remainders_have)))
 
-  may-go : StepAsks c.before.before.loop-i.preview-1 x
-  may-go = may_step inv.section inv.ready x x-word.0 c.before.before.loop-i.preview-1 inv.carries
+  may-go : StepAsks c.before.before.loop-i.preview x
+  may-go = may_step inv.section inv.ready x x-word.0 c.before.before.loop-i.preview inv.carries
 
 pub step-answer-requires : goal.step-answer-requires
-step-answer-requires c = subst (λ (z : ℤ). StepAsks c.before.before.loop-i.preview-1 z) (sym (x-reads c)) (may-go c)
+step-answer-requires c = subst (λ (z : ℤ). StepAsks c.before.before.loop-i.preview z) (sym (x-reads c)) (may-go c)
 
 -- ---- the preview stepped
 
@@ -147,10 +147,10 @@ module _ (c : After-step-answer) where
   remainder-cast = remainder_back s (inv n).ready (x n) (x-word n).0
 
   -- the two numbers as they are stored
-  y-is : to_z w32 (of_z w32 (to_signed 31 c.step-answer.result.preview-1.y1)) ≡ answer.y
+  y-is : to_z w32 (of_z w32 (to_signed 31 c.step-answer.result.preview.y1)) ≡ answer.y
   y-is =
-      to_z-of_z (record { sfits = to_signed_in 31 c.step-answer.result.preview-1.y1 })
-      ∙ ap (λ (p : PreviewStep). to_signed 31 p.preview-1.y1) answer-is
+      to_z-of_z (record { sfits = to_signed_in 31 c.step-answer.result.preview.y1 })
+      ∙ ap (λ (p : PreviewStep). to_signed 31 p.preview.y1) answer-is
       ∙ result-cast.1
 
   remainder-stored : to_z w32 (of_z w32 (to_signed 31 c.step-answer.result.remainder)) ≡ answer.remainder
@@ -161,7 +161,7 @@ module _ (c : After-step-answer) where
 
 pub float_to_int-results : goal.float_to_int-results
 float_to_int-results c =
-    subst (λ (p : PreviewStep). T (in_signed binary64 31 p.preview-1.y1)) (sym (answer-is c.before.before)) (result-cast c.before.before).0
+    subst (λ (p : PreviewStep). T (in_signed binary64 31 p.preview.y1)) (sym (answer-is c.before.before)) (result-cast c.before.before).0
 
 pub bounds-results-i : goal.bounds-results-i
 bounds-results-i c = results-room (n c.before.before)
@@ -175,12 +175,12 @@ bounds-remainders-i c = remainders-room (n c.before.before.before)
 
 pub loop-i-preserved : goal.loop-i-preserved
 loop-i-preserved c =
-    subst (λ (k : ℕ). Inv (begun m).cleared-preview.result (words (begun m)) (room (begun m)) (spare (begun m)) (set m.before.before.loop-i.results (i m) (to_z w32 (of_z w32 (to_signed 31 a.step-answer.result.preview-1.y1)))) (set m.before.before.loop-i.remainders (i m) (to_z w32 (of_z w32 (to_signed 31 a.step-answer.result.remainder)))) a.step-answer.result.preview-1 k) (sym (add-one (i m)))
+    subst (λ (k : ℕ). Inv (begun m).cleared-preview.result (words (begun m)) (room (begun m)) (spare (begun m)) (set m.before.before.loop-i.results (i m) (to_z w32 (of_z w32 (to_signed 31 a.step-answer.result.preview.y1)))) (set m.before.before.loop-i.remainders (i m) (to_z w32 (of_z w32 (to_signed 31 a.step-answer.result.remainder)))) a.step-answer.result.preview k) (sym (add-one (i m)))
     (record {
       most = below m;
       section = (answer a).section;
       done = (inv m).done ++ (answer a ∷ []);
-      carries = ap (λ (p : PreviewStep). p.preview-1) (answer-is a);
+      carries = ap (λ (p : PreviewStep). p.preview) (answer-is a);
       ready = ready_stays (s a) (x m) (inv m).ready (x-word m).0;
       left_words = (x-word m).1;
       done_length = length-append (inv m).done (answer a ∷ []) ∙ omega (arith, (inv m).done_length);
@@ -204,7 +204,7 @@ module _ (c : After-loop-i) where
   abbrev origin : After-cleared-preview
   origin = c.before.before
 
-  last : Inv origin.cleared-preview.result (words origin) (room origin) (spare origin) c.before.loop-i.results c.before.loop-i.remainders c.before.loop-i.preview-1 c.before.loop-i.i
+  last : Inv origin.cleared-preview.result (words origin) (room origin) (spare origin) c.before.loop-i.results c.before.loop-i.remainders c.before.loop-i.preview c.before.loop-i.i
   last = c.before.loop-i.invariant
 
   -- no word is left, so the answers are all stored

@@ -24,12 +24,12 @@ use Rattle.section.specs.declared.Section.{Section}
 use Rattle.section.specs.declared.Stepped.{Stepped}
 use Rattle.section.specs.Step.{cleared_section, stepped, answers_over, result_of, remainder_of}
 use Rattle.section.proofs.Ready.{HoldsWords, cleared_ready, ready_stays}
-use Rattle.preview-1.specs.declared.Preview.{Preview}
-use Rattle.preview-1.specs.declared.PreviewStep.{PreviewStep}
-use Rattle.preview-1.specs.Preview.{are_words, filled_front, buffers_of}
-use Rattle.preview-1.specs.Carried.{carried, carried_step, section_in, StepAsks}
-use Rattle.preview-1.proofs.Carry.{carried_back, may_step, result_back, remainder_back}
-use Rattle.preview-1.proofs.Lists.{words_from, answers_from, front_length, front_next, AcceptedCall, preview_accepted}
+use Rattle.preview.specs.declared.Preview.{Preview}
+use Rattle.preview.specs.declared.PreviewStep.{PreviewStep}
+use Rattle.preview.specs.Preview.{are_words, filled_front, buffers_of}
+use Rattle.preview.specs.Carried.{carried, carried_step, section_in, StepAsks}
+use Rattle.preview.proofs.Carry.{carried_back, may_step, result_back, remainder_back}
+use Rattle.preview.proofs.Lists.{words_from, answers_from, front_length, front_next, AcceptedCall, preview_accepted}
 use Rattle.preview.proofs.run.Given as goal
 
 pub record Inv (first : Preview) (words room spare results remainders : List ℤ) (preview : Preview) (i : ℕ) : Type 0 where

@@ -25,13 +25,13 @@ pub returns-then-not-accepted : goal.returns-then-not-accepted
 returns-then-not-accepted c =
     let o = c.before.before.before in
     let l = o.before.before.before.loop-i in
-    rows_refused l.invariant 0 (omega arith) (sym (get_or-replicate band_count l.i band_letter 0 (omega arith))) o.read_band-found.ensures c.before.accepted.ensures c.if-not-accepted.true
+    rows_refused l.invariant 0 (omega arith) (sym (get_or-replicate band_count l.i band_letter 0 (omega arith))) o.read_band-found.ensures c.before.accepted.ensures c.if-not-accepted.true-raw
 
 pub loop-i-preserved : goal.loop-i-preserved
 loop-i-preserved c =
     let o = c.before.before.before in
     let l = o.before.before.before.loop-i in
-    rows_next l.invariant 0 (omega arith) (sym (get_or-replicate band_count l.i band_letter 0 (omega arith))) o.read_band-found.ensures c.before.accepted.ensures (band_sound band_letter) refl c.if-not-accepted.false (omega arith)
+    rows_next l.invariant 0 (omega arith) (sym (get_or-replicate band_count l.i band_letter 0 (omega arith))) o.read_band-found.ensures c.before.accepted.ensures (band_sound band_letter) refl c.if-not-accepted.false-raw (omega arith)
 
 pub returns : goal.returns
 returns c = rows_done c.before.loop-i.invariant (omega arith)

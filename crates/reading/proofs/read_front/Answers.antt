@@ -11,7 +11,7 @@ use Rattle.reading.proofs.read_front.Goals as goal
 pub returns-then-not-accepted : goal.returns-then-not-accepted
 returns-then-not-accepted c =
     let s = c.before.before.before.before.before.before in
-    volume_refused s.args.bytes.now c.before.before.before.read_volume-first.ensures s.requires.0 s.requires.1 (sym c.before.accepted.ensures ∙ not-true _ c.if-not-accepted.true)
+    volume_refused s.args.bytes.now c.before.before.before.read_volume-first.ensures s.requires.0 s.requires.1 (sym c.before.accepted.ensures ∙ c.if-not-accepted.true)
 
 -- ---- past the V line
 
@@ -20,7 +20,7 @@ module _ (c : Else-not-accepted) where
   start = c.before.before.before.before.before.before
 
   passed : is_accepted c.before.before.before.read_volume-first.result ≡ true
-  passed = sym c.before.accepted.ensures ∙ not-false _ c.if-not-accepted.false
+  passed = sym c.before.accepted.ensures ∙ c.if-not-accepted.false
 
 pub read_bands-requires : goal.read_bands-requires
 read_bands-requires c =

@@ -18,14 +18,14 @@ returns-then-not-accepted c =
     let o = c.before.before in
     let l = o.before.before.before.loop-i in
     let s = o.before.before.before.before.before.before.before in
-    sides-refused s.args.long s.args.letters.now s.args.bytes.now s.args.at l.invariant (omega (arith, s.requires.1)) refl o.read_side-found.ensures (sym c.before.accepted.ensures ∙ not-true _ c.if-not-accepted.true)
+    sides-refused s.args.long s.args.letters.now s.args.bytes.now s.args.at l.invariant (omega (arith, s.requires.1)) refl o.read_side-found.ensures (sym c.before.accepted.ensures ∙ c.if-not-accepted.true)
 
 pub loop-i-preserved : goal.loop-i-preserved
 loop-i-preserved c =
     let o = c.before.before.before in
     let l = o.before.before.before.loop-i in
     let s = o.before.before.before.before.before.before.before in
-    sides-next s.args.long s.args.letters.now s.args.bytes.now s.args.at l.invariant (omega (arith, s.requires.1)) refl o.read_side-found.ensures (sym c.before.before.accepted.ensures ∙ not-false _ c.before.if-not-accepted.false)
+    sides-next s.args.long s.args.letters.now s.args.bytes.now s.args.at l.invariant (omega (arith, s.requires.1)) refl o.read_side-found.ensures (sym c.before.before.accepted.ensures ∙ c.before.if-not-accepted.false)
 
 pub returns : goal.returns
 returns c =

@@ -31,7 +31,7 @@ module _ (c : After-struct_told-4-1) where
   x = c.before.before.before.before.before.args.x
 
   abbrev S : ℤ
-  S = exact_sum section.band-1 x section.x2 section.y1 section.y2
+  S = exact_sum section.band x section.x2 section.y1 section.y2
 
   x-reads : to_z w32 (of_z w32 x) ≡ x
   x-reads = to_z-of_z c.before.before.before.before.before.ranges.x
@@ -60,11 +60,11 @@ module _ (c : After-step_sum-sum) where
 
   sum-reads : to_z w64 (of_z w64 c.step_sum-sum.result) ≡ S t
   sum-reads =
-      to_z-of_z (record { sfits = c.step_sum-sum.type_inv })
+      to_z-of_z {w = w64} (record { sfits = c.step_sum-sum.type_inv })
       ∙ c.step_sum-sum.ensures
-      ∙ (λ i. exact_sum (section t).band-1 (x-reads t i) (x2-reads t i) (y1-reads t i) (y2-reads t i))
+      ∙ (λ i. exact_sum (section t).band (x-reads t i) (x2-reads t i) (y1-reads t i) (y2-reads t i))
 
-  small : ExactSumAsks (section t).band-1 (x t) (section t).x2 (section t).y1 (section t).y2
+  small : ExactSumAsks (section t).band (x t) (section t).x2 (section t).y1 (section t).y2
   small = accepted_small (section t) (x t) t.before.before.before.before.before.requires
 
 pub round_near-rounded-requires : goal.round_near-rounded-requires
@@ -72,7 +72,7 @@ round_near-rounded-requires c =
     record {
       some = lit≤ tt;
       few = lit≤ tt;
-      small = sum_roundable (section (t c)).band-1 (x (t c)) (section (t c)).x2 (section (t c)).y1 (section (t c)).y2 _ (sum-reads c) (small c);
+      small = sum_roundable (section (t c)).band (x (t c)) (section (t c)).x2 (section (t c)).y1 (section (t c)).y2 _ (sum-reads c) (small c);
     }
 
 -- ---- rounded and saturated
@@ -86,7 +86,7 @@ module _ (c : After-saturate-saturated) where
 
   rounded-reads : to_z w64 (of_z w64 c.before.round_near-rounded.result) ≡ nearest (S start) sum_shift
   rounded-reads =
-      to_z-of_z (record { sfits = c.before.round_near-rounded.type_inv })
+      to_z-of_z {w = w64} (record { sfits = c.before.round_near-rounded.type_inv })
       ∙ c.before.round_near-rounded.ensures
       ∙ ap (λ (z : ℤ). nearest z sum_shift) (sum-reads summed)
 
@@ -119,7 +119,7 @@ remainder_of-remainder-requires c =
     record {
       small =
           subst (λ (z : ℤ). nat_abs z ≤ sum_size) (sym (sum-reads m))
-          (sum-size (section (t m)).band-1 (x (t m)) (section (t m)).x2 (section (t m)).y1 (section (t m)).y2 (small m));
+          (sum-size (section (t m)).band (x (t m)) (section (t m)).x2 (section (t m)).y1 (section (t m)).y2 (small m));
       rounded_is = rounded-reads c.before ∙ ap (λ (z : ℤ). nearest z sum_shift) (sym (sum-reads m));
     }
   where
@@ -129,7 +129,7 @@ remainder_of-remainder-requires c =
 remainder-reads : (c : After-remainder_of-remainder) → to_z w32 (of_z w32 c.remainder_of-remainder.result) ≡ (worked (S (start c.before.before))).remainder
 unfolding worked
 remainder-reads c =
-    to_z-of_z (record { sfits = c.remainder_of-remainder.type_inv })
+    to_z-of_z {w = w32} (record { sfits = c.remainder_of-remainder.type_inv })
     ∙ c.remainder_of-remainder.ensures
     ∙ ap (λ (z : ℤ). taken z sum_shift) (sum-reads (summed c.before.before))
 
@@ -144,7 +144,7 @@ returns c =
       remainder = remainder-reads c i;
       section =
           record {
-            band = (section (start k)).band-1;
+            band = (section (start k)).band;
             x1 = x-reads (start k) i;
             x2 = x1-reads (start k) i;
             y1 = y-reads k i;

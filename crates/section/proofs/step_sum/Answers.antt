@@ -74,7 +74,7 @@ exact_sum-requires c =
 
 pub returns : goal.returns
 returns c =
-    to_z-of_z (record { sfits = c.exact_sum.type_inv })
+    to_z-of_z {w = w64} (record { sfits = c.exact_sum.type_inv })
     ∙ c.exact_sum.ensures
     ∙ (λ i. exact_sum (band_of ((A s).reads i) ((B s).reads i) ((G s).reads i)) ((X s).reads i) ((X2 s).reads i) ((Y1 s).reads i) ((Y2 s).reads i))
   where

@@ -14,19 +14,19 @@ module _ (c : After-is_factor) where
   s = c.before.before.before
 
   finite : is_finite s.args.factor ≡ true
-  finite = sym c.before.before.is_finite.ensures ∙ not-false _ c.before.if-not-is_finite.false
+  finite = sym c.before.before.is_finite.ensures ∙ c.before.if-not-is_finite.false
 
   range-test : c.is_factor.result ≡ in_range (lowest s.args.band) s.args.factor
   range-test = c.is_factor.ensures ∙ simp finite
 
 pub returns-then-not-is_finite : goal.returns-then-not-is_finite
 unfolding level_verdict
-returns-then-not-is_finite c = sym (simp (sym c.before.is_finite.ensures ∙ not-true _ c.if-not-is_finite.true))
+returns-then-not-is_finite c = sym (simp (sym c.before.is_finite.ensures ∙ c.if-not-is_finite.true))
 
 pub returns-then-not-is_factor : goal.returns-then-not-is_factor
 unfolding level_verdict
-returns-then-not-is_factor c = sym (simp (finite c.before, sym (range-test c.before) ∙ not-true _ c.if-not-is_factor.true))
+returns-then-not-is_factor c = sym (simp (finite c.before, sym (range-test c.before) ∙ c.if-not-is_factor.true))
 
 pub returns : goal.returns
 unfolding level_verdict
-returns c = sym (simp (finite c.before, sym (range-test c.before) ∙ not-false _ c.if-not-is_factor.false))
+returns c = sym (simp (finite c.before, sym (range-test c.before) ∙ c.if-not-is_factor.false))

@@ -12,8 +12,8 @@ use Rattle.settings.proofs.target_of.Goals as goal
 
 pub factor_target-requires : goal.factor_target-requires
 factor_target-requires c =
-    factor_fits c.before.before.before.args.band c.before.setting-in-Factor-1.given.0.0
-    (subst (λ (s : Setting). is_accepted (level_verdict c.before.before.before.args.band s) ≡ true) c.before.setting-in-Factor-1.given.1 c.before.before.before.requires)
+    factor_fits c.before.before.before.args.band c.before.setting2.given.0.0
+    (subst (λ (s : Setting). is_accepted (level_verdict c.before.before.before.args.band s) ≡ true) c.before.setting2.given.1 c.before.before.before.requires)
 
 pub returns-in-Position : goal.returns-in-Position
 returns-in-Position c =

@@ -28,7 +28,7 @@ pub returns-then-not-accepted : goal.returns-then-not-accepted
 returns-then-not-accepted c =
     let s = c.before.before.before.before.before.before.before.before in
     let l = c.before.before.before.before.before.before.loop-i in
-    rows_refused l.invariant false (omega arith) (sym (kind_at s.args.long l.i (omega arith))) c.before.before.before.read_section-found.ensures c.before.accepted.ensures c.if-not-accepted.true
+    rows_refused l.invariant false (omega arith) (sym (kind_at s.args.long l.i (omega arith))) c.before.before.before.read_section-found.ensures c.before.accepted.ensures c.if-not-accepted.true-raw
 
 -- the place behind a line is a number of a place
 module _ (s : Start) where
@@ -46,7 +46,7 @@ loop-i-preserved c =
     let s = c.before.before.before.before.before.before.before.before.before in
     let l = c.before.before.before.before.before.before.before.loop-i in
     rows_next l.invariant false (omega arith) (sym (kind_at s.args.long l.i (omega arith))) c.before.before.before.before.read_section-found.ensures c.before.before.accepted.ensures
-    (section_sound (feeds_back l.i && s.args.long)) refl c.before.if-not-accepted.false (ap (λ (n : ℕ). l.next + n) c.section_line-next.ensures)
+    (section_sound (feeds_back l.i && s.args.long)) refl c.before.if-not-accepted.false-raw (ap (λ (n : ℕ). l.next + n) c.section_line-next.ensures)
 
 pub returns : goal.returns
 returns c = rows_done c.before.loop-i.invariant (omega arith)

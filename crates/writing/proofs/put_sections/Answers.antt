@@ -23,7 +23,7 @@ put_section-next-requires c =
     let whole = sections_length true s.args.sections (omega arith) in (
       omega (
         arith,
-        onward_room l.invariant false cleared_band_section (omega arith) (omega arith) (long_kind_at l.i (omega arith)) {room = length s.args.out-1.now} (omega (arith, s.requires.0, whole)),
+        onward_room l.invariant false cleared_band_section (omega arith) (omega arith) (long_kind_at l.i (omega arith)) {room = length s.args.out.now} (omega (arith, s.requires.0, whole)),
         section_length (feeds_back l.i) (get_or s.args.sections l.i cleared_band_section),
         onward_size l.invariant,
       ),

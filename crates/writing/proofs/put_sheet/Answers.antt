@@ -18,8 +18,8 @@ use Rattle.writing.proofs.put_sheet.Goals as goal
 pub returns : goal.returns
 unfolding sheet_of
 returns c =
-    sets_behind s.args.out-1.now (front_form.text (u.volume-1, u.bands-1)) ((sides_form true side_letters).text u.channels-1) 0 front_size (omega (arith, length-append (volume_form.text u.volume-1) (bands_form.text u.bands-1), volume-long, bands_length u.bands-1 (unit_typed u _ s.well_formed.1.0).bands-1))
-    (sets_behind s.args.out-1.now (volume_form.text u.volume-1) (bands_form.text u.bands-1) 0 (line_size (length volume_ranges)) (omega (arith, volume-long)) c.before.before.before.before.before.before.before.before.before.before.before.put_volume.ensures c.before.before.before.before.before.before.before.put_bands.ensures)
+    sets_behind s.args.out.now (front_form.text (u.volume, u.bands)) ((sides_form true side_letters).text u.channels) 0 front_size (omega (arith, length-append (volume_form.text u.volume) (bands_form.text u.bands), volume-long, bands_length u.bands (unit_typed u _ s.well_formed.1.0).bands))
+    (sets_behind s.args.out.now (volume_form.text u.volume) (bands_form.text u.bands) 0 (line_size (length volume_ranges)) (omega (arith, volume-long)) c.before.before.before.before.before.before.before.before.before.before.before.put_volume.ensures c.before.before.before.before.before.before.before.put_bands.ensures)
     c.before.before.put_sides.ensures
   where
     s : Start
@@ -28,5 +28,5 @@ returns c =
     u : Unit
     u = s.args.unit
 
-    volume-long : length (volume_form.text u.volume-1) ≡ line_size (length volume_ranges)
-    volume-long = text_length volume_letter (volume_row u.volume-1)
+    volume-long : length (volume_form.text u.volume) ≡ line_size (length volume_ranges)
+    volume-long = text_length volume_letter (volume_row u.volume)

@@ -42,7 +42,7 @@ overflow_cast-flag c = narrow_need c.before.before.before.before.before.before.b
 
 pub returns : goal.returns
 returns c = (
-  sets_behind s.args.out-1.now ((head_form s.args.letter).text (head_row s.args.channel)) ((sections_form true).text s.args.channel.sections-1) s.args.at (s.args.at + line_size (length head_ranges)) (omega (arith, text_length s.args.letter (head_row s.args.channel))) (c.before.before.before.before.before.before.put_head.ensures ∙ (λ i. sets s.args.out-1.now s.args.at ((head_form s.args.letter).text (narrow_reads s.args.channel.x1 (x1-size s) i ∷ narrow_reads s.args.channel.x2 (x2-size s) i ∷ narrow_reads s.args.channel.flag (flag_small s) i ∷ [])))) c.before.before.put_sections.ensures,
+  sets_behind s.args.out.now ((head_form s.args.letter).text (head_row s.args.channel)) ((sections_form true).text s.args.channel.sections) s.args.at (s.args.at + line_size (length head_ranges)) (omega (arith, text_length s.args.letter (head_row s.args.channel))) (c.before.before.before.before.before.before.put_head.ensures ∙ (λ i. sets s.args.out.now s.args.at ((head_form s.args.letter).text (narrow_reads s.args.channel.x1 (x1-size s) i ∷ narrow_reads s.args.channel.x2 (x2-size s) i ∷ narrow_reads s.args.channel.flag (flag_small s) i ∷ [])))) c.before.before.put_sections.ensures,
   refl,
 )
   where

@@ -18,7 +18,7 @@ module _ (c : After-fill-count) where
   unit = c.before.before.before.args.unit
 
   abbrev out : List ℕ
-  out = c.before.before.before.args.out-1.now
+  out = c.before.before.before.args.out.now
 
   abbrev after : List ℕ
   after = c.fill-count.new.1.0
