@@ -70,7 +70,7 @@ preview_accepted band words results remainders e =
       band_accepted = band_first.0;
       results_have = leb-true (length words) results room.0;
       remainders_have = leb-true (length words) remainders room.1;
-      all_words_lem = (unless_accepted (are_words words) NotWord Accepted (λ t. refl) room_first.1).0;
+      all_words = (unless_accepted (are_words words) NotWord Accepted (λ t. refl) room_first.1).0;
     }
   where
     band_first : (is_accepted (band_verdict band) ≡ true) × (is_accepted (unless (leb (length words) results && leb (length words) remainders) OutputShort (unless (are_words words) NotWord Accepted)) ≡ true)

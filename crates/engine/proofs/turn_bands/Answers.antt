@@ -10,20 +10,8 @@ use Rattle.engine.specs.declared.Sides.{Sides}
 use Rattle.engine.specs.Frame.{tallies_after, pair_after, TurnPairAsks, Between, between, after_turns}
 use Rattle.engine.proofs.Store.{section_length}
 use Rattle.engine.proofs.turn_bands.Goals.{After-loop-b, In-loop-b, Start}
+use Rattle.engine.proofs.turn_bands.Invariants.{length-after, Reached}
 use Rattle.engine.proofs.turn_bands.Goals as goal
-
-module _ (bands : List Float) (d : Sides) (from : ℕ) (s : Between) where
-  -- a turn leaves the number of floats
-  length-after : (n : ℕ) → length (after_turns bands d from n s).pair ≡ length s.pair
-  length-after zero = refl
-  length-after (suc n) = simp section_length (length-after n)
-
-  -- so many turns led to m and place b
-  pub record Reached (to b : ℕ) (m : Between) : Type 0 where
-    pub turns : ℕ
-    pub most : from + turns ≤ to
-    pub place : b ≡ from + turns
-    pub is : m ≡ after_turns bands d from turns s
 
 pub loop-b-init : goal.loop-b-init
 loop-b-init c = record { turns = 0; most = omega (arith, c.before.requires.in_order); place = omega arith; is = refl }

@@ -12,8 +12,8 @@ use Rattle.unit.specs.Fit.{is_input}
 use Rattle.fitness.proofs.input_fits.Goals.{After-is_word, Else-not-is_word}
 use Rattle.fitness.proofs.input_fits.Goals as goal
 
-word_test : (c : After-is_word) → c.is_IsWord.result ≡ is_word c.before.args.v
-word_test c = c.is_IsWord.ensures ∙ ap is_word (to_z-of_z c.before.ranges.v)
+word_test : (c : After-is_word) → c.is_word.result ≡ is_word c.before.args.v
+word_test c = c.is_word.ensures ∙ ap is_word (to_z-of_z c.before.ranges.v)
 
 -- the number is a word
 module _ (c : Else-not-is_word) where

@@ -11,8 +11,8 @@ use Rattle.unit.specs.Fit.{is_input}
 use Rattle.fitness.proofs.is_input.Goals.{After-is_word}
 use Rattle.fitness.proofs.is_input.Goals as goal
 
-word_test : (c : After-is_word) → c.is_IsWord.result ≡ is_word c.before.args.v
-word_test c = c.is_IsWord.ensures ∙ ap is_word (to_z-of_z c.before.ranges.v)
+word_test : (c : After-is_word) → c.is_word.result ≡ is_word c.before.args.v
+word_test c = c.is_word.ensures ∙ ap is_word (to_z-of_z c.before.ranges.v)
 
 pub returns-then-not-is_word : goal.returns-then-not-is_word
 unfolding is_input

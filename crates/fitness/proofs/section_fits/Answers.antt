@@ -15,14 +15,14 @@ pub returns-then-not-is_word : goal.returns-then-not-is_word
 returns-then-not-is_word c =
     let t = c.before in
     let s = t.before.before.args.section in
-    and_fails (test_back is_word w64 s.y1 (omega arith) t.is_IsWord.ensures) _ c.if-not-is_word.true-raw
+    and_fails (test_back is_word w64 s.y1 (omega arith) t.is_word.ensures) _ c.if-not-is_word.true-raw
 
 pub returns-then-not-is_word-2 : goal.returns-then-not-is_word-2
 returns-then-not-is_word-2 c =
     let u = c.before in
     let t = u.before.before.before in
     let s = t.before.before.args.section in
-    and_passes (test_back is_word w64 s.y1 (omega arith) t.is_IsWord.ensures) u.before.before.if-not-is_word.false-raw
+    and_passes (test_back is_word w64 s.y1 (omega arith) t.is_word.ensures) u.before.before.if-not-is_word.false-raw
     (and_fails (test_back is_word w64 s.y2 (omega arith) u.is_word-2.ensures) _ c.if-not-is_word-2.true-raw)
 
 pub returns-then-not-is_word-3 : goal.returns-then-not-is_word-3
@@ -31,7 +31,7 @@ returns-then-not-is_word-3 c =
     let u = v.before.before.before.before in
     let t = u.before.before.before in
     let s = t.before.before.args.section in
-    and_passes (test_back is_word w64 s.y1 (omega arith) t.is_IsWord.ensures) u.before.before.if-not-is_word.false-raw
+    and_passes (test_back is_word w64 s.y1 (omega arith) t.is_word.ensures) u.before.before.if-not-is_word.false-raw
     (and_passes (test_back is_word w64 s.y2 (omega arith) u.is_word-2.ensures) v.before.before.before.if-not-is_word-2.false-raw
     (and_fails (test_back is_word w64 s.gain.present (omega arith) v.is_word-3.ensures) _ c.if-not-is_word-3.true-raw))
 
@@ -42,7 +42,7 @@ returns-then-not-is_word-4 c =
     let u = v.before.before.before.before in
     let t = u.before.before.before in
     let s = t.before.before.args.section in
-    and_passes (test_back is_word w64 s.y1 (omega arith) t.is_IsWord.ensures) u.before.before.if-not-is_word.false-raw
+    and_passes (test_back is_word w64 s.y1 (omega arith) t.is_word.ensures) u.before.before.if-not-is_word.false-raw
     (and_passes (test_back is_word w64 s.y2 (omega arith) u.is_word-2.ensures) v.before.before.before.if-not-is_word-2.false-raw
     (and_passes (test_back is_word w64 s.gain.present (omega arith) v.is_word-3.ensures) w.before.before.if-not-is_word-3.false-raw
     (and_fails (test_back is_word w64 s.gain.target (omega arith) w.is_word-4.ensures) _ c.if-not-is_word-4.true-raw)))
@@ -55,7 +55,7 @@ returns c =
     let u = v.before.before.before.before in
     let t = u.before.before.before in
     let s = t.before.before.args.section in
-    and_passes (test_back is_word w64 s.y1 (omega arith) t.is_IsWord.ensures) u.before.before.if-not-is_word.false-raw
+    and_passes (test_back is_word w64 s.y1 (omega arith) t.is_word.ensures) u.before.before.if-not-is_word.false-raw
     (and_passes (test_back is_word w64 s.y2 (omega arith) u.is_word-2.ensures) v.before.before.before.if-not-is_word-2.false-raw
     (and_passes (test_back is_word w64 s.gain.present (omega arith) v.is_word-3.ensures) w.before.before.if-not-is_word-3.false-raw
     (and_passes (test_back is_word w64 s.gain.target (omega arith) w.is_word-4.ensures) c.before.before.if-not-is_word-4.false-raw

@@ -57,4 +57,4 @@ float_to_int-rounded c = subst (λ (y : Float). T (in_signed binary64 63 y)) (sy
 
 pub returns : goal.returns
 unfolding factor_target
-returns c = to_z-of_z (record { sfits = c.saturate.type_inv }) ∙ c.saturate.ensures ∙ ap (limit word_low word_high) (cast c.before)
+returns c = to_z-of_z {w = w64} (record { sfits = c.saturate.type_inv }) ∙ c.saturate.ensures ∙ ap (limit word_low word_high) (cast (goal.at.returns c).After-row_known-2-1)

@@ -25,11 +25,11 @@ module _ (c : After-is_word) where
   abbrev i : ℕ
   i = c.before.before.before.loop-i.i
 
-  test-is : c.is_IsWord.result ≡ is_word (get_or words i (pos 0))
-  test-is = test_back is_word w32 (get_or words i (pos 0)) (omega arith) c.is_IsWord.ensures
+  test-is : c.is_word.result ≡ is_word (get_or words i (pos 0))
+  test-is = test_back is_word w32 (get_or words i (pos 0)) (omega arith) c.is_word.ensures
 
   -- what it leaves to decide
-  decides : (t : Bool) → c.is_IsWord.result ≡ t → are_words words ≡ t && are_words (drop (suc i) words)
+  decides : (t : Bool) → c.is_word.result ≡ t → are_words words ≡ t && are_words (drop (suc i) words)
   decides t e =
       c.before.before.before.loop-i.invariant.1
       ∙ words_from words i c.before.before.loop-i-test.true

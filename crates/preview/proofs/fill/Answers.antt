@@ -8,7 +8,7 @@ use Rattle.refusals.specs.Numbers.{is_accepted}
 use Rattle.refusals.specs.declared.Verdict.{Verdict}
 use Rattle.preview.specs.Preview.{Buffers, buffers_of, preview_verdict}
 use Rattle.preview.proofs.Lists.{previewed_accepted, previewed-refused}
-use Rattle.preview.proofs.fill.Goals.{After-accepted, MISSING-now, Start}
+use Rattle.preview.proofs.fill.Goals.{After-accepted, Start}
 use Rattle.preview.proofs.fill.Goals as goal
 
 module _ (c : After-accepted) where
@@ -19,7 +19,7 @@ module _ (c : After-accepted) where
   words = s.args.words.now
 
   abbrev room : List ℤ
-  room = s.args.resuMISSING-now
+  room = s.args.results.now
 
   abbrev spare : List ℤ
   spare = s.args.remainders.now

@@ -30,7 +30,7 @@ use Rattle.preview.specs.Preview.{are_words, filled_front, buffers_of}
 use Rattle.preview.specs.Carried.{carried, carried_step, section_in, StepAsks}
 use Rattle.preview.proofs.Carry.{carried_back, may_step, result_back, remainder_back}
 use Rattle.preview.proofs.Lists.{words_from, answers_from, front_length, front_next, AcceptedCall, preview_accepted}
-use Rattle.preview.proofs.run.Goals.{After-cleared-preview, After-loop-i, After-step-answer, After-step-arg-1, MISSING-now, Start}
+use Rattle.preview.proofs.run.Goals.{After-cleared-preview, After-loop-i, After-step-answer, After-step-arg-1, Start}
 use Rattle.preview.proofs.run.Invariants.{Inv}
 use Rattle.preview.proofs.run.Goals as goal
 
@@ -46,7 +46,7 @@ module _ (c : After-cleared-preview) where
   words = start.args.words.now
 
   abbrev room : List ℤ
-  room = start.args.resuMISSING-now
+  room = start.args.results.now
 
   abbrev spare : List ℤ
   spare = start.args.remainders.now
@@ -149,13 +149,13 @@ module _ (c : After-step-answer) where
   -- the two numbers as they are stored
   y-is : to_z w32 (of_z w32 (to_signed 31 c.step-answer.result.preview.y1)) ≡ answer.y
   y-is =
-      to_z-of_z (record { sfits = to_signed_in 31 c.step-answer.result.preview.y1 })
+      to_z-of_z {w = w32} (record { sfits = to_signed_in 31 c.step-answer.result.preview.y1 })
       ∙ ap (λ (p : PreviewStep). to_signed 31 p.preview.y1) answer-is
       ∙ result-cast.1
 
   remainder-stored : to_z w32 (of_z w32 (to_signed 31 c.step-answer.result.remainder)) ≡ answer.remainder
   remainder-stored =
-      to_z-of_z (record { sfits = to_signed_in 31 c.step-answer.result.remainder })
+      to_z-of_z {w = w32} (record { sfits = to_signed_in 31 c.step-answer.result.remainder })
       ∙ ap (λ (p : PreviewStep). to_signed 31 p.remainder) answer-is
       ∙ remainder-cast.1
 

@@ -76,13 +76,13 @@ unfolding of_bits
 nearest_whole-rounded-requires c = subst (λ (t : Float). NearestWholeAsks (quotient_of t)) (sym (total-is s)) (roundable (S s) (S-size s))
   where
     s : Start
-    s = c.before.before.before
+    s = c.before.before.before.before
 
 -- ---- S rounded
 
 module _ (c : After-nearest_whole-rounded) where
   abbrev s : Start
-  s = c.before.before.before.before
+  s = c.before.before.before.before.before
 
   abbrev r : ℤ
   r = nearest (S s) sum_shift
@@ -123,4 +123,4 @@ returns c =
     ∙ ap carried_step (sym (accepted_advances (section (s m)) (x (s m)) (s m).requires.accepted))
   where
     m : After-nearest_whole-rounded
-    m = c.before
+    m = (goal.at.returns c).After-nearest_whole-rounded
