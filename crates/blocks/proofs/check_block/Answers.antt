@@ -7,9 +7,9 @@ use borrow.Author.Rules.{rules}
 use Rattle.blocks.proofs.check_block.Goals as goal
 
 pub returns-then-not-is_fit : goal.returns-then-not-is_fit
-returns-then-not-is_fit c = sym (unfit_first channel_count _ _ _ (sym c.before.is_fit.ensures ∙ c.if-not-is_fit.true))
+returns-then-not-is_fit c = sym (unfit_first channel_count _ _ _ (sym c.is_fit.ensures ∙ c.if-not-is_fit.true))
 
 pub returns : goal.returns
 returns c =
     c.check_lengths.ensures
-    ∙ sym (fit_first channel_count _ _ _ (sym c.before.before.is_fit.ensures ∙ c.before.if-not-is_fit.false))
+    ∙ sym (fit_first channel_count _ _ _ (sym c.is_fit.ensures ∙ c.if-not-is_fit.false))

@@ -24,14 +24,14 @@ module _ (c : After-accepted) where
   abbrev verdict : Verdict
   verdict = block_verdict 2 s.args.unit (length s.args.input.now) (length s.args.output.now)
 
-  verdict-is : c.before.check_block-verdict.result ≡ verdict
-  verdict-is = c.before.check_block-verdict.ensures
+  verdict-is : c.check_block-verdict.result ≡ verdict
+  verdict-is = c.check_block-verdict.ensures
 
   accepted-is : is_accepted verdict ≡ c.accepted.result
   accepted-is = sym (c.accepted.ensures ∙ ap is_accepted verdict-is)
 
 pub run-after-requires : goal.run-after-requires
-run-after-requires c = accepted-is c.before.before.before.before.before ∙ c.before.before.before.before.if-accepted.true
+run-after-requires c = accepted-is c.before.before.before.before.before ∙ c.if-accepted.true
 
 pub returns-then-accepted : goal.returns-then-accepted
 unfolding block_played block_output
@@ -57,7 +57,7 @@ returns-then-accepted c = (
     room = (s a).args.output.now
 
     yes : is_accepted (verdict a) ≡ true
-    yes = accepted-is a ∙ r.before.before.before.before.before.if-accepted.taken
+    yes = accepted-is a ∙ r.if-accepted.taken
 
 pub returns : goal.returns
 unfolding block_played

@@ -57,10 +57,10 @@ module _ (c : After-level_floats) where
   z = c.before.before.before.before.before.before.before.before.before
 
   abbrev bands : List Float
-  bands = c.before.before.before.before.before.before.band_floats-floats.result
+  bands = c.band_floats-floats.result
 
   abbrev pair : List Float
-  pair = c.before.before.before.pair_floats-pair.result
+  pair = c.pair_floats-pair.result
 
   abbrev level : FloatLevel
   level = c.level_floats.result
@@ -72,8 +72,8 @@ module _ (c : After-level_floats) where
         second = get_or z.args.channels 1 zero_channel;
         channels = tabulate_all z.args.channels zero_channel 2 (omega arith);
         level_is = c.level_floats.ensures;
-        bands_are = c.before.before.before.before.before.before.band_floats-floats.ensures;
-        pair_is = c.before.before.before.pair_floats-pair.ensures;
+        bands_are = c.band_floats-floats.ensures;
+        pair_is = c.pair_floats-pair.ensures;
       }
 
 pub frames-level-requires : goal.frames-level-requires
@@ -84,10 +84,10 @@ module _ (c : After-frames-level) where
   p = c.before.before
 
   abbrev after : List Float
-  after = c.frames-level.new.1.0
+  after = c.frames-level.new.sides
 
   abbrev filled : List ℕ
-  filled = c.frames-level.new.1.1.1.1.1.1.0
+  filled = c.frames-level.new.output
 
   fit : Fit (unit_in c.frames-level.result (bands p) 1 after)
   fit = fit_after (U (z p)) (input (z p)) (room (z p)) (accepts (z p)) (level (p)) (bands (p)) (pair (p)) (packed (p)) c.frames-level.result after filled c.frames-level.ensures
@@ -115,9 +115,9 @@ returns c =
     record {
       unit =
           (λ i. record {
-            volume = c.before.before.before.before.level_of-volume_after.ensures i;
+            volume = c.level_of-volume_after.ensures i;
             bands = sym (packed (p f)).bands_are.first i;
-            channels = c.before.before.channel_of-first_after.ensures i ∷ c.channel_of-second_after.ensures i ∷ [];
+            channels = c.channel_of-first_after.ensures i ∷ c.channel_of-second_after.ensures i ∷ [];
           })
           ∙ unit_after_lem (U (z (p f))) (input (z (p f))) (room (z (p f))) (accepts (z (p f))) (level (p f)) (bands (p f)) (pair (p f)) (packed (p f)) f.frames-level.result (after f) (filled f) f.frames-level.ensures;
       bytes = output_after (U (z (p f))) (input (z (p f))) (room (z (p f))) (accepts (z (p f))) (level (p f)) (bands (p f)) (pair (p f)) (packed (p f)) f.frames-level.result (after f) (filled f) f.frames-level.ensures;

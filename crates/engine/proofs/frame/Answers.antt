@@ -18,19 +18,19 @@ use Rattle.engine.proofs.frame.Goals.{After-put_sides, After-put_sides-2, After-
 use Rattle.engine.proofs.frame.Goals as goal
 
 pub sides_at-x1-requires : goal.sides_at-x1-requires
-sides_at-x1-requires c = omega (arith, c.before.before.requires.size)
+sides_at-x1-requires c = omega (arith, c.before.requires.size)
 
 pub sides_at-x2-requires : goal.sides_at-x2-requires
-sides_at-x2-requires c = omega (arith, c.before.before.before.before.requires.size)
+sides_at-x2-requires c = omega (arith, c.before.before.requires.size)
 
 pub sides_at-flags-requires : goal.sides_at-flags-requires
-sides_at-flags-requires c = omega (arith, c.before.before.before.before.before.before.requires.size)
+sides_at-flags-requires c = omega (arith, c.before.before.before.requires.size)
 
 -- ---- before the first turn
 
 module _ (c : After-sides_at-flags) where
   abbrev s : Start
-  s = c.before.before.before.before.before.before.before
+  s = c.before.before.before.before
 
   abbrev bands : List Float
   bands = s.args.bands.now
@@ -42,10 +42,10 @@ module _ (c : After-sides_at-flags) where
   x = s.args.x
 
   abbrev d : Sides
-  d = record { first = sub binary64 x.first c.before.before.sides_at-x2.result.first; second = sub binary64 x.second c.before.before.sides_at-x2.result.second }
+  d = record { first = sub binary64 x.first c.before.sides_at-x2.result.first; second = sub binary64 x.second c.before.sides_at-x2.result.second }
 
   ways-are : d ≡ ways bands l x
-  ways-are = λ i. record { first = sub binary64 x.first (c.before.before.sides_at-x2.ensures i).first; second = sub binary64 x.second (c.before.before.sides_at-x2.ensures i).second }
+  ways-are = λ i. record { first = sub binary64 x.first (c.before.sides_at-x2.ensures i).first; second = sub binary64 x.second (c.before.sides_at-x2.ensures i).second }
 
   -- the tallies with these flags
   abbrev tallied : Sides → Tallies
@@ -68,7 +68,7 @@ module _ (c : After-turn_bands-fed) where
   n = c.before.before.before.before.before.before.before.before
 
   abbrev m : List Float
-  m = c.turn_bands-fed.new.1.1.0
+  m = c.turn_bands-fed.new.pair
 
   fed : Turning (bands n) (l n) (x n) feedback_count m c.turn_bands-fed.result
   fed =
@@ -92,7 +92,7 @@ module _ (c : After-turn_bands-tallies) where
   e = n k
 
   abbrev M : List Float
-  M = c.turn_bands-tallies.new.1.1.0
+  M = c.turn_bands-tallies.new.pair
 
   abbrev last-tallies : Tallies
   last-tallies = c.turn_bands-tallies.result
@@ -109,7 +109,7 @@ module _ (c : After-put_sides) where
   abbrev g : After-turn_bands-tallies
   g = c.before.before.before.before
 
-  one_size : length c.put_sides.new.0 ≡ pair_floats
+  one_size : length c.put_sides.new.floats ≡ pair_floats
   one_size = ap length c.put_sides.ensures ∙ sides-length (M g) x1_place (x (e g)) ∙ (all g).size
 
 pub put_sides-requires-2 : goal.put_sides-requires-2
@@ -119,10 +119,10 @@ module _ (c : After-put_sides-2) where
   abbrev h : After-put_sides
   h = c.before.before.before.before
 
-  two_is : c.put_sides-2.new.0 ≡ put_sides (put_sides (M (g h)) x1_place (x (e (g h)))) x2_place (sides_at (l (e (g h))) x1_place)
-  two_is = c.put_sides-2.ensures ∙ ap₂ (λ (a : List Float) (t : Sides). put_sides a x2_place t) h.put_sides.ensures (e (g h)).before.before.before.before.sides_at-x1.ensures
+  two_is : c.put_sides-2.new.floats ≡ put_sides (put_sides (M (g h)) x1_place (x (e (g h)))) x2_place (sides_at (l (e (g h))) x1_place)
+  two_is = c.put_sides-2.ensures ∙ ap₂ (λ (a : List Float) (t : Sides). put_sides a x2_place t) h.put_sides.ensures (e (g h)).sides_at-x1.ensures
 
-  two_size : length c.put_sides-2.new.0 ≡ pair_floats
+  two_size : length c.put_sides-2.new.floats ≡ pair_floats
   two_size =
       ap length two_is
       ∙ sides-length (put_sides (M (g h)) x1_place (x (e (g h)))) x2_place (sides_at (l (e (g h))) x1_place)
@@ -139,16 +139,16 @@ module _ (c : After-put_sides-3) where
   abbrev f : After-turn_bands-tallies
   f = g (h t)
 
-  three-is : c.put_sides-3.new.0 ≡ ended (bands (e f)) (l (e f)) (x (e f)) (s (e f)).requires (M f) (last-tallies f) (all f)
+  three-is : c.put_sides-3.new.floats ≡ ended (bands (e f)) (l (e f)) (x (e f)) (s (e f)).requires (M f) (last-tallies f) (all f)
   three-is = c.put_sides-3.ensures ∙ ap (λ (a : List Float). put_sides a flag_place (record { first = (last-tallies f).first.flag; second = (last-tallies f).second.flag })) (two_is t)
 
-  given : FrameGives (bands (e f)) (l (e f)) (x (e f)) c.put_sides-3.new.0 (record { first = (last-tallies f).first.total; second = (last-tallies f).second.total })
+  given : FrameGives (bands (e f)) (l (e f)) (x (e f)) c.put_sides-3.new.floats (record { first = (last-tallies f).first.total; second = (last-tallies f).second.total })
   given =
       subst (λ (a : List Float). FrameGives (bands (e f)) (l (e f)) (x (e f)) a (record { first = (last-tallies f).first.total; second = (last-tallies f).second.total })) (sym three-is)
       (ends (bands (e f)) (l (e f)) (x (e f)) (s (e f)).requires (M f) (last-tallies f) (all f))
 
 pub shape_of-pair : goal.shape_of-pair
-shape_of-pair c = (given c.before.before).size ∙ sym (s (e (f c.before.before))).requires.size
+shape_of-pair c = (given c.before.before.before).size ∙ sym (s (e (f c.before.before.before))).requires.size
 
 pub returns : goal.returns
-returns c = given c.before.before
+returns c = given c.before.before.before

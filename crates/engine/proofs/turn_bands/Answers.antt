@@ -44,7 +44,7 @@ turn_pair-tallies-requires c =
     k = c.before
 
 pub overflow_add-b : goal.overflow_add-b
-overflow_add-b c = omega (arith, (inv c.before.before.before.before).place, below c.before.before.before.before, (s c.before.before.before.before).requires.most)
+overflow_add-b c = omega (arith, (inv c.before.before.before.before.before).place, below c.before.before.before.before.before, (s c.before.before.before.before.before).requires.most)
 
 pub loop-b-smaller : goal.loop-b-smaller
 loop-b-smaller c = omega (arith, c.before.before.before.before.loop-b-test.true)
@@ -63,7 +63,7 @@ loop-b-preserved c =
     }
   where
     k : In-loop-b
-    k = c.before.before.before.before
+    k = c.before.before.before.before.before
 
     feeds-are : (s k).args.feeds ≡ feeds_back ((s k).args.from + (inv k).turns)
     feeds-are = sym ((s k).requires.alike ((s k).args.from + (inv k).turns) (omega arith) (below k))

@@ -13,7 +13,7 @@ use Rattle.engine.proofs.turn_bands.Given as goal
 
 module _ (bands : List Float) (d : Sides) (from : ℕ) (s : Between) where
   -- a turn leaves the number of floats
-  length-after : (n : ℕ) → length (after_turns bands d from n s).pair ≡ length s.pair
+  pub length-after : (n : ℕ) → length (after_turns bands d from n s).pair ≡ length s.pair
   length-after zero = refl
   length-after (suc n) = simp section_length (length-after n)
 

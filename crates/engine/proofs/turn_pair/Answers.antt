@@ -17,25 +17,25 @@ use Rattle.engine.proofs.turn_pair.Goals as goal
 
 pub turn-first-requires : goal.turn-first-requires
 turn-first-requires c =
-    subst (λ (k : FloatBand). TurnAsks k c.section_at.result s.args.d.first s.args.tallies.first) (sym c.before.before.band_at.ensures)
+    subst (λ (k : FloatBand). TurnAsks k c.section_at.result s.args.d.first s.args.tallies.first) (sym c.before.band_at.ensures)
     (subst (λ (h : FloatSection). TurnAsks (float_band_at s.args.bands.now (band_floats * s.args.b)) h s.args.d.first s.args.tallies.first) (sym c.section_at.ensures) s.requires.first_turns)
   where
     s : Start
-    s = c.before.before.before.before.before.before
+    s = c.before.before.before.before.before
 
 pub turn-second-requires : goal.turn-second-requires
 turn-second-requires c =
-    subst (λ (k : FloatBand). TurnAsks k c.section_at-2.result s.args.d.second s.args.tallies.second) (sym c.before.before.band_at-2.ensures)
+    subst (λ (k : FloatBand). TurnAsks k c.section_at-2.result s.args.d.second s.args.tallies.second) (sym c.before.band_at-2.ensures)
     (subst (λ (h : FloatSection). TurnAsks (float_band_at s.args.bands.now (band_floats * s.args.b + 1)) h s.args.d.second s.args.tallies.second) (sym c.section_at-2.ensures) s.requires.second_turns)
   where
     s : Start
-    s = c.before.before.before.before.before.before.before.before.before.before
+    s = c.before.before.before.before.before.before.before.before
 
 pub put_section-requires : goal.put_section-requires
-put_section-requires c = omega (arith, c.before.before.before.before.before.before.before.before.before.before.before.before.before.before.requires.below, c.before.before.before.before.before.before.before.before.before.before.before.before.before.before.requires.room)
+put_section-requires c = omega (arith, c.before.before.before.before.before.before.before.before.before.before.before.before.requires.below, c.before.before.before.before.before.before.before.before.before.before.before.before.requires.room)
 
 pub overflow_add-at-2 : goal.overflow_add-at-2
-overflow_add-at-2 c = omega (arith, c.before.before.before.before.before.before.before.before.before.before.before.before.before.before.before.before.before.before.requires.below)
+overflow_add-at-2 c = omega (arith, c.before.before.before.before.before.before.before.before.before.before.before.before.before.before.before.before.requires.below)
 
 pub put_section-requires-2 : goal.put_section-requires-2
 put_section-requires-2 c =
@@ -48,10 +48,10 @@ put_section-requires-2 c =
     )
   where
     s : Start
-    s = c.before.before.before.before.before.before.before.before.before.before.before.before.before.before.before.before.before.before
+    s = c.before.before.before.before.before.before.before.before.before.before.before.before.before.before.before.before
 
     t : After-turn-first
-    t = c.before.before.before.before.before.before.before.before.before.before.before
+    t = c.before.before.before.before.before.before.before.before.before.before
 
 pub returns : goal.returns
 returns c = (
@@ -63,12 +63,12 @@ returns c = (
 )
   where
     s : Start
-    s = c.before.before.before.before.before.before.before.before.before.before.before.before.before.before.before.before.before.before.before.before.before.before.before
+    s = c.before.before.before.before.before.before.before.before.before.before.before.before.before.before.before.before.before.before.before.before.before.before
 
     first-is : c.before.before.before.before.before.before.before.before.before.before.before.before.before.before.before.before.turn-first.result ≡ first_turned s.args.feeds s.args.bands.now s.args.pair.now s.args.b s.args.d s.args.tallies
     first-is =
         c.before.before.before.before.before.before.before.before.before.before.before.before.before.before.before.before.turn-first.ensures
-        ∙ ap₂ (λ (k : FloatBand) (h : FloatSection). turned s.args.feeds k h s.args.d.first s.args.tallies.first) c.before.before.before.before.before.before.before.before.before.before.before.before.before.before.before.before.before.before.before.band_at.ensures c.before.before.before.before.before.before.before.before.before.before.before.before.before.before.before.before.before.section_at.ensures
+        ∙ ap₂ (λ (k : FloatBand) (h : FloatSection). turned s.args.feeds k h s.args.d.first s.args.tallies.first) c.before.before.before.before.before.before.before.before.before.before.before.before.before.before.before.before.before.before.band_at.ensures c.before.before.before.before.before.before.before.before.before.before.before.before.before.before.before.before.before.section_at.ensures
 
     second_is : c.before.before.before.before.before.before.before.before.before.before.before.before.turn-second.result ≡ second_turned s.args.feeds s.args.bands.now s.args.pair.now s.args.b s.args.d s.args.tallies
     second_is =

@@ -16,30 +16,30 @@ use Rattle.field_reading.proofs.all_blank.Goals as goal
 
 module _ (c : tie.After-four2) where
   abbrev bytes : List ℕ
-  bytes = c.before.before.before.before.before.before.before.before.before.before.before.args.bytes.now
+  bytes = c.args.bytes.now
 
   abbrev at : ℕ
-  at = c.before.before.before.before.before.before.before.before.before.before.before.args.at
+  at = c.args.at
 
   long : at + last_column ≤ length bytes
-  long = c.before.before.before.before.before.before.before.before.before.before.before.requires
+  long = c.requires
 
   -- a byte is below 256
   small : (i : ℕ) → get_or bytes i 0 < 256
-  small i = omega (arith, c.before.shared_slice_known-9-1.given i)
+  small i = omega (arith, c.shared_slice_known-9-1.given i)
 
   abbrev byte : ℕ → ℕ
   byte i = get_or bytes (at + i) 0
 
   abbrev low : ℕ
-  low = c.before.before.before.before.before.four-low.result
+  low = c.four-low.result
 
   abbrev high : ℕ
   high = c.four-high.result
 
   -- the first four columns as one number, and the next four
   low-is : low ≡ word_from byte 4 0
-  low-is = omega (arith, c.before.before.before.before.before.four-low.ensures, ap (λ (i : ℕ). get_or bytes i 0) (add-zero at))
+  low-is = omega (arith, c.four-low.ensures, ap (λ (i : ℕ). get_or bytes i 0) (add-zero at))
 
   high_is : high ≡ word_from byte 4 4
   high_is = omega (arith, c.four-high.ensures)

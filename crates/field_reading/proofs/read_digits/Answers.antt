@@ -53,35 +53,35 @@ longer from i value d l h k =
 
 module _ (c : In-loop-i) where
   abbrev bytes : List ℕ
-  bytes = c.before.before.before.args.bytes.now
+  bytes = c.args.bytes.now
 
   abbrev byte : ℕ
-  byte = get_or bytes c.before.loop-i.i 0
+  byte = get_or bytes c.loop-i.i 0
 
   abbrev value : ℕ
-  value = c.before.loop-i.value
+  value = c.loop-i.value
 
   abbrev from : ℕ
-  from = c.before.before.before.args.from
+  from = c.args.from
 
   abbrev end : ℕ
-  end = c.before.before.before.args.end
+  end = c.args.end
 
   abbrev negative : Bool
-  negative = c.before.before.before.args.negative
+  negative = c.args.negative
 
   value_low : value < 10 ^ 8
-  value_low = short (c.before.loop-i.i - from) 8 value c.before.loop-i.invariant.2 (omega arith)
+  value_low = short (c.loop-i.i - from) 8 value c.loop-i.invariant.2 (omega arith)
 
   -- the answer by the byte read
   answer-is : (t : Bool) (d : ℕ) → is_digit byte ≡ t → digit_in byte ≡ d
-      → read_next negative value t d (slice (c.before.loop-i.i + 1) end bytes) ≡ digits_read negative (slice from end bytes)
+      → read_next negative value t d (slice (c.loop-i.i + 1) end bytes) ≡ digits_read negative (slice from end bytes)
   answer-is t d e v =
-      sym (one_byte bytes c.before.loop-i.i end negative value (omega arith) c.before.before.before.requires.2 t d e v) ∙ c.before.loop-i.invariant.3
+      sym (one_byte bytes c.loop-i.i end negative value (omega arith) c.requires.2 t d e v) ∙ c.loop-i.invariant.3
 
 module _ (c : Else-not-is_digit) where
   is_one : is_digit (byte c.before.before.before) ≡ true
-  is_one = sym c.before.is_digit.ensures ∙ c.if-not-is_digit.false
+  is_one = sym c.is_digit.ensures ∙ c.if-not-is_digit.false
 
   high : byte c.before.before.before ≤ 57
   high = digit_high (byte c.before.before.before) is_one
@@ -91,10 +91,10 @@ module _ (c : Else-not-is_digit) where
 
 pub loop-i-init : goal.loop-i-init
 unfolding digits_read
-loop-i-init c = (search rules, search rules, one-le-pow (c.before.args.from - c.before.args.from) 10 (zero-lt-suc 9), refl)
+loop-i-init c = (search rules, search rules, one-le-pow (c.args.from - c.args.from) 10 (zero-lt-suc 9), refl)
 
 pub returns-then-not-is_digit : goal.returns-then-not-is_digit
-returns-then-not-is_digit c = answer-is c.before.before.before false _ (sym c.before.is_digit.ensures ∙ c.if-not-is_digit.true) refl
+returns-then-not-is_digit c = answer-is c.before.before.before false _ (sym c.is_digit.ensures ∙ c.if-not-is_digit.true) refl
 
 pub overflow_mul-value : goal.overflow_mul-value
 overflow_mul-value c = record { fits = omega (arith, value_low c.before.before.before) }
@@ -113,13 +113,13 @@ loop-i-preserved c =
     let read = c.before.before.before in (
       search rules,
       search rules,
-      longer (from read) read.before.loop-i.i (value read) (byte read - 48) read.before.loop-i.invariant.0
-          read.before.loop-i.invariant.2 (omega (arith, high c)),
+      longer (from read) read.loop-i.i (value read) (byte read - 48) read.loop-i.invariant.0
+          read.loop-i.invariant.2 (omega (arith, high c)),
       answer-is read true (byte read - 48) (is_one c) (digit-is c),
     )
 
 pub with_sign-requires : goal.with_sign-requires
-with_sign-requires c = short (c.before.loop-i.i - c.before.before.before.args.from) 9 c.before.loop-i.value c.before.loop-i.invariant.2 (omega arith)
+with_sign-requires c = short (c.loop-i.i - c.args.from) 9 c.loop-i.value c.loop-i.invariant.2 (omega arith)
 
 pub returns : goal.returns
 returns c =

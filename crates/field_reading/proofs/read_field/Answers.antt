@@ -14,13 +14,13 @@ use Rattle.field_reading.proofs.read_field.Goals as goal
 -- behind the blanks, which are fewer than eight
 module _ (c : tie.After-skip-blanks) where
   abbrev bytes : List ℕ
-  bytes = c.before.before.before.before.before.before.args.bytes.now
+  bytes = c.args.bytes.now
 
   abbrev at : ℕ
-  at = c.before.before.before.before.before.before.args.at
+  at = c.args.at
 
   long : at + 9 ≤ length bytes
-  long = c.before.before.before.before.before.before.requires
+  long = c.requires
 
   abbrev start : ℕ
   start = c.skip_blanks-start.result
@@ -28,20 +28,20 @@ module _ (c : tie.After-skip-blanks) where
   -- the blanks end before the last column
   inside : start < at + 8
   inside =
-      let blank = c.before.before.before.before.all_blank in
-      start_low bytes at long start c.skip_blanks-start.ensures (eqb-false _ 8 (sym blank.ensures ∙ c.before.before.before.if-all_blank.false))
+      let blank = c.all_blank in
+      start_low bytes at long start c.skip_blanks-start.ensures (eqb-false _ 8 (sym blank.ensures ∙ c.if-all_blank.false))
 
 pub returns-then-all_blank : goal.returns-then-all_blank
 returns-then-all_blank c =
     let entry = c.before.before.before.before in
     reads_back w32 c.read_digits.result (omega arith) ∙ c.read_digits.ensures
-    ∙ sym (read_last entry.args.bytes.now entry.args.at entry.requires (eqb-true _ 8 (sym c.before.before.all_blank.ensures ∙ c.before.if-all_blank.true)))
+    ∙ sym (read_last entry.args.bytes.now entry.args.at entry.requires (eqb-true _ 8 (sym c.all_blank.ensures ∙ c.if-all_blank.true)))
 
 pub returns-then-is_long : goal.returns-then-is_long
 returns-then-is_long c =
     let entry = c.before.before.before.before.before.before.before in
     reads_back w32 c.read_digits-then-is_long.result (omega arith) ∙ c.read_digits-then-is_long.ensures
-    ∙ sym (read_long entry.args.bytes.now entry.args.at entry.requires (sym c.before.before.before.is_long.ensures ∙ c.before.before.if-is_long.true))
+    ∙ sym (read_long entry.args.bytes.now entry.args.at entry.requires (sym c.is_long.ensures ∙ c.if-is_long.true))
 
 pub bounds-bytes-start : goal.bounds-bytes-start
 bounds-bytes-start c = omega (arith, inside c.before, long c.before)
@@ -56,7 +56,7 @@ pub returns-then-bytes-start-eq-MINUS : goal.returns-then-bytes-start-eq-MINUS
 returns-then-bytes-start-eq-MINUS c =
     let s = c.before.before.before in
     reads_back w32 c.read_number.result (omega arith) ∙ c.read_number.ensures
-    ∙ sym (read_minus (bytes s) (at s) (long s) (start s) s.skip_blanks-start.ensures (inside s) c.before.if-bytes-start-eq-MINUS.true)
+    ∙ sym (read_minus (bytes s) (at s) (long s) (start s) s.skip_blanks-start.ensures (inside s) c.if-bytes-start-eq-MINUS.true)
 
 pub read_number-requires-2 : goal.read_number-requires-2
 read_number-requires-2 c = omega (arith, inside c.before.before, long c.before.before)
@@ -65,4 +65,4 @@ pub returns : goal.returns
 returns c =
     let s = c.before.before.before in
     reads_back w32 c.read_number-2.result (omega arith) ∙ c.read_number-2.ensures
-    ∙ sym (read_plain (bytes s) (at s) (long s) (start s) s.skip_blanks-start.ensures (inside s) c.before.if-bytes-start-eq-MINUS.false)
+    ∙ sym (read_plain (bytes s) (at s) (long s) (start s) s.skip_blanks-start.ensures (inside s) c.if-bytes-start-eq-MINUS.false)

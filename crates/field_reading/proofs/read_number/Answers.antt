@@ -16,4 +16,4 @@ pub returns : goal.returns
 returns c =
     let entry = c.before.before.before.before in
     reads_back w32 c.read_digits.result (omega arith) ∙ c.read_digits.ensures
-    ∙ sym (read_number entry.args.bytes.now entry.args.from entry.args.end entry.requires.0 entry.args.negative c.before.if-bytes-from-eq-ZERO.false)
+    ∙ sym (read_number entry.args.bytes.now entry.args.from entry.args.end entry.requires.0 entry.args.negative c.if-bytes-from-eq-ZERO.false)

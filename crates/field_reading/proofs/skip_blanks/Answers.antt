@@ -31,4 +31,4 @@ loop-i-preserved c =
 pub returns : goal.returns
 returns c =
     let entry = c.before.before in
-    omega (arith, c.before.loop-i.invariant.1, none_left entry.args.bytes.now c.before.loop-i.i entry.args.end (omega arith))
+    omega (arith, c.loop-i.invariant.1, none_left entry.args.bytes.now c.loop-i.i entry.args.end (omega arith))

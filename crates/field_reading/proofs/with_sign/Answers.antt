@@ -26,8 +26,8 @@ overflow_sub-result c = binary_need ◌-ℤ◌ (literal 0) (value c.before) (fli
 
 pub returns-then-negative : goal.returns-then-negative
 returns-then-negative c =
-    binary_reads ◌-ℤ◌ (literal 0) (value c.before) (flipped-fits c.before) ∙ +ℤ_idl (neg_ℤ (pos c.before.args.value))
-    ∙ sym (ap (λ (t : Bool). signed t c.before.args.value) c.if-negative.true)
+    binary_reads ◌-ℤ◌ (literal 0) (value c.before) (flipped-fits c.before) ∙ +ℤ_idl (neg_ℤ (pos c.args.value))
+    ∙ sym (ap (λ (t : Bool). signed t c.args.value) c.if-negative.true)
 
 pub returns : goal.returns
-returns c = (value c.before).reads ∙ sym (ap (λ (t : Bool). signed t c.before.args.value) c.if-negative.false)
+returns c = (value c.before).reads ∙ sym (ap (λ (t : Bool). signed t c.args.value) c.if-negative.false)

@@ -7,11 +7,11 @@ use Rattle.field_writing.proofs.column.Goals as goal
 
 pub returns-then-owed : goal.returns-then-owed
 unfolding column
-returns-then-owed c = sym (simp (eq-eqb _ _ c.before.if-left-eq0.true, c.if-owed.true))
+returns-then-owed c = sym (simp (eq-eqb _ _ c.if-left-eq0.true, c.if-owed.true))
 
 pub returns-then-left-eq0 : goal.returns-then-left-eq0
 unfolding column
-returns-then-left-eq0 c = sym (simp (eq-eqb _ _ c.before.if-left-eq0.true, c.if-owed.false))
+returns-then-left-eq0 c = sym (simp (eq-eqb _ _ c.if-left-eq0.true, c.if-owed.false))
 
 pub returns : goal.returns
 unfolding column

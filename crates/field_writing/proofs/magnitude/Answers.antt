@@ -35,21 +35,21 @@ module _ (c : Start) where
 
 module _ (c : Then-number-lt0) where
   abbrev z : ℤ
-  z = c.before.args.number
+  z = c.args.number
 
   negative : z <ℤ pos 0
   negative = lt_z_true z (pos 0) (test_of lt_z (number c.before) (literal 0) c.if-number-lt0.true)
 
   more-fits : SFits w32 (z +ℤ pos 1)
   more-fits =
-      range_fits (z +ℤ pos 1) (omega (linear, (var z ⊕ var (pos 1)).tie, mag_low z c.before.ranges.number.sfits))
+      range_fits (z +ℤ pos 1) (omega (linear, (var z ⊕ var (pos 1)).tie, mag_low z c.ranges.number.sfits))
       (omega (linear, negative, (var z ⊕ var (pos 1)).tie))
 
   abbrev more : Num w32
   more = binary ◌+ℤ◌ (number c.before) (literal 1) more-fits
 
   flipped-fits : SFits w32 (flipped z)
-  flipped-fits = subst (λ (x : ℤ). SFits w32 x) (sym (flipped-is z negative)) (record { sfits = c.before.ranges.number.sfits })
+  flipped-fits = subst (λ (x : ℤ). SFits w32 x) (sym (flipped-is z negative)) (record { sfits = c.ranges.number.sfits })
 
   -- what the machine's -(n + 1) reads as
   rest-is : to_z w32 (binary ◌-ℤ◌ (literal 0) more flipped-fits).bits ≡ pos (mag z)
@@ -62,10 +62,10 @@ pub overflow_sub-result : goal.overflow_sub-result
 overflow_sub-result c = binary_need ◌-ℤ◌ (literal 0) (more c) (flipped-fits c)
 
 pub overflow_cast-result : goal.overflow_cast-result
-overflow_cast-result c = subst (λ (x : ℤ). T (non_neg x) × Fits w32 (nat_abs x)) (sym (rest-is c)) (tt, record { fits = omega (arith, c.before.ranges.number.sfits) })
+overflow_cast-result c = subst (λ (x : ℤ). T (non_neg x) × Fits w32 (nat_abs x)) (sym (rest-is c)) (tt, record { fits = omega (arith, c.ranges.number.sfits) })
 
 pub overflow_add-result-then-number-lt0 : goal.overflow_add-result-then-number-lt0
-overflow_add-result-then-number-lt0 c = record { fits = omega (arith, ap nat_abs (rest-is c), c.before.ranges.number.sfits) }
+overflow_add-result-then-number-lt0 c = record { fits = omega (arith, ap nat_abs (rest-is c), c.ranges.number.sfits) }
 
 pub returns-then-number-lt0 : goal.returns-then-number-lt0
 returns-then-number-lt0 c = ap (λ (x : ℤ). nat_abs x + 1) (rest-is c) ∙ abs_mag (z c) (negative c)

@@ -22,18 +22,18 @@ loop-i-init c = (search rules, refl, refl)
 
 pub loop-i-preserved : goal.loop-i-preserved
 loop-i-preserved c =
-    let loop = c.before.loop-i in
-    let entry = c.before.before.args in (
+    let loop = c.loop-i in
+    let entry = c.args in (
       search rules,
       length-set loop.out _ _ ∙ loop.invariant.1,
       ap (λ (l : List ℕ). set l (entry.at + loop.i) blank) loop.invariant.2 ∙ one_more entry.out.now entry.at loop.i,
     )
 
 pub shape_of-out : goal.shape_of-out
-shape_of-out c = c.before.loop-i.invariant.1
+shape_of-out c = c.loop-i.invariant.1
 
 pub returns : goal.returns
 returns c =
-    let entry = c.before.before.args in
-    let all : c.before.loop-i.i ≡ front_columns = omega arith in
-    c.before.loop-i.invariant.2 ∙ ap (λ (n : ℕ). sets entry.out.now entry.at (replicate n blank)) all
+    let entry = c.args in
+    let all : c.loop-i.i ≡ front_columns = omega arith in
+    c.loop-i.invariant.2 ∙ ap (λ (n : ℕ). sets entry.out.now entry.at (replicate n blank)) all

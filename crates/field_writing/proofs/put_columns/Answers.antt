@@ -45,12 +45,12 @@ pub loop-i-preserved : goal.loop-i-preserved
 unfolding owed_still
 loop-i-preserved c = (
   omega arith,
-  length-set c.before.before.loop-i.out _ _ ∙ c.before.before.loop-i.invariant.1,
-  store c.before.before.loop-i.invariant.2 (c.before.before.loop-i.i - 1) (omega arith) c.column.ensures,
+  length-set c.loop-i.out _ _ ∙ c.loop-i.invariant.1,
+  store c.loop-i.invariant.2 (c.loop-i.i - 1) (omega arith) c.column.ensures,
 )
 
 pub shape_of-out : goal.shape_of-out
-shape_of-out c = c.before.loop-i.invariant.1
+shape_of-out c = c.loop-i.invariant.1
 
 pub returns : goal.returns
-returns c = stored-all c.before.loop-i.invariant.2 (omega arith)
+returns c = stored-all c.loop-i.invariant.2 (omega arith)

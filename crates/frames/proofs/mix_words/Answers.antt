@@ -33,16 +33,16 @@ module _ (c : In-loop-k) where
   words = s.args.words.now
 
   abbrev k : ℕ
-  k = c.before.loop-k.k
+  k = c.loop-k.k
 
   abbrev m : List Float
-  m = c.before.loop-k.pair
+  m = c.loop-k.pair
 
   abbrev w : List Float
-  w = c.before.loop-k.words
+  w = c.loop-k.words
 
   inv : Mixing bands l words s.args.count m w k
-  inv = c.before.loop-k.invariant
+  inv = c.loop-k.invariant
 
   below : k < s.args.count
   below = c.loop-k-test.true
@@ -84,10 +84,10 @@ loop-k-smaller c = omega (arith, below c.before.before.before.before.before.befo
 
 pub loop-k-preserved : goal.loop-k-preserved
 loop-k-preserved c =
-    subst (λ (j : ℕ). Mixing (bands i) (l i) (words i) (s i).args.count after c.before.before.put_sides.new.0 j) (sym (add-one (k i)))
-    (subst (λ (z : List Float). Mixing (bands i) (l i) (words i) (s i).args.count after z (suc (k i))) (sym c.before.before.put_sides.ensures)
-    (mixing_next (bands i) (l i) (words i) (s i).args.count (s i).requires (m i) (w i) (k i) (below i) (inv i) after c.before.before.before.before.before.before.frame-totals.result
-    (subst (λ (x : Sides). FrameGives (bands i) (m i) x after c.before.before.before.before.before.before.frame-totals.result) (x-is e) c.before.before.before.before.before.before.frame-totals.ensures)))
+    subst (λ (j : ℕ). Mixing (bands i) (l i) (words i) (s i).args.count after c.put_sides.new.floats j) (sym (add-one (k i)))
+    (subst (λ (z : List Float). Mixing (bands i) (l i) (words i) (s i).args.count after z (suc (k i))) (sym c.put_sides.ensures)
+    (mixing_next (bands i) (l i) (words i) (s i).args.count (s i).requires (m i) (w i) (k i) (below i) (inv i) after c.frame-totals.result
+    (subst (λ (x : Sides). FrameGives (bands i) (m i) x after c.frame-totals.result) (x-is e) c.frame-totals.ensures)))
   where
     i : In-loop-k
     i = c.before.before.before.before.before.before.before.before.before.before
@@ -96,21 +96,21 @@ loop-k-preserved c =
     e = c.before.before.before.before.before.before.before.before
 
     after : List Float
-    after = c.before.before.before.before.before.before.frame-totals.new.1.0
+    after = c.frame-totals.new.pair
 
-all : (c : After-loop-k) → c.before.loop-k.k ≡ c.before.before.before.before.args.count
-all c = omega (arith, c.before.loop-k.invariant.most, c.loop-k-test.false)
+all : (c : After-loop-k) → c.loop-k.k ≡ c.args.count
+all c = omega (arith, c.loop-k.invariant.most, c.loop-k-test.false)
 
 pub shape_of-pair : goal.shape_of-pair
-shape_of-pair c = c.before.loop-k.invariant.size ∙ sym c.before.before.before.before.requires.pair_fit.size
+shape_of-pair c = c.loop-k.invariant.size ∙ sym c.requires.pair_fit.size
 
 pub shape_of-words : goal.shape_of-words
-shape_of-words c = c.before.loop-k.invariant.words_size ∙ sym c.before.before.before.before.requires.words_size
+shape_of-words c = c.loop-k.invariant.words_size ∙ sym c.requires.words_size
 
 pub returns : goal.returns
 returns c =
-    mixing_ends s'.args.bands.now s'.args.pair.now s'.args.words.now s'.args.count s'.requires c.before.loop-k.pair c.before.loop-k.words
-    (subst (λ (j : ℕ). Mixing s'.args.bands.now s'.args.pair.now s'.args.words.now s'.args.count c.before.loop-k.pair c.before.loop-k.words j) (all c) c.before.loop-k.invariant)
+    mixing_ends s'.args.bands.now s'.args.pair.now s'.args.words.now s'.args.count s'.requires c.loop-k.pair c.loop-k.words
+    (subst (λ (j : ℕ). Mixing s'.args.bands.now s'.args.pair.now s'.args.words.now s'.args.count c.loop-k.pair c.loop-k.words j) (all c) c.loop-k.invariant)
   where
     s' : Start
     s' = c.before.before.before.before

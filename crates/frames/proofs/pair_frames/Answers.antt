@@ -40,22 +40,22 @@ module _ (c : In-loop-done) where
   room = s.args.output.now
 
   abbrev done : ℕ
-  done = c.before.loop-done.done
+  done = c.loop-done.done
 
   abbrev m : List Float
-  m = c.before.loop-done.pair
+  m = c.loop-done.pair
 
   abbrev out : List ℕ
-  out = c.before.loop-done.output
+  out = c.loop-done.output
 
   abbrev words : List Float
-  words = c.before.loop-done.words
+  words = c.loop-done.words
 
   abbrev level : FloatLevel
-  level = c.before.loop-done.level
+  level = c.loop-done.level
 
   inv : Passing bands l s.args.volume s.args.size s.args.at s.args.count input room m out words level done
-  inv = c.before.loop-done.invariant
+  inv = c.loop-done.invariant
 
   below : done < s.args.count
   below = c.loop-done-test.true
@@ -109,10 +109,10 @@ module _ (c : After-read_words) where
   p = c.before.before
 
   abbrev w : List Float
-  w = c.read_words.new.0
+  w = c.read_words.new.words
 
 pub slice_bounds-mix_words-end : goal.slice_bounds-mix_words-end
-slice_bounds-mix_words-end c = sym c.before.before.before.read_words.ensures.words_size
+slice_bounds-mix_words-end c = sym c.read_words.ensures.words_size
 
 pub mix_words-requires : goal.mix_words-requires
 mix_words-requires c = mix_asks (bands j) (l j) (s j).args.volume (s j).args.size (s j).args.at (s j).args.count (input j) (room j) (s j).requires (m j) (out j) (words j) (level j) (done j) (inv j) (n (p r)) (left (p r)) (few (p r)) (w r) r.read_words.ensures
@@ -128,13 +128,13 @@ module _ (c : After-mix_words) where
   r = c.before.before.before.before
 
   abbrev after : List Float
-  after = c.mix_words.new.1.0
+  after = c.mix_words.new.pair
 
   abbrev totals : List Float
-  totals = c.mix_words.new.1.1.0
+  totals = c.mix_words.new.words
 
 pub slice_bounds-put_sounds-end : goal.slice_bounds-put_sounds-end
-slice_bounds-put_sounds-end c = sym c.before.before.before.before.mix_words.ensures.words_size
+slice_bounds-put_sounds-end c = sym c.mix_words.ensures.words_size
 
 pub put_sounds-level-requires : goal.put_sounds-level-requires
 put_sounds-level-requires c = put_asks (bands j) (l j) (s j).args.volume (s j).args.size (s j).args.at (s j).args.count (input j) (room j) (s j).requires (m j) (out j) (words j) (level j) (done j) (inv j) (n (p (r q))) (left (p (r q))) (few (p (r q))) (w (r q)) (r q).read_words.ensures (after q) (totals q) q.mix_words.ensures
@@ -153,8 +153,8 @@ loop-done-smaller c = omega (arith, left c.before.before.before.before.before.be
 
 pub loop-done-preserved : goal.loop-done-preserved
 loop-done-preserved c =
-    subst (λ (k : ℕ). Passing (bands j) (l j) (s j).args.volume (s j).args.size (s j).args.at (s j).args.count (input j) (room j) (after q) c.before.before.put_sounds-level.new.1.1.0 (totals q) c.before.before.put_sounds-level.result k) (add_comm (n (p (r q))) (done j))
-    (passing_next (bands j) (l j) (s j).args.volume (s j).args.size (s j).args.at (s j).args.count (input j) (room j) (s j).requires (m j) (out j) (words j) (level j) (done j) (inv j) (n (p (r q))) (left (p (r q))) (few (p (r q))) (w (r q)) (r q).read_words.ensures (after q) (totals q) q.mix_words.ensures c.before.before.put_sounds-level.result c.before.before.put_sounds-level.new.1.1.0 c.before.before.put_sounds-level.ensures)
+    subst (λ (k : ℕ). Passing (bands j) (l j) (s j).args.volume (s j).args.size (s j).args.at (s j).args.count (input j) (room j) (after q) c.put_sounds-level.new.output (totals q) c.put_sounds-level.result k) (add_comm (n (p (r q))) (done j))
+    (passing_next (bands j) (l j) (s j).args.volume (s j).args.size (s j).args.at (s j).args.count (input j) (room j) (s j).requires (m j) (out j) (words j) (level j) (done j) (inv j) (n (p (r q))) (left (p (r q))) (few (p (r q))) (w (r q)) (r q).read_words.ensures (after q) (totals q) q.mix_words.ensures c.put_sounds-level.result c.put_sounds-level.new.output c.put_sounds-level.ensures)
   where
     q : After-mix_words
     q = c.before.before.before.before.before.before.before.before
@@ -168,10 +168,10 @@ module _ (c : After-loop-done) where
   abbrev e : Start
   e = c.before.before.before.before.before
 
-  last : Passing e.args.bands.now e.args.pair.now e.args.volume e.args.size e.args.at e.args.count e.args.input.now e.args.output.now c.before.loop-done.pair c.before.loop-done.output c.before.loop-done.words c.before.loop-done.level e.args.count
+  last : Passing e.args.bands.now e.args.pair.now e.args.volume e.args.size e.args.at e.args.count e.args.input.now e.args.output.now c.loop-done.pair c.loop-done.output c.loop-done.words c.loop-done.level e.args.count
   last =
-      subst (λ (k : ℕ). Passing e.args.bands.now e.args.pair.now e.args.volume e.args.size e.args.at e.args.count e.args.input.now e.args.output.now c.before.loop-done.pair c.before.loop-done.output c.before.loop-done.words c.before.loop-done.level k)
-      (omega (arith, c.before.loop-done.invariant.most, c.loop-done-test.false)) c.before.loop-done.invariant
+      subst (λ (k : ℕ). Passing e.args.bands.now e.args.pair.now e.args.volume e.args.size e.args.at e.args.count e.args.input.now e.args.output.now c.loop-done.pair c.loop-done.output c.loop-done.words c.loop-done.level k)
+      (omega (arith, c.loop-done.invariant.most, c.loop-done-test.false)) c.loop-done.invariant
 
 pub shape_of-pair : goal.shape_of-pair
 shape_of-pair c = (last c).size_is ∙ sym (e c).requires.pair_fit.size
@@ -181,4 +181,4 @@ shape_of-output c = ap length (last c).bytes ∙ stored_length _ _ _ _ _ _
 
 pub returns : goal.returns
 returns c =
-    passing_ends (e c).args.bands.now (e c).args.pair.now (e c).args.volume (e c).args.size (e c).args.at (e c).args.count (e c).args.input.now (e c).args.output.now (e c).requires c.before.loop-done.pair c.before.loop-done.output c.before.loop-done.words c.before.loop-done.level (last c)
+    passing_ends (e c).args.bands.now (e c).args.pair.now (e c).args.volume (e c).args.size (e c).args.at (e c).args.count (e c).args.input.now (e c).args.output.now (e c).requires c.loop-done.pair c.loop-done.output c.loop-done.words c.loop-done.level (last c)

@@ -37,7 +37,7 @@ use Rattle.frames.proofs.put_sounds.Goals as goal
 
 pub loop-k-init : goal.loop-k-init
 unfolding volume_played columns_stored
-loop-k-init c = record { most = omega arith; level_is = c.before.before.requires.volume_fit.whole; bytes = refl }
+loop-k-init c = record { most = omega arith; level_is = c.requires.volume_fit.whole; bytes = refl }
 
 module _ (c : In-loop-k) where
   abbrev s : Start
@@ -56,13 +56,13 @@ module _ (c : In-loop-k) where
   at = s.args.at
 
   abbrev k : ℕ
-  k = c.before.loop-k.k
+  k = c.loop-k.k
 
   abbrev out : List ℕ
-  out = c.before.loop-k.output
+  out = c.loop-k.output
 
-  inv : Sounding totals s.args.volume s.args.output.now size at s.args.count out c.before.loop-k.level k
-  inv = c.before.loop-k.invariant
+  inv : Sounding totals s.args.volume s.args.output.now size at s.args.count out c.loop-k.level k
+  inv = c.loop-k.invariant
 
   below : k < s.args.count
   below = c.loop-k-test.true
@@ -116,12 +116,12 @@ pub overflow_add-size : goal.overflow_add-size
 overflow_add-size c = omega (arith, here c.before.before.before)
 
 -- what the output asks, of one side's total
-output-asks : (c : After-sides_at-total) (t : Float) → Carries t total_size → (u : Float) → u ≡ t → OutputAsks c.before.moved-level.result.present u
+output-asks : (c : After-sides_at-total) (t : Float) → Carries t total_size → (u : Float) → u ≡ t → OutputAsks c.moved-level.result.present u
 output-asks c t h u e = record { volume_carries = present-carries c.before; total_carries = subst (λ (x : Float). Carries x total_size) (sym e) h }
 
 pub output-requires : goal.output-requires
 output-requires c =
-    output-asks c.before (float_at (totals i) (2 * k i)) ((s i).requires.first_totals (k i) (below i)) c.before.sides_at-total.result.first (ap (λ (x : Sides). x.first) c.before.sides_at-total.ensures)
+    output-asks c.before (float_at (totals i) (2 * k i)) ((s i).requires.first_totals (k i) (below i)) c.sides_at-total.result.first (ap (λ (x : Sides). x.first) c.sides_at-total.ensures)
   where
     i : In-loop-k
     i = c.before.before.before
@@ -147,7 +147,7 @@ module _ (c : After-output) where
   first-is =
       to_z-of_z (record { sfits = c.output.type_inv })
       ∙ c.output.ensures
-      ∙ (λ i. output (present-whole m1 i) (nearest (whole_of (c.before.before.sides_at-total.ensures i).first) 23))
+      ∙ (λ i. output (present-whole m1 i) (nearest (whole_of (c.sides_at-total.ensures i).first) 23))
 
 pub put_sample-requires : goal.put_sample-requires
 put_sample-requires c = (
@@ -162,10 +162,10 @@ module _ (c : After-put_sample) where
   abbrev o1 : After-output
   o1 = c.before
 
-  half_is : c.put_sample.new.0 ≡ put_sample (out (i1 o1)) (size (i1 o1) * k (i1 o1) + at (i1 o1)) (total_heard (s (i1 o1)).args.volume (first_words (totals (i1 o1))) (k (i1 o1)))
+  half_is : c.put_sample.new.output ≡ put_sample (out (i1 o1)) (size (i1 o1) * k (i1 o1) + at (i1 o1)) (total_heard (s (i1 o1)).args.volume (first_words (totals (i1 o1))) (k (i1 o1)))
   half_is = c.put_sample.ensures ∙ ap (put_sample (out (i1 o1)) (size (i1 o1) * k (i1 o1) + at (i1 o1))) (first-is o1)
 
-  half_length : length c.put_sample.new.0 ≡ length (s (i1 o1)).args.output.now
+  half_length : length c.put_sample.new.output ≡ length (s (i1 o1)).args.output.now
   half_length = ap length half_is ∙ sample_length (out (i1 o1)) (size (i1 o1) * k (i1 o1) + at (i1 o1)) _ ∙ out-length (i1 o1)
 
 pub overflow_mul-size-in-loop-k : goal.overflow_mul-size-in-loop-k
@@ -176,7 +176,7 @@ overflow_add-size-in-loop-k c = omega (arith, here c.before.before.before.before
 
 pub output-requires-in-loop-k : goal.output-requires-in-loop-k
 output-requires-in-loop-k c =
-    output-asks c.before.before.before.before.before.before (float_at (totals i) (2 * k i + 1)) ((s i).requires.second_totals (k i) (below i)) c.before.before.before.before.before.before.sides_at-total.result.second (ap (λ (x : Sides). x.second) c.before.before.before.before.before.before.sides_at-total.ensures)
+    output-asks c.before.before.before.before.before.before (float_at (totals i) (2 * k i + 1)) ((s i).requires.second_totals (k i) (below i)) c.sides_at-total.result.second (ap (λ (x : Sides). x.second) c.sides_at-total.ensures)
   where
     i : In-loop-k
     i = c.before.before.before.before.before.before.before.before
@@ -189,7 +189,7 @@ module _ (c : After-output-in-loop-k) where
   second_is =
       to_z-of_z (record { sfits = c.output-in-loop-k.type_inv })
       ∙ c.output-in-loop-k.ensures
-      ∙ (λ i. output (present-whole c.before.before.before.before.before.before.before.before i) (nearest (whole_of (c.before.before.before.before.before.before.before.sides_at-total.ensures i).second) 23))
+      ∙ (λ i. output (present-whole c.before.before.before.before.before.before.before.before i) (nearest (whole_of (c.sides_at-total.ensures i).second) 23))
 
 pub put_sample-requires-in-loop-k : goal.put_sample-requires-in-loop-k
 put_sample-requires-in-loop-k c = (
@@ -207,12 +207,12 @@ loop-k-smaller c = omega (arith, below c.before.before.before.before.before.befo
 pub loop-k-preserved : goal.loop-k-preserved
 unfolding columns_stored
 loop-k-preserved c =
-    subst (λ (j : ℕ). Sounding (totals i) (s i).args.volume (s i).args.output.now (size i) (at i) (s i).args.count c.before.before.put_sample-in-loop-k.new.0 c.before.before.before.before.before.before.before.before.before.before.before.moved-level.result j) (sym (add-one (k i)))
+    subst (λ (j : ℕ). Sounding (totals i) (s i).args.volume (s i).args.output.now (size i) (at i) (s i).args.count c.put_sample-in-loop-k.new.output c.moved-level.result j) (sym (add-one (k i)))
     (record {
       most = below i;
       level_is = level-next c.before.before.before.before.before.before.before.before.before.before.before;
       bytes =
-          c.before.before.put_sample-in-loop-k.ensures
+          c.put_sample-in-loop-k.ensures
           ∙ ap₂ (λ (l : List ℕ) (z : ℤ). put_sample l (size i * k i + (at i + 2)) z)
           (half_is c.before.before.before.before.before.before.before ∙ ap (λ (l : List ℕ). put_sample l (size i * k i + at i) (total_heard (s i).args.volume (first_words (totals i)) (k i))) (inv i).bytes)
           (second_is c.before.before.before);
@@ -221,17 +221,17 @@ loop-k-preserved c =
     i : In-loop-k
     i = c.before.before.before.before.before.before.before.before.before.before.before.before
 
-all : (c : After-loop-k) → c.before.loop-k.k ≡ c.before.before.before.before.args.count
-all c = omega (arith, c.before.loop-k.invariant.most, c.loop-k-test.false)
+all : (c : After-loop-k) → c.loop-k.k ≡ c.args.count
+all c = omega (arith, c.loop-k.invariant.most, c.loop-k-test.false)
 
 pub shape_of-output : goal.shape_of-output
-shape_of-output c = ap length c.before.loop-k.invariant.bytes ∙ stored_length _ _ _ _ _ _
+shape_of-output c = ap length c.loop-k.invariant.bytes ∙ stored_length _ _ _ _ _ _
 
 pub returns : goal.returns
 returns c =
     record {
-      volume_is = c.before.loop-k.invariant.level_is ∙ ap (λ (j : ℕ). float_level (volume_played (level_in z.args.volume) j)) (all c);
-      bytes = c.before.loop-k.invariant.bytes ∙ ap (columns_stored z.args.size z.args.at (total_heard z.args.volume (first_words z.args.totals.now)) (total_heard z.args.volume (second_words z.args.totals.now)) z.args.output.now) (all c);
+      volume_is = c.loop-k.invariant.level_is ∙ ap (λ (j : ℕ). float_level (volume_played (level_in z.args.volume) j)) (all c);
+      bytes = c.loop-k.invariant.bytes ∙ ap (columns_stored z.args.size z.args.at (total_heard z.args.volume (first_words z.args.totals.now)) (total_heard z.args.volume (second_words z.args.totals.now)) z.args.output.now) (all c);
     }
   where
     z : Start

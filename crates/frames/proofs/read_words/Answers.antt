@@ -22,20 +22,20 @@ use Rattle.frames.proofs.read_words.Goals as goal
 -- after k frames
 
 pub loop-k-init : goal.loop-k-init
-loop-k-init c = record { most = omega arith; words_size = c.before.before.requires.words_size; done = λ j h. absurd (omega arith) }
+loop-k-init c = record { most = omega arith; words_size = c.requires.words_size; done = λ j h. absurd (omega arith) }
 
 module _ (c : In-loop-k) where
   abbrev s : Start
   s = c.before.before.before.before
 
   abbrev k : ℕ
-  k = c.before.loop-k.k
+  k = c.loop-k.k
 
   abbrev words : List Float
-  words = c.before.loop-k.words
+  words = c.loop-k.words
 
   inv : Reading s.args.input.now s.args.size s.args.at s.args.count words k
-  inv = c.before.loop-k.invariant
+  inv = c.loop-k.invariant
 
   below : k < s.args.count
   below = c.loop-k-test.true
@@ -86,8 +86,8 @@ loop-k-smaller c = omega (arith, below c.before.before.before.before.before.befo
 
 pub loop-k-preserved : goal.loop-k-preserved
 loop-k-preserved c =
-    subst (λ (j : ℕ). Reading (s n).args.input.now (s n).args.size (s n).args.at (s n).args.count c.before.before.put_sides.new.0 j) (sym (add-one (k n)))
-    (subst (λ (w : List Float). Reading (s n).args.input.now (s n).args.size (s n).args.at (s n).args.count w (suc (k n))) (sym c.before.before.put_sides.ensures)
+    subst (λ (j : ℕ). Reading (s n).args.input.now (s n).args.size (s n).args.at (s n).args.count c.put_sides.new.floats j) (sym (add-one (k n)))
+    (subst (λ (w : List Float). Reading (s n).args.input.now (s n).args.size (s n).args.at (s n).args.count w (suc (k n))) (sym c.put_sides.ensures)
     (record {
       most = below n;
       words_size = sides-length (words n) (2 * k n) x ∙ (inv n).words_size;
@@ -98,20 +98,20 @@ loop-k-preserved c =
     n = c.before.before.before.before.before.before
 
     x : Sides
-    x = record { first = c.before.before.before.before.before.word.result; second = c.before.before.before.before.word-in-loop-k.result }
+    x = record { first = c.word.result; second = c.word-in-loop-k.result }
 
     x-is : x ≡ words_of (s n).args.input.now (s n).args.size (s n).args.at (k n)
-    x-is = λ i. record { first = c.before.before.before.before.before.word.ensures i; second = c.before.before.before.before.word-in-loop-k.ensures i }
+    x-is = λ i. record { first = c.word.ensures i; second = c.word-in-loop-k.ensures i }
 
-all : (c : After-loop-k) → c.before.loop-k.k ≡ c.before.before.before.before.args.count
-all c = omega (arith, c.before.loop-k.invariant.most, c.loop-k-test.false)
+all : (c : After-loop-k) → c.loop-k.k ≡ c.args.count
+all c = omega (arith, c.loop-k.invariant.most, c.loop-k-test.false)
 
 pub shape_of-words : goal.shape_of-words
-shape_of-words c = c.before.loop-k.invariant.words_size ∙ sym c.before.before.before.before.requires.words_size
+shape_of-words c = c.loop-k.invariant.words_size ∙ sym c.requires.words_size
 
 pub returns : goal.returns
 returns c =
     record {
-      words_size = c.before.loop-k.invariant.words_size;
-      words_are = λ j h. c.before.loop-k.invariant.done j (omega (arith, h, all c));
+      words_size = c.loop-k.invariant.words_size;
+      words_are = λ j h. c.loop-k.invariant.done j (omega (arith, h, all c));
     }

@@ -18,18 +18,18 @@ use Rattle.frames.proofs.sample.Goals as goal
 
 module _ (c : After-shared_slice_known-2-1) where
   abbrev low : ℕ
-  low = get_or c.before.before.args.input.now c.before.before.args.at 0
+  low = get_or c.args.input.now c.args.at 0
 
   abbrev high : ℕ
-  high = get_or c.before.before.args.input.now (c.before.before.args.at + 1) 0
+  high = get_or c.args.input.now (c.args.at + 1) 0
 
   abbrev bits : ℕ
   bits = low + 256 * high
 
   few : bits < 65536
-  few = omega (arith, c.shared_slice_known-2-1.given c.before.before.args.at, c.shared_slice_known-2-1.given (c.before.before.args.at + 1))
+  few = omega (arith, c.shared_slice_known-2-1.given c.args.at, c.shared_slice_known-2-1.given (c.args.at + 1))
 
-  sample-is : sample_at c.before.before.args.input.now c.before.before.args.at ≡ sample_of bits
+  sample-is : sample_at c.args.input.now c.args.at ≡ sample_of bits
   unfolding sample_at
   sample-is = ap sample_of (mod-eq_of_lt few)
 
@@ -43,7 +43,7 @@ module _ (c : After-shared_slice_known-2-1) where
       (omega (linear, (var (pos bits) ⊖ var (pos 65536)).tie, few))
 
 pub overflow_cast-bits : goal.overflow_cast-bits
-overflow_cast-bits c = omega (arith, c.shared_slice_known-1.given c.before.args.at)
+overflow_cast-bits c = omega (arith, c.shared_slice_known-1.given c.args.at)
 
 pub overflow_cast-bits-2 : goal.overflow_cast-bits-2
 overflow_cast-bits-2 c = omega (arith, few c)

@@ -20,7 +20,7 @@ use Rattle.frames.proofs.word.Goals as goal
 
 module _ (c : After-sample) where
   abbrev x : ℤ
-  x = word_at c.before.before.args.input.now c.before.before.args.at
+  x = word_at c.args.input.now c.args.at
 
   abbrev Sample : Num w64
   Sample = num c.sample.result (record { sfits = c.sample.type_inv })
@@ -29,7 +29,7 @@ module _ (c : After-sample) where
   product_is = ap word_of c.sample.ensures
 
   x-size : nat_abs x ≤ word_size
-  x-size = input_size x (word_input c.before.before.args.input.now c.before.before.args.at)
+  x-size = input_size x (word_input c.args.input.now c.args.at)
 
   x_fits : SFits w64 (pos 256 *ℤ c.sample.result)
   x_fits = below-fits {z = pos 256 *ℤ c.sample.result} (subst (λ (z : ℤ). nat_abs z ≤ word_size) (sym product_is) x-size) tt

@@ -14,8 +14,8 @@ returns c =
       y = reads_back w32 answer.y (omega arith) i;
       remainder = reads_back w32 answer.remainder (omega arith) i;
       limited = flag_byte answer.limited i;
-      refusal = c.before.number.ensures i;
+      refusal = c.number.ensures i;
     }
   where
     answer : Stepped
-    answer = c.before.before.before.args.answer
+    answer = c.args.answer

@@ -13,5 +13,5 @@ returns c =
       output_is = g.output_is;
     }
   where
-    g : PlayGives c.before.before.before.before.before.before.before.before.args.numbers.now c.before.before.before.before.before.before.before.before.args.input.now c.before.before.before.before.before.before.before.before.args.output.now c.before.before.before.play-verdict.result c.before.before.before.play-verdict.new.0 c.before.before.before.play-verdict.new.1.1.0
-    g = c.before.before.before.play-verdict.ensures
+    g : PlayGives c.args.numbers.now c.args.input.now c.args.output.now c.play-verdict.result c.play-verdict.new.numbers c.play-verdict.new.output
+    g = c.play-verdict.ensures

@@ -10,10 +10,10 @@ use Rattle.lending.proofs.load.Goals as goal
 
 pub numbers_of-requires : goal.numbers_of-requires
 numbers_of-requires c =
-    subst (λ (l : Loaded). Fit l.unit) (sym c.before.load-answer.ensures) (loaded_fit c.before.before.args.set.now)
+    subst (λ (l : Loaded). Fit l.unit) (sym c.load-answer.ensures) (loaded_fit c.args.set.now)
 
 pub returns : goal.returns
 returns c = (
-  c.number.ensures ∙ ap (λ (l : Loaded). number_of l.verdict) c.before.before.before.load-answer.ensures,
-  c.before.Numbers-of.ensures ∙ ap (λ (l : Loaded). numbers_of l.unit) c.before.before.before.load-answer.ensures,
+  c.number.ensures ∙ ap (λ (l : Loaded). number_of l.verdict) c.load-answer.ensures,
+  c.Numbers-of.ensures ∙ ap (λ (l : Loaded). numbers_of l.unit) c.load-answer.ensures,
 )

@@ -6,4 +6,4 @@ use Rattle.lending.proofs.order.Goals as goal
 
 pub returns : goal.returns
 returns c =
-    record { number_is = c.number.ensures ∙ ap number_of c.before.order-verdict.ensures.0; numbers_are = c.before.order-verdict.ensures.1 }
+    record { number_is = c.number.ensures ∙ ap number_of c.order-verdict.ensures.0; numbers_are = c.order-verdict.ensures.1 }

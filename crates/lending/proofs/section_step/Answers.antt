@@ -68,7 +68,7 @@ answer-is c =
 
 module _ (c : After-struct_told-1) where
   abbrev after : Section
-  after = c.before.before.step-answer.result.section
+  after = c.step-answer.result.section
 
   numbers-stored : ◌≡◌ {A = List ℤ} (to_z w32 (of_z w32 after.band.alpha) ∷ to_z w32 (of_z w32 after.band.beta) ∷ to_z w32 (of_z w32 after.band.gamma) ∷ to_z w32 (of_z w32 after.x1) ∷ to_z w32 (of_z w32 after.x2) ∷ to_z w32 (of_z w32 after.y1) ∷ to_z w32 (of_z w32 after.y2) ∷ []) (lone_numbers after)
   numbers-stored =
@@ -90,5 +90,5 @@ returns c = (
   numbers-stored c.before.before ∙ ap (λ (r : Stepped). lone_numbers r.section) answer,
 )
   where
-    answer : c.before.before.before.before.step-answer.result ≡ stepped (lone_section (l c.before.before.before.before.before)) (start c.before.before.before.before.before).args.x
+    answer : c.step-answer.result ≡ stepped (lone_section (l c.before.before.before.before.before)) (start c.before.before.before.before.before).args.x
     answer = answer-is c.before.before.before.before

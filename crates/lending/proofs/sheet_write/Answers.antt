@@ -22,17 +22,17 @@ returns-then-buffer-lt-SHEET_SIZE c =
 pub returns-then-not-is_fit : goal.returns-then-not-is_fit
 returns-then-not-is_fit c =
     let s = c.before.before.before.before in
-    sheet_written (unfit_filled side_letters (unit_of s.args.numbers.now) s.args.buffer.now (omega arith) c.before.is_fit.ensures (c.if-not-is_fit.true))
+    sheet_written (unfit_filled side_letters (unit_of s.args.numbers.now) s.args.buffer.now (omega arith) c.is_fit.ensures (c.if-not-is_fit.true))
 
 pub put_sheet-requires : goal.put_sheet-requires
 put_sheet-requires c =
-    let l = c.before.before.before.before.before.before.args.numbers.now in
-    (omega arith, subst Fit (sym c.unit_of.ensures) (fit_of_test (unit_of l) (sym c.before.before.before.is_fit.ensures ∙ c.before.before.if-not-is_fit.false)))
+    let l = c.args.numbers.now in
+    (omega arith, subst Fit (sym c.unit_of.ensures) (fit_of_test (unit_of l) (sym c.is_fit.ensures ∙ c.if-not-is_fit.false)))
 
 pub returns : goal.returns
 returns c =
     let s = c.before.before.before.before.before.before.before.before.before in
     let l = s.args.numbers.now in
     sheet_written
-    (sheet_filled side_letters (unit_of l) s.args.buffer.now (omega arith) c.before.before.before.before.before.before.is_fit.ensures (c.before.before.before.before.before.if-not-is_fit.false) (unit_shaped l)
-    (c.before.before.put_sheet.ensures ∙ ap (λ (u : Unit). sets s.args.buffer.now 0 (sheet_of side_letters u)) c.before.before.before.unit_of.ensures))
+    (sheet_filled side_letters (unit_of l) s.args.buffer.now (omega arith) c.is_fit.ensures (c.if-not-is_fit.false) (unit_shaped l)
+    (c.put_sheet.ensures ∙ ap (λ (u : Unit). sets s.args.buffer.now 0 (sheet_of side_letters u)) c.unit_of.ensures))

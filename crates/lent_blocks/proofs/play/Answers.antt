@@ -37,15 +37,15 @@ module _ (c : After-accepted) where
   abbrev verdict : Verdict
   verdict = block_verdict channel_count u (length input) (length room)
 
-  verdict-is : c.before.check_block-verdict.result ≡ (block_played channel_count u input (length room)).verdict
+  verdict-is : c.check_block-verdict.result ≡ (block_played channel_count u input (length room)).verdict
   unfolding block_played
-  verdict-is = c.before.check_block-verdict.ensures
+  verdict-is = c.check_block-verdict.ensures
 
   accepted-is : is_accepted verdict ≡ c.accepted.result
-  accepted-is = sym (c.accepted.ensures ∙ ap is_accepted c.before.check_block-verdict.ensures)
+  accepted-is = sym (c.accepted.ensures ∙ ap is_accepted c.check_block-verdict.ensures)
 
 pub run-requires : goal.run-requires
-run-requires c = record { size = search rules; accepted = accepted-is c.before.before.before.before.before ∙ c.before.before.before.before.if-accepted.true }
+run-requires c = record { size = search rules; accepted = accepted-is c.before.before.before.before.before ∙ c.if-accepted.true }
 
 pub returns-then-accepted : goal.returns-then-accepted
 unfolding block_played
@@ -66,7 +66,7 @@ returns-then-accepted c =
     a = c.before.before.before.before.before.before.before.before
 
     yes : is_accepted (verdict a) ≡ true
-    yes = accepted-is a ∙ c.before.before.before.before.before.before.before.if-accepted.true
+    yes = accepted-is a ∙ c.if-accepted.true
 
 pub returns-else-accepted : goal.returns-else-accepted
 unfolding block_played

@@ -39,10 +39,10 @@ module _ (c : After-pair_floats_at-pair) where
   s = c.before.before.before.before.before.before.before.before
 
   abbrev level : FloatLevel
-  level = c.before.before.before.before.volume_floats_at-volume.result
+  level = c.volume_floats_at-volume.result
 
   abbrev bands : List Float
-  bands = c.before.before.band_floats_at-bands.result
+  bands = c.band_floats_at-bands.result
 
   abbrev pair : List Float
   pair = c.pair_floats_at-pair.result
@@ -53,8 +53,8 @@ module _ (c : After-pair_floats_at-pair) where
         first = channel_of (drop left_place (l s));
         second = channel_of (drop right_place (l s));
         channels = channels-are (l s);
-        level_is = c.before.before.before.before.volume_floats_at-volume.ensures;
-        bands_are = c.before.before.band_floats_at-bands.ensures;
+        level_is = c.volume_floats_at-volume.ensures;
+        bands_are = c.band_floats_at-bands.ensures;
         pair_is = c.pair_floats_at-pair.ensures;
       }
 
@@ -66,10 +66,10 @@ module _ (c : After-frames-level) where
   p = c.before.before.before.before
 
   abbrev after : List Float
-  after = c.frames-level.new.1.0
+  after = c.frames-level.new.sides
 
   abbrev filled : List ℕ
-  filled = c.frames-level.new.1.1.1.1.1.1.0
+  filled = c.frames-level.new.output
 
   fit : Fit (unit_in c.frames-level.result (bands p) 1 after)
   fit = fit_after (unit_of (l (s (p)))) (input (s (p))) (room (s (p))) (accepts (s (p))) (level (p)) (bands (p)) (pair (p)) (packed (p)) c.frames-level.result after filled c.frames-level.ensures

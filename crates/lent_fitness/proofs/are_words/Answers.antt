@@ -24,7 +24,7 @@ tested-size numbers start h = length-take-le (section_size * band_count) (drop s
 pub loop-i-preserved : goal.loop-i-preserved
 loop-i-preserved c =
     let at = c.before.before.before in
-    let args = at.before.args in
+    let args = at.args in
     let l = args.numbers.now in
     let start = args.start in
     let size = tested-size l start (omega arith) in
@@ -34,9 +34,9 @@ loop-i-preserved c =
 
 pub returns : goal.returns
 returns c =
-    let args = c.before.before.args in
+    let args = c.args in
     let size = tested-size args.numbers.now args.start (omega arith) in
-    found_done c.before.loop-i.invariant (omega arith)
+    found_done c.loop-i.invariant (omega arith)
 
 pub loop-i-init : goal.loop-i-init
 loop-i-init c =

@@ -19,11 +19,11 @@ module _ (c : After-accepted) where
   abbrev at : At-loop-b
   at = c.before.before.before.before
 
-  tested : c.accepted.result ≡ band_fits (get_or (bands_of at.before.args.set.now) at.loop-b.b zero_band)
+  tested : c.accepted.result ≡ band_fits (get_or (bands_of at.args.set.now) at.loop-b.b zero_band)
   tested =
       c.accepted.ensures
-      ∙ ap is_accepted (c.before.check_band-verdict.ensures ∙ ap band_verdict c.before.before.band_at.ensures)
-      ∙ ap band_fits (sym (tabulate-at band_count (band_at at.before.args.set.now) zero_band at.loop-b.b (omega arith)))
+      ∙ ap is_accepted (c.check_band-verdict.ensures ∙ ap band_verdict c.band_at.ensures)
+      ∙ ap band_fits (sym (tabulate-at band_count (band_at at.args.set.now) zero_band at.loop-b.b (omega arith)))
 
 pub returns-then-not-accepted : goal.returns-then-not-accepted
 returns-then-not-accepted c = every_fails (at c.before).loop-b.invariant zero_band (omega arith) (tested c.before) c.if-not-accepted.true-raw
@@ -32,7 +32,7 @@ pub loop-b-preserved : goal.loop-b-preserved
 loop-b-preserved c = every-passes (at c.before).loop-b.invariant zero_band (omega arith) (tested c.before) c.if-not-accepted.false-raw
 
 pub returns : goal.returns
-returns c = every_done c.before.loop-b.invariant (omega arith)
+returns c = every_done c.loop-b.invariant (omega arith)
 
 pub loop-b-init : goal.loop-b-init
 loop-b-init c =

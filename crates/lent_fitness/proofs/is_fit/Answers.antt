@@ -19,7 +19,7 @@ use Rattle.lent_fitness.proofs.is_fit.Goals as goal
 -- the bands tested are those of the unit
 module _ (c : After-bands_fit) where
   abbrev l : List ℤ
-  l = c.before.before.before.before.before.args.numbers.now
+  l = c.args.numbers.now
 
   bands-test : c.bands_fit.result ≡ every band_fits (bands_of (drop bands_place l))
   bands-test =
@@ -28,21 +28,21 @@ module _ (c : After-bands_fit) where
 
 pub returns-then-not-volume_fits : goal.returns-then-not-volume_fits
 unfolding unit_fits
-returns-then-not-volume_fits c = and_fails c.before.volume_fits.ensures _ c.if-not-volume_fits.true-raw
+returns-then-not-volume_fits c = and_fails c.volume_fits.ensures _ c.if-not-volume_fits.true-raw
 
 pub returns-then-not-bands_fit : goal.returns-then-not-bands_fit
 unfolding unit_fits unit_of
 returns-then-not-bands_fit c =
     let v = c.before.before.before in
-    and_passes v.before.volume_fits.ensures v.if-not-volume_fits.false-raw (and_fails (bands-test c.before) _ c.if-not-bands_fit.true-raw)
+    and_passes v.volume_fits.ensures v.if-not-volume_fits.false-raw (and_fails (bands-test c.before) _ c.if-not-bands_fit.true-raw)
 
 pub returns-then-not-channel_fits : goal.returns-then-not-channel_fits
 unfolding unit_fits unit_of
 returns-then-not-channel_fits c =
     let b = c.before.before in
     let v = b.before.before.before in
-    and_passes v.before.volume_fits.ensures v.if-not-volume_fits.false-raw
-    (and_passes (bands-test b.before) b.if-not-bands_fit.false-raw (and_fails c.before.channel_fits.ensures _ c.if-not-channel_fits.true-raw))
+    and_passes v.volume_fits.ensures v.if-not-volume_fits.false-raw
+    (and_passes (bands-test b.before) b.if-not-bands_fit.false-raw (and_fails c.channel_fits.ensures _ c.if-not-channel_fits.true-raw))
 
 pub returns : goal.returns
 unfolding unit_fits unit_of
@@ -50,6 +50,6 @@ returns c =
     let s = c.before in
     let b = s.before.before in
     let v = b.before.before.before in
-    and_passes v.before.volume_fits.ensures v.if-not-volume_fits.false-raw
+    and_passes v.volume_fits.ensures v.if-not-volume_fits.false-raw
     (and_passes (bands-test b.before) b.if-not-bands_fit.false-raw
-    (and_passes s.before.channel_fits.ensures s.if-not-channel_fits.false-raw (c.channel_fits-2.ensures ∙ sym (and-true _))))
+    (and_passes s.channel_fits.ensures s.if-not-channel_fits.false-raw (c.channel_fits-2.ensures ∙ sym (and-true _))))

@@ -23,7 +23,7 @@ use Rattle.lent_fitness.proofs.remainders_fit.Goals as goal
 pub loop-b-preserved : goal.loop-b-preserved
 loop-b-preserved c =
     let at = c.before.before.before in
-    let args = at.before.args in
+    let args = at.args in
     let l = args.numbers.now in
     let start = args.start in
     let b = at.loop-b.b in
@@ -38,7 +38,7 @@ pub returns : goal.returns
 returns c =
     let s = c.before.before in
     let sections = (channel_of (drop s.args.start s.args.numbers.now)).sections in
-    found_done c.before.loop-b.invariant (omega arith)
+    found_done c.loop-b.invariant (omega arith)
     ∙ (λ i. every (remainder_within (to_z-of_z {w = w32} s.ranges.least i) (to_z-of_z {w = w32} s.ranges.most i)) (drop s.args.first sections))
 
 pub loop-b-init : goal.loop-b-init

@@ -26,14 +26,14 @@ module _ (c : After-remainders_fit-plain) where
   abbrev l : List ℤ
   l = drop s.args.start s.args.numbers.now
 
-  words-test : c.before.before.are_words-words.result ≡ every is_word (take (section_size * band_count) (drop head_size l))
+  words-test : c.are_words-words.result ≡ every is_word (take (section_size * band_count) (drop head_size l))
   words-test =
-      c.before.before.are_words-words.ensures
+      c.are_words-words.ensures
       ∙ ap (λ (m : List ℤ). every is_word (take (section_size * band_count) m)) (sym (drop-drop head_size s.args.start s.args.numbers.now))
 
-  remainders-test : c.before.remainders_fit-remainders.result ≡ every remainder_fits (channel_of l).sections
+  remainders-test : c.remainders_fit-remainders.result ≡ every remainder_fits (channel_of l).sections
   unfolding is_remainder
-  remainders-test = c.before.remainders_fit-remainders.ensures
+  remainders-test = c.remainders_fit-remainders.ensures
 
   plain-test : c.remainders_fit-plain.result ≡ every is_plain (drop feedback_count (channel_of l).sections)
   unfolding is_plain

@@ -23,8 +23,8 @@ returns-then-band-eq-VOLUME_BAND c =
     ∙ numbers_volume s.args.side s.args.band s.args.target s.args.numbers.now s.requires.0 c.if-band-eq-VOLUME_BAND.true
 
 -- one of the ten bands is named
-below : (c : Else-band-eq-VOLUME_BAND) → c.before.args.band < band_count
-below c = place-below channel_count c.before.args.side c.before.args.band c.before.requires.1 c.if-band-eq-VOLUME_BAND.false
+below : (c : Else-band-eq-VOLUME_BAND) → c.args.band < band_count
+below c = place-below channel_count c.args.side c.args.band c.requires.1 c.if-band-eq-VOLUME_BAND.false
 
 -- what the first call leaves
 module _ (c : After-aim_named) where
@@ -34,11 +34,11 @@ module _ (c : After-aim_named) where
   abbrev l : List ℤ
   l = s.args.numbers.now
 
-  left_is : c.aim_named.new.0 ≡ named s.args.side s.args.band s.args.target 0 l
+  left_is : c.aim_named.new.numbers ≡ named s.args.side s.args.band s.args.target 0 l
   left_is = c.aim_named.ensures ∙ ap (λ (t : ℤ). named s.args.side s.args.band t 0 l) (to_z-of_z {w = w32} s.ranges.target)
 
 pub aim_named-requires : goal.aim_named-requires
-aim_named-requires c = (c.before.before.requires.0, omega arith, below c.before)
+aim_named-requires c = (c.requires.0, omega arith, below c.before)
 
 pub aim_named-requires-2 : goal.aim_named-requires-2
 aim_named-requires-2 c =
@@ -51,7 +51,7 @@ aim_named-requires-2 c =
 pub returns : goal.returns
 returns c =
     c.aim_named-2.ensures
-    ∙ ap (λ (t : ℤ). named side band t 1 f.aim_named.last.0) (to_z-of_z {w = w32} (s f).ranges.target)
+    ∙ ap (λ (t : ℤ). named side band t 1 f.aim_named.new.numbers) (to_z-of_z {w = w32} (s f).ranges.target)
     ∙ ap (named side band (s f).args.target 1) (left_is f)
     ∙ numbers_named side band (s f).args.target (l f) (s f).requires.0 (below f.before.before)
   where

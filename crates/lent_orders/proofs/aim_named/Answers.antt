@@ -24,12 +24,12 @@ names-is side channel h = ap (λ (own : ℕ). eqb side both_sides || eqb side ow
 
 pub returns-then-not-named : goal.returns-then-not-named
 returns-then-not-named c =
-    let args = c.before.args in
-    failed (names args.side args.channel) _ _ (names-is args.side args.channel c.before.requires.1 ∙ c.if-not-named.true)
+    let args = c.args in
+    failed (names args.side args.channel) _ _ (names-is args.side args.channel c.requires.1 ∙ c.if-not-named.true)
 
 pub returns : goal.returns
 returns c =
-    let args = c.before.args in
+    let args = c.args in
     let here : left_place + channel_size * args.channel + section_size * args.band + head_size + 3 ≡ target_place args.channel args.band = omega arith in
-    ap₂ (set args.numbers.now) here (to_z-of_z {w = w32} c.before.ranges.target)
-    ∙ passed (names args.side args.channel) _ _ (names-is args.side args.channel c.before.requires.1 ∙ c.if-not-named.false)
+    ap₂ (set args.numbers.now) here (to_z-of_z {w = w32} c.ranges.target)
+    ∙ passed (names args.side args.channel) _ _ (names-is args.side args.channel c.requires.1 ∙ c.if-not-named.false)

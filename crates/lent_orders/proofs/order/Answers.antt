@@ -46,10 +46,10 @@ module _ (c : After-accepted) where
   verdict = order_arguments channel_count (s f).args.side (s f).args.band (s f).args.setting
 
   fits : unit_fits (unit_of (l f)) ≡ true
-  fits = sym f.is_fit.ensures ∙ c.before.before.if-not-is_fit.false
+  fits = sym f.is_fit.ensures ∙ c.if-not-is_fit.false
 
   arguments-test : c.accepted.result ≡ is_accepted verdict
-  arguments-test = c.accepted.ensures ∙ ap is_accepted c.before.check_order-verdict.ensures
+  arguments-test = c.accepted.ensures ∙ ap is_accepted c.check_order-verdict.ensures
 
 arguments-right : (c : Else-not-accepted) → is_accepted (verdict c.before) ≡ true
 arguments-right c = sym (arguments-test c.before) ∙ c.if-not-accepted.false
@@ -67,14 +67,14 @@ module _ (c : After-target_of-target) where
 pub returns-then-not-is_fit : goal.returns-then-not-is_fit
 returns-then-not-is_fit c =
     tells c.before refl
-    (ordered_unfit channel_count (unit_of (l c.before)) _ _ _ (sym c.before.is_fit.ensures ∙ c.if-not-is_fit.true))
+    (ordered_unfit channel_count (unit_of (l c.before)) _ _ _ (sym c.is_fit.ensures ∙ c.if-not-is_fit.true))
     refl
 
 pub returns-then-not-accepted : goal.returns-then-not-accepted
 returns-then-not-accepted c =
     let g = f c.before in
     let refused = sym (arguments-test c.before) ∙ c.if-not-accepted.true in
-    tells g c.before.before.check_order-verdict.ensures
+    tells g c.check_order-verdict.ensures
     (ordered-refused channel_count (unit_of (l g)) _ _ _ (fits c.before) refused)
     (failed (is_accepted (verdict c.before)) (numbers_of (unit_of (l g))) (l g) refused)
 
@@ -91,7 +91,7 @@ aim-requires c =
 
 pub returns : goal.returns
 returns c =
-    tells (o g) g.before.before.before.check_order-verdict.ensures
+    tells (o g) g.check_order-verdict.ensures
     (ordered_accepted channel_count (unit_of (l (o g))) _ _ _ (fits g.before.before) (arguments-right g.before))
     (c.aim.ensures
     ∙ ap after (narrow_reads g.target_of-target.result (target-size g) ∙ g.target_of-target.ensures)

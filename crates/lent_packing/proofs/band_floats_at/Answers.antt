@@ -14,4 +14,4 @@ put_runs-requires c = record { whole = zeros_whole set_floats; room = lit≤ tt;
 
 pub returns : goal.returns
 returns c =
-    bands_given c.before.before.before.args.numbers.now c.before.put_runs.new.0 (replicate set_floats (of_bits binary64 0)) refl c.before.put_runs.ensures
+    bands_given c.args.numbers.now c.put_runs.new.floats (replicate set_floats (of_bits binary64 0)) refl c.put_runs.ensures

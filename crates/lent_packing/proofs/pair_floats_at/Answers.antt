@@ -14,5 +14,5 @@ put_runs-requires c = record { whole = zeros_whole pair_floats; room = lit≤ tt
 
 pub returns : goal.returns
 returns c =
-    channels_given c.before.before.before.before.before.before.args.numbers.now (replicate pair_floats (of_bits binary64 0)) c.before.before.before.before.put_runs.new.0 c.before.put_runs-2.new.0 refl
-    c.before.before.before.before.put_runs.ensures c.before.put_runs-2.ensures
+    channels_given c.args.numbers.now (replicate pair_floats (of_bits binary64 0)) c.put_runs.new.floats c.put_runs-2.new.floats refl
+    c.put_runs.ensures c.put_runs-2.ensures

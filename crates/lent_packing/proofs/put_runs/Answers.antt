@@ -21,13 +21,13 @@ use Rattle.lent_packing.proofs.put_runs.Goals as goal
 
 pub loop-k-init : goal.loop-k-init
 loop-k-init c =
-    (omega arith, put_begin c.before.args.at c.before.args.first c.before.args.second c.before.args.floats.now c.before.args.numbers.now c.before.requires.whole)
+    (omega arith, put_begin c.args.at c.args.first c.args.second c.args.floats.now c.args.numbers.now c.requires.whole)
 
 pub loop-k-preserved : goal.loop-k-preserved
 loop-k-preserved c = (
   omega arith,
   subst (λ (l : List Float). PutRunsGives s.args.at s.args.first s.args.second (k + 1) s.args.floats.now s.args.numbers.now l) (sym is)
-      (put_more s.args.at s.args.first s.args.second s.args.floats.now s.args.numbers.now k c.before.before.before.before.before.before.before.before.loop-k.floats (omega arith) c.before.before.before.before.before.before.before.before.loop-k.invariant.1
+      (put_more s.args.at s.args.first s.args.second s.args.floats.now s.args.numbers.now k c.loop-k.floats (omega arith) c.loop-k.invariant.1
       (le_trans (nat_abs-le y {H = 2 ^ 31} (omega arith)) (lit≤ tt))
       (le_trans (nat_abs-le z {H = 2 ^ 31} (omega arith)) (lit≤ tt))),
 )
@@ -36,7 +36,7 @@ loop-k-preserved c = (
     s = c.before.before.before.before.before.before.before.before.before.before
 
     k : ℕ
-    k = c.before.before.before.before.before.before.before.before.loop-k.k
+    k = c.loop-k.k
 
     y : ℤ
     y = number_at s.args.numbers.now (s.args.first + k)
@@ -44,23 +44,23 @@ loop-k-preserved c = (
     z : ℤ
     z = number_at s.args.numbers.now (s.args.second + k)
 
-    is : c.before.before.put_sides.new.0 ≡ put_sides c.before.before.before.before.before.before.before.before.loop-k.floats (s.args.at + side_count * k) (float_sides y z)
+    is : c.put_sides.new.floats ≡ put_sides c.loop-k.floats (s.args.at + side_count * k) (float_sides y z)
     is =
-        c.before.before.put_sides.ensures
-        ∙ ap (λ (t : Sides). put_sides c.before.before.before.before.before.before.before.before.loop-k.floats (s.args.at + side_count * k) t)
-        (c.before.before.before.before.sides_of-sides.ensures ∙ (λ i. float_sides (reads_back w32 y (omega arith) i) (reads_back w32 z (omega arith) i)))
+        c.put_sides.ensures
+        ∙ ap (λ (t : Sides). put_sides c.loop-k.floats (s.args.at + side_count * k) t)
+        (c.sides_of-sides.ensures ∙ (λ i. float_sides (reads_back w32 y (omega arith) i) (reads_back w32 z (omega arith) i)))
 
 pub returns : goal.returns
 returns c =
-    subst (λ (n : ℕ). PutRunsGives s.args.at s.args.first s.args.second n s.args.floats.now s.args.numbers.now c.before.loop-k.floats) all
-    c.before.loop-k.invariant.1
+    subst (λ (n : ℕ). PutRunsGives s.args.at s.args.first s.args.second n s.args.floats.now s.args.numbers.now c.loop-k.floats) all
+    c.loop-k.invariant.1
   where
     s : Start
     s = c.before.before.before
 
-    all : c.before.loop-k.k ≡ s.args.count
+    all : c.loop-k.k ≡ s.args.count
     all = omega arith
 
 pub shape_of-floats : goal.shape_of-floats
 shape_of-floats c =
-    c.before.loop-k.invariant.1.size
+    c.loop-k.invariant.1.size

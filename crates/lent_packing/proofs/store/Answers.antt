@@ -21,29 +21,29 @@ all-carry s = pair_carries s.args.pair.now s.requires.size s.requires.whole s.re
 pub take_runs-requires : goal.take_runs-requires
 take_runs-requires c =
     record {
-      size = simp length-set c.before.before.before.before.requires.numbers_size;
+      size = simp length-set c.requires.numbers_size;
       apart = lit≤ tt;
       inside = lit≤ tt;
-      room = omega (arith, c.before.before.before.before.requires.size);
+      room = omega (arith, c.requires.size);
       carries = λ j u v. all-carry c.before.before.before.before j (omega arith);
     }
 
 pub take_runs-requires-2 : goal.take_runs-requires-2
 take_runs-requires-2 c =
     record {
-      size = c.before.Take-runs.ensures.size;
+      size = c.Take-runs.ensures.size;
       apart = lit≤ tt;
       inside = lit≤ tt;
-      room = omega (arith, c.before.before.before.before.before.before.requires.size);
+      room = omega (arith, c.requires.size);
       carries = λ j u v. all-carry c.before.before.before.before.before.before j (omega arith);
     }
 
 pub returns : goal.returns
 returns c =
     stored s.args.numbers.now s.requires.numbers_size s.args.volume s.args.pair.now _ _
-    (reads_back w32 c.before.before.before.before.before.whole_of-present.result (omega arith) ∙ c.before.before.before.before.before.whole_of-present.ensures)
-    (reads_back w32 c.before.before.before.before.whole_of-target.result (omega arith) ∙ c.before.before.before.before.whole_of-target.ensures)
-    c.before.before.Take-runs.new.0 c.take_runs-2.new.0 c.before.before.Take-runs.ensures c.take_runs-2.ensures
+    (reads_back w32 c.whole_of-present.result (omega arith) ∙ c.whole_of-present.ensures)
+    (reads_back w32 c.whole_of-target.result (omega arith) ∙ c.whole_of-target.ensures)
+    c.Take-runs.new.0 c.take_runs-2.new.numbers c.Take-runs.ensures c.take_runs-2.ensures
   where
     s : Start
     s = c.before.before.before.before.before.before.before

@@ -13,20 +13,20 @@ use Rattle.lent_packing.proofs.take_runs.Goals as goal
 
 pub loop-k-init : goal.loop-k-init
 loop-k-init c =
-    (omega arith, take_begin c.before.args.at c.before.args.first c.before.args.second c.before.args.pair.now c.before.args.numbers.now c.before.requires.size)
+    (omega arith, take_begin c.args.at c.args.first c.args.second c.args.pair.now c.args.numbers.now c.requires.size)
 
 pub whole_of-left-requires : goal.whole_of-left-requires
-whole_of-left-requires c = c.before.before.before.before.requires.carries (c.before.before.before.before.args.at + side_count * c.before.before.loop-k.k) (omega arith) (omega arith)
+whole_of-left-requires c = c.requires.carries (c.args.at + side_count * c.loop-k.k) (omega arith) (omega arith)
 
 pub whole_of-right-requires : goal.whole_of-right-requires
-whole_of-right-requires c = c.before.before.before.before.before.before.requires.carries (c.before.before.before.before.before.before.args.at + side_count * c.before.before.before.before.loop-k.k + 1) (omega arith) (omega arith)
+whole_of-right-requires c = c.requires.carries (c.args.at + side_count * c.loop-k.k + 1) (omega arith) (omega arith)
 
 pub loop-k-preserved : goal.loop-k-preserved
 loop-k-preserved c = (
   omega arith,
-  take_more s.args.at s.args.first s.args.second s.args.pair.now s.args.numbers.now k c.before.before.before.before.before.loop-k.numbers (omega arith) (omega arith) c.before.before.before.before.before.loop-k.invariant.1
+  take_more s.args.at s.args.first s.args.second s.args.pair.now s.args.numbers.now k c.loop-k.numbers (omega arith) (omega arith) c.loop-k.invariant.1
       _ _
-      (reads_back w32 c.before.before.whole_of-left.result (omega arith) ∙ c.before.before.whole_of-left.ensures)
+      (reads_back w32 c.whole_of-left.result (omega arith) ∙ c.whole_of-left.ensures)
       (reads_back w32 c.whole_of-right.result (omega arith) ∙ c.whole_of-right.ensures),
 )
   where
@@ -34,15 +34,15 @@ loop-k-preserved c = (
     s = c.before.before.before.before.before.before.before
 
     k : ℕ
-    k = c.before.before.before.before.before.loop-k.k
+    k = c.loop-k.k
 
 pub returns : goal.returns
 returns c =
-    subst (λ (n : ℕ). TakeRunsGives s.args.at s.args.first s.args.second n s.args.numbers.now s.args.pair.now c.before.loop-k.numbers) all
-    c.before.loop-k.invariant.1
+    subst (λ (n : ℕ). TakeRunsGives s.args.at s.args.first s.args.second n s.args.numbers.now s.args.pair.now c.loop-k.numbers) all
+    c.loop-k.invariant.1
   where
     s : Start
     s = c.before.before.before
 
-    all : c.before.loop-k.k ≡ s.args.count
+    all : c.loop-k.k ≡ s.args.count
     all = omega arith

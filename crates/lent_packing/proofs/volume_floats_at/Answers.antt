@@ -15,8 +15,8 @@ pub returns : goal.returns
 unfolding unit_of
 returns c = λ i. record { present = float (present-reads i); target = float (target-reads i) }
   where
-    present-reads : to_z w32 (of_z w32 (get_or c.before.before.before.before.args.numbers.now 0 (pos 0))) ≡ get_or c.before.before.before.before.args.numbers.now 0 (pos 0)
+    present-reads : to_z w32 (of_z w32 (get_or c.args.numbers.now 0 (pos 0))) ≡ get_or c.args.numbers.now 0 (pos 0)
     present-reads = to_z-of_z {w = w32} (record { sfits = omega arith })
 
-    target-reads : to_z w32 (of_z w32 (get_or c.before.before.before.before.args.numbers.now 1 (pos 0))) ≡ get_or c.before.before.before.before.args.numbers.now 1 (pos 0)
+    target-reads : to_z w32 (of_z w32 (get_or c.args.numbers.now 1 (pos 0))) ≡ get_or c.args.numbers.now 1 (pos 0)
     target-reads = to_z-of_z {w = w32} (record { sfits = omega arith })

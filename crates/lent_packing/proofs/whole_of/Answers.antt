@@ -8,7 +8,7 @@ use Rattle.engine.proofs.Read.{cast_back}
 use Rattle.lent_packing.proofs.whole_of.Goals as goal
 
 pub float_to_int-result : goal.float_to_int-result
-float_to_int-result c = (cast_back 31 c.before.args.x (lit< tt) c.before.requires).0
+float_to_int-result c = (cast_back 31 c.args.x (lit< tt) c.requires).0
 
 pub returns : goal.returns
-returns c = to_z-of_z {w = w32} (record { sfits = to_signed_in 31 c.before.args.x }) ∙ (cast_back 31 c.before.args.x (lit< tt) c.before.requires).1
+returns c = to_z-of_z {w = w32} (record { sfits = to_signed_in 31 c.args.x }) ∙ (cast_back 31 c.args.x (lit< tt) c.requires).1

@@ -9,8 +9,8 @@ use Rattle.line_reading.proofs.check_band_at.Goals as goal
 
 pub returns : goal.returns
 returns c =
-    let args = c.before.before.before.args in
+    let args = c.args in
     let size : args.place + band_size - args.place ≡ band_size = omega arith in
     c.check_band.ensures
-    ∙ ap band_verdict c.before.band_at-band.ensures
+    ∙ ap band_verdict c.band_at-band.ensures
     ∙ ap (λ (n : ℕ). band_verdict (band_at (take n (drop args.place args.slots.now)) 0)) size

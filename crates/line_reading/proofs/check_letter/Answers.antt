@@ -7,15 +7,15 @@ use Rattle.line_reading.proofs.check_letter.Goals as goal
 
 pub returns-then-bytes-at : goal.returns-then-bytes-at
 returns-then-bytes-at c =
-    let args = c.before.args in
+    let args = c.args in
     sym (letter_short args.bytes.now args.at args.letter args.count (omega arith))
 
 pub returns-then-bytes-at-2 : goal.returns-then-bytes-at-2
 returns-then-bytes-at-2 c =
-    let args = c.before.before.before.args in
+    let args = c.args in
     sym (letter_wrong args.bytes.now args.at args.letter args.count c.if-bytes-at-2.true)
 
 pub returns : goal.returns
 returns c =
-    let args = c.before.before.before.args in
+    let args = c.args in
     sym (letter_right args.bytes.now args.at args.letter args.count (omega arith) c.if-bytes-at-2.false)

@@ -7,10 +7,10 @@ use Rattle.line_reading.proofs.first_of.Goals as goal
 
 pub returns-then-not-accepted : goal.returns-then-not-accepted
 returns-then-not-accepted c =
-    let args = c.before.before.args in
-    sym (first_refused args.verdict args.next (sym c.before.accepted.ensures ∙ c.if-not-accepted.true))
+    let args = c.args in
+    sym (first_refused args.verdict args.next (sym c.accepted.ensures ∙ c.if-not-accepted.true))
 
 pub returns : goal.returns
 returns c =
-    let args = c.before.before.args in
-    sym (first_accepted args.verdict args.next (sym c.before.accepted.ensures ∙ c.if-not-accepted.false))
+    let args = c.args in
+    sym (first_accepted args.verdict args.next (sym c.accepted.ensures ∙ c.if-not-accepted.false))

@@ -21,8 +21,8 @@ use Rattle.line_reading.proofs.read_band.Goals as goal
 pub returns-then-not-accepted : goal.returns-then-not-accepted
 returns-then-not-accepted c =
     let s = c.before.before.before.before in
-    letter_refused band_letter band_ranges band_joint (λ l. l) band_size refl s.args.bytes.now s.args.at s.args.slots.now s.args.place c.before.before.check_letter-front.ensures
-    (sym c.before.accepted.ensures ∙ c.if-not-accepted.true)
+    letter_refused band_letter band_ranges band_joint (λ l. l) band_size refl s.args.bytes.now s.args.at s.args.slots.now s.args.place c.check_letter-front.ensures
+    (sym c.accepted.ensures ∙ c.if-not-accepted.true)
 
 -- ---- the letter accepted
 
@@ -33,12 +33,12 @@ module _ (c : Else-not-accepted) where
   abbrev bytes : List ℕ
   bytes = start.args.bytes.now
 
-  passed : is_accepted c.before.before.check_letter-front.result ≡ true
-  passed = sym c.before.accepted.ensures ∙ c.if-not-accepted.false
+  passed : is_accepted c.check_letter-front.result ≡ true
+  passed = sym c.accepted.ensures ∙ c.if-not-accepted.false
 
   -- the line's bytes are there
   room : start.args.at + line_size band_size ≤ length bytes
-  room = room_from band_letter band_size bytes start.args.at start.requires.0 c.before.before.check_letter-front.ensures passed
+  room = room_from band_letter band_size bytes start.args.at start.requires.0 c.check_letter-front.ensures passed
 
 pub read_fields-middle-requires : goal.read_fields-middle-requires
 read_fields-middle-requires c = (omega (arith, room c.before), (start c.before).requires.1)
@@ -50,7 +50,7 @@ module _ (c : After-read_fields-middle) where
   o = c.before.before
 
   abbrev after : List ℤ
-  after = c.read_fields-middle.new.1.1.1.1.1.0
+  after = c.read_fields-middle.new.slots
 
   -- any number of nine digits is in its range
   fields : FieldsGive band_ranges (drop ((start o).args.at + 1) (bytes o)) (start o).args.slots.now (start o).args.place c.read_fields-middle.result after
@@ -59,14 +59,14 @@ module _ (c : After-read_fields-middle) where
   -- the numbers stored are the line's
   there : is_accepted c.read_fields-middle.result ≡ true → take band_size (drop (start o).args.place after) ≡ field_numbers band_size (drop 1 (drop (start o).args.at (bytes o)))
   there e =
-      numbers_there band_letter band_ranges band_joint (λ l. l) band_size refl (bytes o) (start o).args.at (start o).args.slots.now (start o).args.place o.before.before.check_letter-front.ensures (passed o) fields e band_size refl (start o).requires.1
+      numbers_there band_letter band_ranges band_joint (λ l. l) band_size refl (bytes o) (start o).args.at (start o).args.slots.now (start o).args.place o.check_letter-front.ensures (passed o) fields e band_size refl (start o).requires.1
 
 pub returns-then-not-accepted-2 : goal.returns-then-not-accepted-2
 returns-then-not-accepted-2 c =
     let f = c.before.before.before in
     let s = start (o f) in
-    fields_refused band_letter band_ranges band_joint (λ l. l) band_size refl (bytes (o f)) s.args.at s.args.slots.now s.args.place (o f).before.before.check_letter-front.ensures (passed (o f)) (fields f)
-    (sym c.before.accepted-2.ensures ∙ c.if-not-accepted-2.true)
+    fields_refused band_letter band_ranges band_joint (λ l. l) band_size refl (bytes (o f)) s.args.at s.args.slots.now s.args.place (o f).check_letter-front.ensures (passed (o f)) (fields f)
+    (sym c.accepted-2.ensures ∙ c.if-not-accepted-2.true)
 
 pub check_end-end-requires : goal.check_end-end-requires
 check_end-end-requires c = room (o c.before.before.before.before.before)
@@ -78,6 +78,6 @@ returns c =
     let t = b.before.before in
     let f = t.before.before.before in
     let s = start (o f) in
-    let e = sym t.before.accepted-2.ensures ∙ t.if-not-accepted-2.false in
-    line_ended band_letter band_ranges band_joint (λ l. l) band_size refl (bytes (o f)) s.args.at s.args.slots.now s.args.place (o f).before.before.check_letter-front.ensures (passed (o f)) (fields f) e
+    let e = sym t.accepted-2.ensures ∙ t.if-not-accepted-2.false in
+    line_ended band_letter band_ranges band_joint (λ l. l) band_size refl (bytes (o f)) s.args.at s.args.slots.now s.args.place (o f).check_letter-front.ensures (passed (o f)) (fields f) e
     (c.first_of.ensures ∙ ap₂ first_of (b.check_band_at-joint.ensures ∙ ap band_joint (there f e)) n.check_end-end.ensures)

@@ -39,7 +39,7 @@ module _ (c : Start) where
 
 pub loop-i-init : goal.loop-i-init
 loop-i-init c =
-    let args = c.before.args in
+    let args = c.args in
     none_read_yet (range c.before) args.count args.bytes.now args.at args.slots.now args.place
 
 -- ---- the ith field read
@@ -52,7 +52,7 @@ module _ (c : After-read_field-number) where
   bytes = start.args.bytes.now
 
   abbrev i : ℕ
-  i = c.before.before.loop-i.i
+  i = c.loop-i.i
 
   abbrev here : ℕ
   here = start.args.at + field_size * i
@@ -68,10 +68,10 @@ module _ (c : After-read_field-number) where
 
   -- it is refused
   refused : {v : Verdict} → field_verdict (range start) (field_at bytes here) ≡ v → is_accepted v ≡ false
-      → FieldsGive (replicate start.args.count (within start.args.low start.args.high)) (drop start.args.at bytes) start.args.slots.now start.args.place v c.before.before.loop-i.slots
+      → FieldsGive (replicate start.args.count (within start.args.low start.args.high)) (drop start.args.at bytes) start.args.slots.now start.args.place v c.loop-i.slots
   refused e f =
       in_words start
-      (read_off (range start) start.args.count bytes start.args.at start.args.slots.now start.args.place c.before.before.loop-i.invariant below e f)
+      (read_off (range start) start.args.count bytes start.args.at start.args.slots.now start.args.place c.loop-i.invariant below e f)
 
 pub returns-then-number-eq-NO_NUMBER : goal.returns-then-number-eq-NO_NUMBER
 returns-then-number-eq-NO_NUMBER c =
@@ -86,7 +86,7 @@ module _ (c : After-in_range_i32) where
 
   tested : (t : Bool) → c.in_range_i32.result ≡ t → field_verdict (range (start o)) (field_at (bytes o) (here o)) ≡ unless t Unfit Accepted
   tested t e =
-      field_tested (range (start o)) (bytes o) (here o) (long o) (number o) o.read_field-number.ok o.read_field-number.ensures c.before.if-number-eq-NO_NUMBER.false t
+      field_tested (range (start o)) (bytes o) (here o) (long o) (number o) o.read_field-number.ok o.read_field-number.ensures c.if-number-eq-NO_NUMBER.false t
       (sym c.in_range_i32.ensures ∙ e)
 
 pub returns-then-not-in_range_i32 : goal.returns-then-not-in_range_i32
@@ -99,12 +99,12 @@ loop-i-preserved c =
     let t = c.before in
     let f = o t in
     let s = start f in
-    read_on (range s) s.args.count (bytes f) s.args.at s.args.slots.now s.args.place f.before.before.loop-i.invariant (below f)
+    read_on (range s) s.args.count (bytes f) s.args.at s.args.slots.now s.args.place f.loop-i.invariant (below f)
     (tested t true (c.if-not-in_range_i32.false))
-    (field_number (range s) (bytes f) (here f) (long f) (number f) f.read_field-number.ok f.read_field-number.ensures t.before.if-number-eq-NO_NUMBER.false)
+    (field_number (range s) (bytes f) (here f) (long f) (number f) f.read_field-number.ok f.read_field-number.ensures t.if-number-eq-NO_NUMBER.false)
 
 pub returns : goal.returns
 returns c =
     let s = c.before.before.before in
     in_words s
-    (all_read (range s) s.args.count s.args.bytes.now s.args.at s.args.slots.now s.args.place c.before.loop-i.invariant (omega arith))
+    (all_read (range s) s.args.count s.args.bytes.now s.args.at s.args.slots.now s.args.place c.loop-i.invariant (omega arith))

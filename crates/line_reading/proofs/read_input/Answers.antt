@@ -11,7 +11,7 @@ use Rattle.line_reading.proofs.read_input.Goals as goal
 pub returns-then-input-eq-NO_NUMBER : goal.returns-then-input-eq-NO_NUMBER
 returns-then-input-eq-NO_NUMBER c =
     let s = c.before.before.before in
-    refusal (sym (field_badly is_input s.args.bytes.now s.args.at s.requires.0 c.before.read_field-input.result c.before.read_field-input.type_inv c.before.read_field-input.ensures c.if-input-eq-NO_NUMBER.true)) refl refl
+    refusal (sym (field_badly is_input s.args.bytes.now s.args.at s.requires.0 c.read_field-input.result c.read_field-input.type_inv c.read_field-input.ensures c.if-input-eq-NO_NUMBER.true)) refl refl
 
 pub returns-then-not-is_input : goal.returns-then-not-is_input
 returns-then-not-is_input c =
@@ -19,7 +19,7 @@ returns-then-not-is_input c =
     let f = c.before.before.before in
     let s = c.before.before.before.before.before in
     refusal
-    (sym (field_tested is_input s.args.bytes.now s.args.at s.requires.0 f.read_field-input.result f.read_field-input.type_inv f.read_field-input.ensures o.before.if-input-eq-NO_NUMBER.false false
+    (sym (field_tested is_input s.args.bytes.now s.args.at s.requires.0 f.read_field-input.result f.read_field-input.type_inv f.read_field-input.ensures o.if-input-eq-NO_NUMBER.false false
     (sym o.is_input.ensures ∙ c.if-not-is_input.true)))
     refl refl
 
@@ -30,10 +30,10 @@ returns c =
     let s = c.before.before.before.before.before in
     record {
       verdict_is =
-          sym (field_tested is_input s.args.bytes.now s.args.at s.requires.0 f.read_field-input.result f.read_field-input.type_inv f.read_field-input.ensures o.before.if-input-eq-NO_NUMBER.false true
+          sym (field_tested is_input s.args.bytes.now s.args.at s.requires.0 f.read_field-input.result f.read_field-input.type_inv f.read_field-input.ensures o.if-input-eq-NO_NUMBER.false true
           (sym o.is_input.ensures ∙ c.if-not-is_input.false));
       size_is = length-set s.args.slots.now _ _;
       numbers_are = λ e.
           ap (set s.args.slots.now s.args.place)
-          (field_number is_input s.args.bytes.now s.args.at s.requires.0 f.read_field-input.result f.read_field-input.type_inv f.read_field-input.ensures o.before.if-input-eq-NO_NUMBER.false);
+          (field_number is_input s.args.bytes.now s.args.at s.requires.0 f.read_field-input.result f.read_field-input.type_inv f.read_field-input.ensures o.if-input-eq-NO_NUMBER.false);
     }

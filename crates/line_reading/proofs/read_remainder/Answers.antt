@@ -18,11 +18,11 @@ returns-then-not-fifth c =
 pub read_fields-requires : goal.read_fields-requires
 read_fields-requires c =
     let s = c.before.before.before in
-    let one : length (fifth_range s.args.fifth) ≡ 1 = ap (λ (fifth : Bool). length (fifth_range fifth)) (not-false s.args.fifth c.before.if-not-fifth.false-raw) in
+    let one : length (fifth_range s.args.fifth) ≡ 1 = ap (λ (fifth : Bool). length (fifth_range fifth)) (not-false s.args.fifth c.if-not-fifth.false-raw) in
     (omega (arith, one, s.requires.0), s.requires.1)
 
 pub returns : goal.returns
 unfolding is_remainder
 returns c =
     let s = c.before.before.before.before.before in
-    fifth_read s.args.fifth (drop s.args.at s.args.bytes.now) s.args.slots.now s.args.place (c.before.before.before.if-not-fifth.false) c.before.read_fields.ensures
+    fifth_read s.args.fifth (drop s.args.at s.args.bytes.now) s.args.slots.now s.args.place (c.if-not-fifth.false) c.read_fields.ensures

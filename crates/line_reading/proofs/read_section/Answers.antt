@@ -23,10 +23,10 @@ check_letter-front-requires c =
 
 pub returns-then-not-accepted : goal.returns-then-not-accepted
 returns-then-not-accepted c =
-    let n = c.before.before.before.section_fields-count in
+    let n = c.section_fields-count in
     let s = c.before.before.before.before.before in
-    letter_refused section_letter (section_ranges s.args.fifth) alone five_of n.result (sym n.ensures) s.args.bytes.now s.args.at s.args.slots.now s.args.place c.before.before.check_letter-front.ensures
-    (sym c.before.accepted.ensures ∙ c.if-not-accepted.true)
+    letter_refused section_letter (section_ranges s.args.fifth) alone five_of n.result (sym n.ensures) s.args.bytes.now s.args.at s.args.slots.now s.args.place c.check_letter-front.ensures
+    (sym c.accepted.ensures ∙ c.if-not-accepted.true)
 
 -- ---- the letter accepted
 
@@ -38,17 +38,17 @@ module _ (c : Else-not-accepted) where
   bytes = start.args.bytes.now
 
   abbrev count : ℕ
-  count = c.before.before.before.section_fields-count.result
+  count = c.section_fields-count.result
 
   count-is : length (section_ranges start.args.fifth) ≡ count
-  count-is = sym c.before.before.before.section_fields-count.ensures
+  count-is = sym c.section_fields-count.ensures
 
-  passed : is_accepted c.before.before.check_letter-front.result ≡ true
-  passed = sym c.before.accepted.ensures ∙ c.if-not-accepted.false
+  passed : is_accepted c.check_letter-front.result ≡ true
+  passed = sym c.accepted.ensures ∙ c.if-not-accepted.false
 
   -- the line's bytes are there
   room : start.args.at + line_size count ≤ length bytes
-  room = room_from section_letter count bytes start.args.at start.requires.0 c.before.before.check_letter-front.ensures passed
+  room = room_from section_letter count bytes start.args.at start.requires.0 c.check_letter-front.ensures passed
 
 pub read_section_fields-middle-requires : goal.read_section_fields-middle-requires
 read_section_fields-middle-requires c = (omega (arith, room c.before, count-is c.before), (start c.before).requires.1)
@@ -58,8 +58,8 @@ returns-then-not-accepted-2 c =
     let f = c.before.before.before in
     let o = f.before.before in
     let s = start o in
-    fields_refused section_letter (section_ranges s.args.fifth) alone five_of (count o) (count-is o) (bytes o) s.args.at s.args.slots.now s.args.place o.before.before.check_letter-front.ensures (passed o) f.read_section_fields-middle.ensures
-    (sym c.before.accepted-2.ensures ∙ c.if-not-accepted-2.true)
+    fields_refused section_letter (section_ranges s.args.fifth) alone five_of (count o) (count-is o) (bytes o) s.args.at s.args.slots.now s.args.place o.check_letter-front.ensures (passed o) f.read_section_fields-middle.ensures
+    (sym c.accepted-2.ensures ∙ c.if-not-accepted-2.true)
 
 pub check_end-requires : goal.check_end-requires
 check_end-requires c = room c.before.before.before.before.before
@@ -70,5 +70,5 @@ returns c =
     let f = t.before.before.before in
     let o = f.before.before in
     let s = start o in
-    line_ended section_letter (section_ranges s.args.fifth) alone five_of (count o) (count-is o) (bytes o) s.args.at s.args.slots.now s.args.place o.before.before.check_letter-front.ensures (passed o) f.read_section_fields-middle.ensures
-    (sym t.before.accepted-2.ensures ∙ t.if-not-accepted-2.false) c.check_end.ensures
+    line_ended section_letter (section_ranges s.args.fifth) alone five_of (count o) (count-is o) (bytes o) s.args.at s.args.slots.now s.args.place o.check_letter-front.ensures (passed o) f.read_section_fields-middle.ensures
+    (sym t.accepted-2.ensures ∙ t.if-not-accepted-2.false) c.check_end.ensures

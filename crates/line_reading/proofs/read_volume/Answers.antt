@@ -18,8 +18,8 @@ use Rattle.line_reading.proofs.read_volume.Goals as goal
 pub returns-then-not-accepted : goal.returns-then-not-accepted
 returns-then-not-accepted c =
     let s = c.before.before.before.before in
-    letter_refused volume_letter volume_ranges alone (λ l. l) 2 refl s.args.bytes.now s.args.at s.args.slots.now 0 c.before.before.check_letter-front.ensures
-    (sym c.before.accepted.ensures ∙ c.if-not-accepted.true)
+    letter_refused volume_letter volume_ranges alone (λ l. l) 2 refl s.args.bytes.now s.args.at s.args.slots.now 0 c.check_letter-front.ensures
+    (sym c.accepted.ensures ∙ c.if-not-accepted.true)
 
 -- ---- the letter accepted
 
@@ -30,12 +30,12 @@ module _ (c : Else-not-accepted) where
   abbrev bytes : List ℕ
   bytes = start.args.bytes.now
 
-  passed : is_accepted c.before.before.check_letter-front.result ≡ true
-  passed = sym c.before.accepted.ensures ∙ c.if-not-accepted.false
+  passed : is_accepted c.check_letter-front.result ≡ true
+  passed = sym c.accepted.ensures ∙ c.if-not-accepted.false
 
   -- the line's bytes are there
   room : start.args.at + line_size 2 ≤ length bytes
-  room = room_from volume_letter 2 bytes start.args.at start.requires.0 c.before.before.check_letter-front.ensures passed
+  room = room_from volume_letter 2 bytes start.args.at start.requires.0 c.check_letter-front.ensures passed
 
 pub read_fields-middle-requires : goal.read_fields-middle-requires
 read_fields-middle-requires c = (omega (arith, room c.before), omega (arith, (start c.before).requires.1))
@@ -46,8 +46,8 @@ returns-then-not-accepted-2 c =
     let f = c.before.before.before in
     let o = f.before.before in
     let s = start o in
-    fields_refused volume_letter volume_ranges alone (λ l. l) 2 refl (bytes o) s.args.at s.args.slots.now 0 o.before.before.check_letter-front.ensures (passed o) f.read_fields-middle.ensures
-    (sym c.before.accepted-2.ensures ∙ c.if-not-accepted-2.true)
+    fields_refused volume_letter volume_ranges alone (λ l. l) 2 refl (bytes o) s.args.at s.args.slots.now 0 o.check_letter-front.ensures (passed o) f.read_fields-middle.ensures
+    (sym c.accepted-2.ensures ∙ c.if-not-accepted-2.true)
 
 pub check_end-requires : goal.check_end-requires
 check_end-requires c = room c.before.before.before.before.before
@@ -59,5 +59,5 @@ returns c =
     let f = t.before.before.before in
     let o = f.before.before in
     let s = start o in
-    line_ended volume_letter volume_ranges alone (λ l. l) 2 refl (bytes o) s.args.at s.args.slots.now 0 o.before.before.check_letter-front.ensures (passed o) f.read_fields-middle.ensures
-    (sym t.before.accepted-2.ensures ∙ t.if-not-accepted-2.false) c.check_end.ensures
+    line_ended volume_letter volume_ranges alone (λ l. l) 2 refl (bytes o) s.args.at s.args.slots.now 0 o.check_letter-front.ensures (passed o) f.read_fields-middle.ensures
+    (sym t.accepted-2.ensures ∙ t.if-not-accepted-2.false) c.check_end.ensures

@@ -13,7 +13,7 @@ use Rattle.line_writing.proofs.put_band.Goals as goal
 
 pub returns : goal.returns
 returns c =
-    c.before.before.put_line.ensures
+    c.put_line.ensures
     ∙ (λ i. sets s.args.out.now s.args.at (line_text band_letter (reads_back w32 s.args.band.alpha (omega arith) i ∷ reads_back w32 s.args.band.beta (omega arith) i ∷ reads_back w32 s.args.band.gamma (omega arith) i ∷ [])))
   where
     s : Start

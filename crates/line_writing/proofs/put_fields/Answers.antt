@@ -18,17 +18,17 @@ use Rattle.line_writing.proofs.put_fields.Invariants.{)}
 use Rattle.line_writing.proofs.put_fields.Goals as goal
 
 pub put_field-requires : goal.put_field-requires
-put_field-requires c = omega (arith, simp length-sets at (ap length c.before.before.before.loop-i.invariant.1)
+put_field-requires c = omega (arith, simp length-sets at (ap length c.loop-i.invariant.1)
 -- a turn writes field i
 module _ (c : After-slice_known-in-loop-i-1) where
   abbrev i : ℕ
-  i = c.before.before.before.before.before.before.loop-i.i
+  i = c.loop-i.i
 
   abbrev at : ℕ
-  at = c.before.before.before.before.before.before.before.before.args.at
+  at = c.args.at
 
   abbrev row : List ℤ
-  row = c.before.before.before.before.before.before.before.before.args.row.now
+  row = c.args.row.now
 
   number_is : to_z w32 (of_z w32 (get_or row i (pos 0))) ≡ get_or row i (pos 0)
   number_is = reads_back w32 (get_or row i (pos 0)) (omega arith)
@@ -36,15 +36,15 @@ module _ (c : After-slice_known-in-loop-i-1) where
 pub loop-i-preserved : goal.loop-i-preserved
 loop-i-preserved c = (
   search rules,
-  c.before.before.put_field.ensures
-      ∙ ap₂ (λ (l : List ℕ) (z : ℤ). sets l (at c + field_size * i c) (field z)) c.before.before.before.before.before.before.loop-i.invariant.1 (number_is c)
-      ∙ field_put c.before.before.before.before.before.before.before.before.args.out.now (at c) (row c) (i c) (omega arith),
+  c.put_field.ensures
+      ∙ ap₂ (λ (l : List ℕ) (z : ℤ). sets l (at c + field_size * i c) (field z)) c.loop-i.invariant.1 (number_is c)
+      ∙ field_put c.args.out.now (at c) (row c) (i c) (omega arith),
 )
 
 pub shape_of-out : goal.shape_of-out
-shape_of-out c = ap length c.before.loop-i.invariant.1 ∙ simp length-sets
+shape_of-out c = ap length c.loop-i.invariant.1 ∙ simp length-sets
 
 pub returns : goal.returns
 returns c =
-    c.before.loop-i.invariant.1
-    ∙ ap (λ (l : List ℤ). sets c.before.before.before.args.out.now c.before.before.before.args.at (joined field l)) (take_all c.before.loop-i.i c.before.before.before.args.row.now (omega arith))
+    c.loop-i.invariant.1
+    ∙ ap (λ (l : List ℤ). sets c.args.out.now c.args.at (joined field l)) (take_all c.loop-i.i c.args.row.now (omega arith))

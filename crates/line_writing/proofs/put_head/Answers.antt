@@ -10,7 +10,7 @@ use Rattle.line_writing.proofs.put_head.Goals as goal
 
 pub returns : goal.returns
 returns c =
-    c.before.before.put_line.ensures
+    c.put_line.ensures
     ∙ (λ i. sets s.args.out.now s.args.at (line_text s.args.letter (to_z-of_z s.ranges.x1 i ∷ to_z-of_z s.ranges.x2 i ∷ to_z-of_z s.ranges.flag i ∷ [])))
   where
     s : Start

@@ -18,25 +18,25 @@ pub put_fields-requires : goal.put_fields-requires
 put_fields-requires c = simp length-set (omega arith)
 
 pub bounds-out-at-2 : goal.bounds-out-at-2
-bounds-out-at-2 c = omega (arith, simp length-set at c.before.before.put_fields.auto.0)
+bounds-out-at-2 c = omega (arith, simp length-set at c.put_fields.auto.0)
 
 pub shape_of-out : goal.shape_of-out
-shape_of-out c = simp length-set (c.before.before.put_fields.auto.0 ∙ simp length-set)
+shape_of-out c = simp length-set (c.put_fields.auto.0 ∙ simp length-set)
 
 -- the fields end where the line feed stands
 module _ (c : After-slice_known-2-1) where
   abbrev at : ℕ
-  at = c.before.before.before.before.before.args.at
+  at = c.args.at
 
   abbrev row : List ℤ
-  row = c.before.before.before.before.before.args.row.now
+  row = c.args.row.now
 
   fields-end : at + 1 + field_size * length row ≡ at + 1 + length (joined field row)
   fields-end = omega (arith, fields_length row)
 
 pub returns : goal.returns
 returns c =
-    ap (λ (l : List ℕ). set l (at c + 1 + field_size * length (row c)) line_feed) c.before.before.put_fields.ensures
+    ap (λ (l : List ℕ). set l (at c + 1 + field_size * length (row c)) line_feed) c.put_fields.ensures
     ∙ parts_put s.args.out.now (at c) s.args.letter (joined field (row c)) line_feed (at c + 1 + field_size * length (row c)) (fields-end c)
   where
     s : Start

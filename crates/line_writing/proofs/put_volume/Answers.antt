@@ -25,14 +25,14 @@ module _ (s : Start) where
 -- ---- the needs
 
 pub overflow_cast-present : goal.overflow_cast-present
-overflow_cast-present c = narrow_need c.before.before.before.args.volume.present (present-size c.before.before.before)
+overflow_cast-present c = narrow_need c.args.volume.present (present-size c.before.before.before)
 
 pub overflow_cast-target : goal.overflow_cast-target
-overflow_cast-target c = narrow_need c.before.before.before.before.before.args.volume.target (target-size c.before.before.before.before.before)
+overflow_cast-target c = narrow_need c.args.volume.target (target-size c.before.before.before.before.before)
 
 pub returns : goal.returns
 returns c =
-    c.before.before.put_line.ensures
+    c.put_line.ensures
     ∙ (λ i. sets s.args.out.now s.args.at (line_text volume_letter (narrow_reads s.args.volume.present (present-size s) i ∷ narrow_reads s.args.volume.target (target-size s) i ∷ [])))
   where
     s : Start

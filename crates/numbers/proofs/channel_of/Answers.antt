@@ -14,14 +14,14 @@ pub returns : goal.returns
 returns c =
     λ i.
     record {
-      x1 = (to_z-of_z {w = w64} (record { sfits = c.before.before.before.number_at-x1.type_inv }) ∙ c.before.before.before.number_at-x1.ensures ∙ behind (pos 0) l start 0 start (omega arith)) i;
-      x2 = (to_z-of_z {w = w64} (record { sfits = c.before.before.number_at-x2.type_inv }) ∙ c.before.before.number_at-x2.ensures ∙ behind (pos 0) l start 1 (start + 1) (omega arith)) i;
-      flag = (to_z-of_z {w = w64} (record { sfits = c.before.number_at-flag.type_inv }) ∙ c.before.number_at-flag.ensures ∙ behind (pos 0) l start 2 (start + 2) (omega arith)) i;
+      x1 = (to_z-of_z {w = w64} (record { sfits = c.number_at-x1.type_inv }) ∙ c.number_at-x1.ensures ∙ behind (pos 0) l start 0 start (omega arith)) i;
+      x2 = (to_z-of_z {w = w64} (record { sfits = c.number_at-x2.type_inv }) ∙ c.number_at-x2.ensures ∙ behind (pos 0) l start 1 (start + 1) (omega arith)) i;
+      flag = (to_z-of_z {w = w64} (record { sfits = c.number_at-flag.type_inv }) ∙ c.number_at-flag.ensures ∙ behind (pos 0) l start 2 (start + 2) (omega arith)) i;
       sections = c.sections_of-sections.ensures i;
     }
   where
     l : List ℤ
-    l = c.before.before.before.before.args.numbers.now
+    l = c.args.numbers.now
 
     start : ℕ
-    start = c.before.before.before.before.args.start
+    start = c.args.start

@@ -9,11 +9,11 @@ use borrow.Author.Rules.{rules}
 use Rattle.numbers.proofs.number_at.Goals.{After-result-1}
 use Rattle.numbers.proofs.number_at.Goals as goal
 
-fits : (c : After-result-1) → SFits w32 (get_or c.before.args.numbers.now c.before.args.at (pos 0))
+fits : (c : After-result-1) → SFits w32 (get_or c.args.numbers.now c.args.at (pos 0))
 fits c = record { sfits = omega arith }
 
 pub overflow_cast-result : goal.overflow_cast-result
-overflow_cast-result c = widen_need tt (get_or c.before.args.numbers.now c.before.args.at (pos 0)) (fits c)
+overflow_cast-result c = widen_need tt (get_or c.args.numbers.now c.args.at (pos 0)) (fits c)
 
 pub returns : goal.returns
-returns c = (widened tt (get_or c.before.args.numbers.now c.before.args.at (pos 0)) (fits c)).reads
+returns c = (widened tt (get_or c.args.numbers.now c.args.at (pos 0)) (fits c)).reads

@@ -8,4 +8,4 @@ pub returns : goal.returns
 unfolding numbers_of
 returns c =
     put_all
-    (put_then c.before.before.before.before.put_volume.ensures (put_then c.before.before.put_bands.ensures c.put_channels.ensures))
+    (put_then c.put_volume.ensures (put_then c.put_bands.ensures c.put_channels.ensures))

@@ -14,16 +14,16 @@ use Rattle.numbers.proofs.put_bands.Goals as goal
 pub loop-b-init : goal.loop-b-init
 loop-b-init c = (search rules, put_none c.args.out.now bands_place c.requires
 pub put_band-requires : goal.put_band-requires
-put_band-requires c = (c.before.before.before.loop-b.invariant.1.size, omega arith)
+put_band-requires c = (c.loop-b.invariant.1.size, omega arith)
 
 pub loop-b-preserved : goal.loop-b-preserved
 loop-b-preserved c = (
   search rules,
-  put_entry band_numbers c.before.before.before.before.before.args.bands zero_band c.before.before.before.before.loop-b.b (omega arith) c.before.before.before.before.loop-b.invariant.1 c.put_band.ensures
-      (3 * (c.before.before.before.before.loop-b.b + 1) + 2) (omega arith),
+  put_entry band_numbers c.args.bands zero_band c.loop-b.b (omega arith) c.loop-b.invariant.1 c.put_band.ensures
+      (3 * (c.loop-b.b + 1) + 2) (omega arith),
 )
 
 pub returns : goal.returns
 returns c =
-    put_entries band_numbers c.before.before.args.bands zero_band c.before.loop-b.b (omega arith) c.before.loop-b.invariant.1 left_place
+    put_entries band_numbers c.args.bands zero_band c.loop-b.b (omega arith) c.loop-b.invariant.1 left_place
     (omega arith)

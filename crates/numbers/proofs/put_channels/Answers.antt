@@ -15,20 +15,20 @@ use Rattle.numbers.proofs.put_channels.Goals as goal
 
 pub put_channel-requires : goal.put_channel-requires
 put_channel-requires c = (
-  c.before.before.before.requires.0,
+  c.requires.0,
   lit≤ tt,
-  each_get_d ChannelFit c.before.before.before.args.channels zero_channel c.before.before.before.requires.1 0 (omega arith),
+  each_get_d ChannelFit c.args.channels zero_channel c.requires.1 0 (omega arith),
 )
 
 pub put_channel-requires-2 : goal.put_channel-requires-2
 put_channel-requires-2 c = (
-  c.before.put_channel.ensures.size,
+  c.put_channel.ensures.size,
   lit≤ tt,
-  each_get_d ChannelFit c.before.before.before.before.before.args.channels zero_channel c.before.before.before.before.before.requires.1 1 (omega arith),
+  each_get_d ChannelFit c.args.channels zero_channel c.requires.1 1 (omega arith),
 )
 
 pub returns : goal.returns
 returns c =
-    subst (λ (l : List ℤ). PutGives c.before.before.before.before.before.before.args.out.now left_place l unit_size c.put_channel-2.new.0)
-    (sym (joined-two channel_numbers c.before.before.before.before.before.before.args.channels zero_channel (omega arith)))
-    (put_then c.before.before.put_channel.ensures c.put_channel-2.ensures)
+    subst (λ (l : List ℤ). PutGives c.args.out.now left_place l unit_size c.put_channel-2.new.out)
+    (sym (joined-two channel_numbers c.args.channels zero_channel (omega arith)))
+    (put_then c.put_channel.ensures c.put_channel-2.ensures)

@@ -38,13 +38,13 @@ start c = c.before.before.before.before.before.before.before.before.before.befor
 -- ---- the needs
 
 pub overflow_cast-y1 : goal.overflow_cast-y1
-overflow_cast-y1 c = narrow_need c.before.before.args.section.y1 (y1-size c.before.before)
+overflow_cast-y1 c = narrow_need c.args.section.y1 (y1-size c.before.before)
 
 pub overflow_cast-y2 : goal.overflow_cast-y2
-overflow_cast-y2 c = narrow_need c.before.before.before.before.args.section.y2 (y2-size c.before.before.before.before)
+overflow_cast-y2 c = narrow_need c.args.section.y2 (y2-size c.before.before.before.before)
 
 pub overflow_cast-present : goal.overflow_cast-present
-overflow_cast-present c = narrow_need c.before.before.before.before.before.before.args.section.gain.present (present-size c.before.before.before.before.before.before)
+overflow_cast-present c = narrow_need c.args.section.gain.present (present-size c.before.before.before.before.before.before)
 
 pub overflow_cast-target : goal.overflow_cast-target
 overflow_cast-target c =

@@ -22,19 +22,19 @@ loop-b-init c = (search rules, subst (λ (n : ℕ). PutGives c.args.out.now c.ar
 
 pub put_section-requires : goal.put_section-requires
 put_section-requires c = (
-  c.before.before.before.loop-b.invariant.1.size,
-  omega (arith, c.before.before.before.before.requires.1),
-  each_get_d SectionFit c.before.before.before.before.args.sections cleared_band_section c.before.before.before.before.requires.2 c.before.before.before.loop-b.b (omega arith),
+  c.loop-b.invariant.1.size,
+  omega (arith, c.requires.1),
+  each_get_d SectionFit c.args.sections cleared_band_section c.requires.2 c.loop-b.b (omega arith),
 )
 
 pub loop-b-preserved : goal.loop-b-preserved
 loop-b-preserved c = (
   search rules,
-  put_entry section_numbers c.before.before.before.before.before.args.sections cleared_band_section c.before.before.before.before.loop-b.b (omega arith) c.before.before.before.before.loop-b.invariant.1 c.put_section.ensures
-      (c.before.before.before.before.before.args.start + section_size * (c.before.before.before.before.loop-b.b + 1)) (omega arith),
+  put_entry section_numbers c.args.sections cleared_band_section c.loop-b.b (omega arith) c.loop-b.invariant.1 c.put_section.ensures
+      (c.args.start + section_size * (c.loop-b.b + 1)) (omega arith),
 )
 
 pub returns : goal.returns
 returns c =
-    put_entries section_numbers c.before.before.args.sections cleared_band_section c.before.loop-b.b (omega arith) c.before.loop-b.invariant.1
-    (c.before.before.args.start + section_size * band_count) (omega arith)
+    put_entries section_numbers c.args.sections cleared_band_section c.loop-b.b (omega arith) c.loop-b.invariant.1
+    (c.args.start + section_size * band_count) (omega arith)

@@ -15,24 +15,24 @@ pub returns : goal.returns
 returns c =
     λ i.
     record {
-      y1 = (to_z-of_z {w = w64} (record { sfits = c.before.before.before.before.number_at-y1.type_inv }) ∙ c.before.before.before.before.number_at-y1.ensures ∙ behind (pos 0) l start (place b) at (omega arith)) i;
-      y2 = (to_z-of_z {w = w64} (record { sfits = c.before.before.before.number_at-y2.type_inv }) ∙ c.before.before.before.number_at-y2.ensures ∙ behind (pos 0) l start (place b + 1) (at + 1) (omega arith)) i;
+      y1 = (to_z-of_z {w = w64} (record { sfits = c.number_at-y1.type_inv }) ∙ c.number_at-y1.ensures ∙ behind (pos 0) l start (place b) at (omega arith)) i;
+      y2 = (to_z-of_z {w = w64} (record { sfits = c.number_at-y2.type_inv }) ∙ c.number_at-y2.ensures ∙ behind (pos 0) l start (place b + 1) (at + 1) (omega arith)) i;
       gain =
           record {
-            present = (to_z-of_z {w = w64} (record { sfits = c.before.before.number_at-present.type_inv }) ∙ c.before.before.number_at-present.ensures ∙ behind (pos 0) l start (place b + 2) (at + 2) (omega arith)) i;
-            target = (to_z-of_z {w = w64} (record { sfits = c.before.number_at-target.type_inv }) ∙ c.before.number_at-target.ensures ∙ behind (pos 0) l start (place b + 3) (at + 3) (omega arith)) i;
+            present = (to_z-of_z {w = w64} (record { sfits = c.number_at-present.type_inv }) ∙ c.number_at-present.ensures ∙ behind (pos 0) l start (place b + 2) (at + 2) (omega arith)) i;
+            target = (to_z-of_z {w = w64} (record { sfits = c.number_at-target.type_inv }) ∙ c.number_at-target.ensures ∙ behind (pos 0) l start (place b + 3) (at + 3) (omega arith)) i;
           };
       remainder = (to_z-of_z {w = w64} (record { sfits = c.number_at-remainder.type_inv }) ∙ c.number_at-remainder.ensures ∙ behind (pos 0) l start (place b + 4) (at + 4) (omega arith)) i;
     }
   where
     l : List ℤ
-    l = c.before.before.before.before.before.args.numbers.now
+    l = c.args.numbers.now
 
     start : ℕ
-    start = c.before.before.before.before.before.args.start
+    start = c.args.start
 
     b : ℕ
-    b = c.before.before.before.before.before.args.b
+    b = c.args.b
 
     at : ℕ
     at = start + section_size * b + head_size

@@ -15,8 +15,8 @@ loop-b-init c =
 
 pub loop-b-preserved : goal.loop-b-preserved
 loop-b-preserved c =
-    tabulated_next c.before.before.loop-b.invariant (omega arith) c.section_at-section.ensures
+    tabulated_next c.loop-b.invariant (omega arith) c.section_at-section.ensures
 
 pub returns : goal.returns
 returns c =
-    tabulated_done c.before.loop-b.invariant (omega arith)
+    tabulated_done c.loop-b.invariant (omega arith)

@@ -20,12 +20,12 @@ returns c =
     record {
       volume =
           record {
-            present = (to_z-of_z {w = w64} (record { sfits = c.before.before.before.before.before.before.number_at-present.type_inv }) ∙ c.before.before.before.before.before.before.number_at-present.ensures) i;
-            target = (to_z-of_z {w = w64} (record { sfits = c.before.before.before.before.before.number_at-target.type_inv }) ∙ c.before.before.before.before.before.number_at-target.ensures) i;
+            present = (to_z-of_z {w = w64} (record { sfits = c.number_at-present.type_inv }) ∙ c.number_at-present.ensures) i;
+            target = (to_z-of_z {w = w64} (record { sfits = c.number_at-target.type_inv }) ∙ c.number_at-target.ensures) i;
           };
-      bands = (c.before.before.bands_of-bands.ensures ∙ ap bands_of (take_all (length l - bands_place) (drop bands_place l) (simp length-drop (omega arith)))) i;
-      channels = c.before.channel_of-left.ensures i ∷ c.channel_of-right.ensures i ∷ [];
+      bands = (c.bands_of-bands.ensures ∙ ap bands_of (take_all (length l - bands_place) (drop bands_place l) (simp length-drop (omega arith)))) i;
+      channels = c.channel_of-left.ensures i ∷ c.channel_of-right.ensures i ∷ [];
     }
   where
     l : List ℤ
-    l = c.before.before.before.before.before.before.before.args.numbers.now
+    l = c.args.numbers.now

@@ -21,7 +21,7 @@ module _ (s : Start) where
 
   -- whether the order's side names the channel
   abbrev is-named : Bool
-  is-named = eqb s.args.side both_sides || eqb s.args.side s.args.own_val
+  is-named = eqb s.args.side both_sides || eqb s.args.side s.args.own
 
   -- the channel as the call hands it back, where it does
   named : (r : Channel) → is-named ≡ true → r ≡ aimed-is (to_z w64 (of_z w64 s.args.target)) → r ≡ cond is-named (aimed-is s.args.target) s.args.channel
@@ -38,7 +38,7 @@ returns-then-side-own c =
     named c.before.before.before c.aim_channel-then-side-own.result
     (simp (
       ne_eqb c.before.before.before.args.side both_sides c.before.before.if-side-eq-BOTH_SIDES.false,
-      eq-eqb c.before.before.before.args.side c.before.before.before.args.own_val c.before.if-side-own.true,
+      eq-eqb c.before.before.before.args.side c.before.before.before.args.own c.before.if-side-own.true,
     ))
     c.aim_channel-then-side-own.ensures
 
@@ -47,5 +47,5 @@ returns c =
     sym
     (simp (
       ne_eqb c.before.before.args.side both_sides c.before.if-side-eq-BOTH_SIDES.false,
-      ne_eqb c.before.before.args.side c.before.before.args.own_val c.if-side-own.false,
+      ne_eqb c.before.before.args.side c.before.before.args.own c.if-side-own.false,
     ))

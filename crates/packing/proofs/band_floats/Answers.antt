@@ -33,13 +33,13 @@ loop-b-init c =
 pub loop-b-preserved : goal.loop-b-preserved
 loop-b-preserved c =
     subst (λ (l : List Float). Filled bands (b + 1) l) (sym is)
-    (filled_more bands b c.before.before.before.before.before.before.before.before.before.before.before.loop-b.floats (omega arith) exact c.before.before.before.before.before.before.before.before.before.before.before.loop-b.invariant)
+    (filled_more bands b c.loop-b.floats (omega arith) exact c.loop-b.invariant)
   where
     bands : List Band
-    bands = c.before.before.before.before.before.before.before.before.before.before.before.before.args.bands
+    bands = c.args.bands
 
     b : ℕ
-    b = c.before.before.before.before.before.before.before.before.before.before.before.loop-b.b
+    b = c.loop-b.b
 
     band : Band
     band = get_or bands b zero_band
@@ -53,20 +53,20 @@ loop-b-preserved c =
         }
 
     -- the coefficients are stored as they are
-    is : c.before.put_three.new.0 ≡ with_band c.before.before.before.before.before.before.before.before.before.before.before.loop-b.floats (band_floats * b) band
+    is : c.put_three.new.floats ≡ with_band c.loop-b.floats (band_floats * b) band
     is =
-        c.before.put_three.ensures
+        c.put_three.ensures
         ∙ (λ i.
-        put_three c.before.before.before.before.before.before.before.before.before.before.before.loop-b.floats (band_floats * b)
-        ((c.before.before.before.before.before.before.both.ensures ∙ ap twice (reads_back w32 band.alpha (omega arith))) i)
-        ((c.before.before.before.before.both-in-loop-b.ensures ∙ ap twice (reads_back w32 band.beta (omega arith))) i)
-        ((c.before.before.both-in-loop-b-2.ensures ∙ ap twice (reads_back w32 band.gamma (omega arith))) i))
+        put_three c.loop-b.floats (band_floats * b)
+        ((c.both.ensures ∙ ap twice (reads_back w32 band.alpha (omega arith))) i)
+        ((c.both-in-loop-b.ensures ∙ ap twice (reads_back w32 band.beta (omega arith))) i)
+        ((c.both-in-loop-b-2.ensures ∙ ap twice (reads_back w32 band.gamma (omega arith))) i))
 
 pub returns : goal.returns
 returns c =
     record {
-      size = c.before.loop-b.invariant.size;
-      whole = c.before.loop-b.invariant.whole;
-      first = bands_read c.before.loop-b.floats first_side c.before.before.args.bands (omega arith) (λ b h. c.before.loop-b.invariant.first b (omega arith));
-      second = bands_read c.before.loop-b.floats second_side c.before.before.args.bands (omega arith) (λ b h. c.before.loop-b.invariant.second b (omega arith));
+      size = c.loop-b.invariant.size;
+      whole = c.loop-b.invariant.whole;
+      first = bands_read c.loop-b.floats first_side c.args.bands (omega arith) (λ b h. c.loop-b.invariant.first b (omega arith));
+      second = bands_read c.loop-b.floats second_side c.args.bands (omega arith) (λ b h. c.loop-b.invariant.second b (omega arith));
     }

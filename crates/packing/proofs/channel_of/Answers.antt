@@ -19,37 +19,37 @@ use Rattle.packing.proofs.channel_of.Goals as goal
 pub section_of-section-requires : goal.section_of-section-requires
 section_of-section-requires c =
     subst SectionOfAsks (sym c.section_at.ensures)
-    (section_asks s.args.pair.now s.args.side s.requires c.before.before.loop-b.b (omega arith))
+    (section_asks s.args.pair.now s.args.side s.requires c.loop-b.b (omega arith))
   where
     s : Start
     s = c.before.before.before.before
 
 pub loop-b-preserved : goal.loop-b-preserved
 loop-b-preserved c =
-    tabulated_next c.before.before.before.loop-b.invariant (omega arith)
-    (c.section_of-section.ensures ∙ ap band_section_in c.before.section_at.ensures
-    ∙ section_is s.args.pair.now s.args.side s.requires c.before.before.before.loop-b.b (omega arith))
+    tabulated_next c.loop-b.invariant (omega arith)
+    (c.section_of-section.ensures ∙ ap band_section_in c.section_at.ensures
+    ∙ section_is s.args.pair.now s.args.side s.requires c.loop-b.b (omega arith))
   where
     s : Start
     s = c.before.before.before.before.before
 
 pub whole_of-x1-requires : goal.whole_of-x1-requires
-whole_of-x1-requires c = x1_carries c.before.before.before.before.args.pair.now c.before.before.before.before.args.side c.before.before.before.before.requires
+whole_of-x1-requires c = x1_carries c.args.pair.now c.args.side c.requires
 
 pub whole_of-x2-requires : goal.whole_of-x2-requires
-whole_of-x2-requires c = x2_carries c.before.before.before.before.before.before.args.pair.now c.before.before.before.before.before.before.args.side c.before.before.before.before.before.before.requires
+whole_of-x2-requires c = x2_carries c.args.pair.now c.args.side c.requires
 
 pub whole_of-flag-requires : goal.whole_of-flag-requires
-whole_of-flag-requires c = flag_carries c.before.before.before.before.before.before.before.before.args.pair.now c.before.before.before.before.before.before.before.before.args.side c.before.before.before.before.before.before.before.before.requires
+whole_of-flag-requires c = flag_carries c.args.pair.now c.args.side c.requires
 
 pub returns : goal.returns
 returns c =
     λ i.
     record {
-      x1 = (reads_back w64 c.before.before.before.before.whole_of-x1.result (omega arith) ∙ c.before.before.before.before.whole_of-x1.ensures ∙ ap number (places side below).x1) i;
-      x2 = (reads_back w64 c.before.before.whole_of-x2.result (omega arith) ∙ c.before.before.whole_of-x2.ensures ∙ ap number (places side below).x2) i;
+      x1 = (reads_back w64 c.whole_of-x1.result (omega arith) ∙ c.whole_of-x1.ensures ∙ ap number (places side below).x1) i;
+      x2 = (reads_back w64 c.whole_of-x2.result (omega arith) ∙ c.whole_of-x2.ensures ∙ ap number (places side below).x2) i;
       flag = (reads_back w64 c.whole_of-flag.result (omega arith) ∙ c.whole_of-flag.ensures ∙ ap number (places side below).flag) i;
-      sections = tabulated_done c.before.before.before.before.before.before.before.loop-b.invariant (omega arith) i;
+      sections = tabulated_done c.loop-b.invariant (omega arith) i;
     }
   where
     s : Start

@@ -18,8 +18,8 @@ in-float (negsuc n) h = lt→ltb n (2 ^ prec binary64) h
 
 pub int_to_float-result : goal.int_to_float-result
 int_to_float-result c =
-    subst (λ (z : ℤ). T (in_float binary64 z)) (sym (reads_back w64 c.before.args.number (omega arith)))
-    (in-float c.before.args.number (le_trans c.before.requires (lit≤ tt)))
+    subst (λ (z : ℤ). T (in_float binary64 z)) (sym (reads_back w64 c.args.number (omega arith)))
+    (in-float c.args.number (le_trans c.requires (lit≤ tt)))
 
 pub returns : goal.returns
-returns c = ap float (reads_back w64 c.before.args.number (omega arith))
+returns c = ap float (reads_back w64 c.args.number (omega arith))

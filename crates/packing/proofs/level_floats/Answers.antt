@@ -12,9 +12,9 @@ pub returns : goal.returns
 returns c =
     λ i.
     record {
-      present = (c.before.before.float_of.ensures ∙ ap float (reads_back w64 level.present (omega arith))) i;
+      present = (c.float_of.ensures ∙ ap float (reads_back w64 level.present (omega arith))) i;
       target = (c.float_of-2.ensures ∙ ap float (reads_back w64 level.target (omega arith))) i;
     }
   where
     level : Level
-    level = c.before.before.before.before.args.level
+    level = c.args.level

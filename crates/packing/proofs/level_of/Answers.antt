@@ -10,6 +10,6 @@ pub returns : goal.returns
 returns c =
     λ i.
     record {
-      present = (reads_back w64 c.before.whole_of.result (omega arith) ∙ c.before.whole_of.ensures) i;
+      present = (reads_back w64 c.whole_of.result (omega arith) ∙ c.whole_of.ensures) i;
       target = (reads_back w64 c.whole_of-2.result (omega arith) ∙ c.whole_of-2.ensures) i;
     }

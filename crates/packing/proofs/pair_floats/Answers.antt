@@ -75,14 +75,14 @@ module _ (p : After-put_three) where
   second-exact : Exact second
   second-exact = exact second s.requires.second_fit
 
-  heads-are : p.put_three.last.0 ≡ heads first second
+  heads-are : p.put_three.new.floats ≡ heads first second
   heads-are =
       p.put_three.ensures
       ∙ (λ i.
       put_three (zeros first second) x1_place
-      ((p.before.before.before.before.before.before.before.sides_of.ensures ∙ (λ j. float_sides (kept first.x1 (x1-size first s.requires.first_fit) j) (kept second.x1 (x1-size second s.requires.second_fit) j))) i)
-      ((p.before.before.before.before.sides_of-2.ensures ∙ (λ j. float_sides (kept first.x2 (x2-size first s.requires.first_fit) j) (kept second.x2 (x2-size second s.requires.second_fit) j))) i)
-      ((p.before.sides_of-3.ensures ∙ (λ j. float_sides (kept first.flag (the-flag-size first s.requires.first_fit) j) (kept second.flag (the-flag-size second s.requires.second_fit) j))) i))
+      ((p.sides_of.ensures ∙ (λ j. float_sides (kept first.x1 (x1-size first s.requires.first_fit) j) (kept second.x1 (x1-size second s.requires.second_fit) j))) i)
+      ((p.sides_of-2.ensures ∙ (λ j. float_sides (kept first.x2 (x2-size first s.requires.first_fit) j) (kept second.x2 (x2-size second s.requires.second_fit) j))) i)
+      ((p.sides_of-3.ensures ∙ (λ j. float_sides (kept first.flag (the-flag-size first s.requires.first_fit) j) (kept second.flag (the-flag-size second s.requires.second_fit) j))) i))
 
 pub put_sections-requires : goal.put_sections-requires
 put_sections-requires c =
@@ -99,8 +99,8 @@ put_sections-requires c =
 
 pub returns : goal.returns
 returns c =
-    channels (first p) (second p) (first-exact p) (second-exact p) c.put_sections.new.0
-    (subst (λ (l : List Float). PutSectionsGives l (first p).sections (second p).sections c.put_sections.new.0) (heads-are p) c.put_sections.ensures)
+    channels (first p) (second p) (first-exact p) (second-exact p) c.put_sections.new.pair
+    (subst (λ (l : List Float). PutSectionsGives l (first p).sections (second p).sections c.put_sections.new.pair) (heads-are p) c.put_sections.ensures)
   where
     p : After-put_three
     p = c.before.before.before.before.before

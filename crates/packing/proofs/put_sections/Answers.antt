@@ -32,29 +32,29 @@ loop-b-init c =
 
 pub section_floats-requires : goal.section_floats-requires
 section_floats-requires c =
-    each_get_d SectionFit c.before.before.before.before.args.first cleared_band_section c.before.before.before.before.requires.first_fit c.before.before.before.loop-b.b (omega arith)
+    each_get_d SectionFit c.args.first cleared_band_section c.requires.first_fit c.loop-b.b (omega arith)
 
 pub section_floats-requires-in-loop-b : goal.section_floats-requires-in-loop-b
 section_floats-requires-in-loop-b c =
-    each_get_d SectionFit s.args.second cleared_band_section s.requires.second_fit c.before.before.before.before.before.before.before.loop-b.b (omega arith)
+    each_get_d SectionFit s.args.second cleared_band_section s.requires.second_fit c.loop-b.b (omega arith)
   where
     s : Start
     s = c.before.before.before.before.before.before.before.before
 
 pub put_section-requires-in-loop-b : goal.put_section-requires-in-loop-b
 put_section-requires-in-loop-b c =
-    omega (arith, h.invariant.size, ap length p.put_section.ensures, section_length h.pair (section_floats * h.b) p.before.section_floats.result)
+    omega (arith, h.invariant.size, ap length p.put_section.ensures, section_length h.pair (section_floats * h.b) p.section_floats.result)
   where
     p : After-put_section
     p = c.before.before.before
 
     h : MISSING-At-loop·own c.before.before.before.before.before.before.before.before.before
-    h = c.before.before.before.before.before.before.before.before.loop-b
+    h = c.loop-b
 
 pub loop-b-preserved : goal.loop-b-preserved
 loop-b-preserved c =
     subst (λ (m : List Float). Filled s.args.pair.now s.args.first s.args.second (b + 1) m) (sym is)
-    (filled_more s.args.pair.now s.args.first s.args.second b m (omega arith) c.before.before.before.before.before.before.before.before.before.loop-b.invariant
+    (filled_more s.args.pair.now s.args.first s.args.second b m (omega arith) c.loop-b.invariant
     (each_get_d SectionFit s.args.first cleared_band_section s.requires.first_fit b (omega arith))
     (each_get_d SectionFit s.args.second cleared_band_section s.requires.second_fit b (omega arith)))
   where
@@ -62,17 +62,17 @@ loop-b-preserved c =
     s = c.before.before.before.before.before.before.before.before.before.before
 
     b : ℕ
-    b = c.before.before.before.before.before.before.before.before.before.loop-b.b
+    b = c.loop-b.b
 
     m : List Float
-    m = c.before.before.before.before.before.before.before.before.before.loop-b.pair
+    m = c.loop-b.pair
 
-    is : c.put_section-in-loop-b.new.0 ≡ put_section (put_section m (section_floats * b) (float_section (get_or s.args.first b cleared_band_section))) (section_floats * b + 1) (float_section (get_or s.args.second b cleared_band_section))
+    is : c.put_section-in-loop-b.new.pair ≡ put_section (put_section m (section_floats * b) (float_section (get_or s.args.first b cleared_band_section))) (section_floats * b + 1) (float_section (get_or s.args.second b cleared_band_section))
     is =
         c.put_section-in-loop-b.ensures
         ∙ ap₂ (λ (l : List Float) (z : FloatSection). put_section l (section_floats * b + 1) z)
-        (c.before.before.before.before.put_section.ensures ∙ ap (λ (z : FloatSection). put_section m (section_floats * b) z) c.before.before.before.before.before.section_floats.ensures)
-        c.before.section_floats-in-loop-b.ensures
+        (c.put_section.ensures ∙ ap (λ (z : FloatSection). put_section m (section_floats * b) z) c.section_floats.ensures)
+        c.section_floats-in-loop-b.ensures
 
 pub returns : goal.returns
 returns c =
@@ -80,9 +80,9 @@ returns c =
       size = inv.size;
       whole = inv.whole;
       behind = inv.behind;
-      first = sections_read c.before.loop-b.pair first_side c.before.before.args.first (omega arith) (λ k h. inv.first k (omega arith));
-      second = sections_read c.before.loop-b.pair second_side c.before.before.args.second (omega arith) (λ k h. inv.second k (omega arith));
+      first = sections_read c.loop-b.pair first_side c.args.first (omega arith) (λ k h. inv.first k (omega arith));
+      second = sections_read c.loop-b.pair second_side c.args.second (omega arith) (λ k h. inv.second k (omega arith));
     }
   where
-    inv : Filled c.before.before.args.pair.now c.before.before.args.first c.before.before.args.second c.before.loop-b.b c.before.loop-b.pair
-    inv = c.before.loop-b.invariant
+    inv : Filled c.args.pair.now c.args.first c.args.second c.loop-b.b c.loop-b.pair
+    inv = c.loop-b.invariant

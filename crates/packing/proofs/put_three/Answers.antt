@@ -12,10 +12,10 @@ use Rattle.packing.proofs.put_three.Goals as goal
 pub returns : goal.returns
 unfolding put_three
 returns c =
-    c.before.before.put_sides-3.ensures
+    c.put_sides-3.ensures
     ∙ ap (λ (l : List Float). put_sides l (s.args.at + 4) s.args.c)
-    (c.before.before.before.before.before.before.put_sides-2.ensures
-    ∙ ap (λ (l : List Float). put_sides l (s.args.at + 2) s.args.b) c.before.before.before.before.before.before.before.before.before.before.put_sides.ensures)
+    (c.put_sides-2.ensures
+    ∙ ap (λ (l : List Float). put_sides l (s.args.at + 2) s.args.b) c.put_sides.ensures)
   where
     s : Start
     s = c.before.before.before.before.before.before.before.before.before.before.before.before.before

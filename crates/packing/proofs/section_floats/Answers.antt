@@ -18,19 +18,19 @@ use Rattle.packing.proofs.section_floats.Goals as goal
 pub level_floats-gain-requires : goal.level_floats-gain-requires
 level_floats-gain-requires c =
     record {
-      present_size = word_size_lem c.before.args.section.gain.present c.before.requires.present;
-      target_size = word_size_lem c.before.args.section.gain.target c.before.requires.target;
+      present_size = word_size_lem c.args.section.gain.present c.requires.present;
+      target_size = word_size_lem c.args.section.gain.target c.requires.target;
     }
 
 pub float_of-requires : goal.float_of-requires
 float_of-requires c =
-    subst (λ (z : ℤ). nat_abs z ≤ word_size) (sym (reads_back w64 c.before.before.before.args.section.y1 (omega arith)))
-    (word_size_lem c.before.before.before.args.section.y1 c.before.before.before.requires.y1)
+    subst (λ (z : ℤ). nat_abs z ≤ word_size) (sym (reads_back w64 c.args.section.y1 (omega arith)))
+    (word_size_lem c.args.section.y1 c.requires.y1)
 
 pub float_of-requires-2 : goal.float_of-requires-2
 float_of-requires-2 c =
-    subst (λ (z : ℤ). nat_abs z ≤ word_size) (sym (reads_back w64 c.before.before.before.before.before.args.section.y2 (omega arith)))
-    (word_size_lem c.before.before.before.before.before.args.section.y2 c.before.before.before.before.before.requires.y2)
+    subst (λ (z : ℤ). nat_abs z ≤ word_size) (sym (reads_back w64 c.args.section.y2 (omega arith)))
+    (word_size_lem c.args.section.y2 c.requires.y2)
 
 pub float_of-requires-3 : goal.float_of-requires-3
 float_of-requires-3 c =
@@ -44,11 +44,11 @@ pub returns : goal.returns
 returns c =
     λ i.
     record {
-      y1 = (c.before.before.before.before.float_of.ensures ∙ ap float (reads_back w64 s.y1 (omega arith))) i;
-      y2 = (c.before.before.float_of-2.ensures ∙ ap float (reads_back w64 s.y2 (omega arith))) i;
-      gain = c.before.before.before.before.before.before.level_floats-gain.ensures i;
+      y1 = (c.float_of.ensures ∙ ap float (reads_back w64 s.y1 (omega arith))) i;
+      y2 = (c.float_of-2.ensures ∙ ap float (reads_back w64 s.y2 (omega arith))) i;
+      gain = c.level_floats-gain.ensures i;
       remainder = (c.float_of-3.ensures ∙ ap float (reads_back w64 s.remainder (omega arith))) i;
     }
   where
     s : BandSection
-    s = c.before.before.before.before.before.before.before.before.args.section
+    s = c.args.section

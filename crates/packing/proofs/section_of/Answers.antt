@@ -10,8 +10,8 @@ pub returns : goal.returns
 returns c =
     λ i.
     record {
-      y1 = (reads_back w64 c.before.before.whole_of.result (omega arith) ∙ c.before.before.whole_of.ensures) i;
-      y2 = (reads_back w64 c.before.whole_of-2.result (omega arith) ∙ c.before.whole_of-2.ensures) i;
-      gain = c.before.before.before.level_of-gain.ensures i;
+      y1 = (reads_back w64 c.whole_of.result (omega arith) ∙ c.whole_of.ensures) i;
+      y2 = (reads_back w64 c.whole_of-2.result (omega arith) ∙ c.whole_of-2.ensures) i;
+      gain = c.level_of-gain.ensures i;
       remainder = (reads_back w64 c.whole_of-3.result (omega arith) ∙ c.whole_of-3.ensures) i;
     }

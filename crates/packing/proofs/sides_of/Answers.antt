@@ -11,6 +11,6 @@ pub returns : goal.returns
 returns c =
     λ i.
     record {
-      first = (c.before.float_of.ensures ∙ ap float (reads_back w64 c.before.before.args.first (omega arith))) i;
-      second = (c.float_of-2.ensures ∙ ap float (reads_back w64 c.before.before.args.second (omega arith))) i;
+      first = (c.float_of.ensures ∙ ap float (reads_back w64 c.args.first (omega arith))) i;
+      second = (c.float_of-2.ensures ∙ ap float (reads_back w64 c.args.second (omega arith))) i;
     }

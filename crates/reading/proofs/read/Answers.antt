@@ -13,4 +13,4 @@ returns-then-not-long-bytes c =
 pub returns : goal.returns
 returns c =
     let s = c.before.before.before in
-    lines_read side_letters s.args.bytes.now s.args.given (c.before.if-not-long-bytes.false) c.read_lines.result c.read_lines.ensures
+    lines_read side_letters s.args.bytes.now s.args.given (c.if-not-long-bytes.false) c.read_lines.result c.read_lines.ensures

@@ -14,27 +14,27 @@ use Rattle.reading.proofs.read_bands.Goals as goal
 pub read_band-found-requires : goal.read_band-found-requires
 read_band-found-requires c =
     let s = c.before.before.before.before in
-    (c.before.before.loop-i.invariant.turned.inside, omega (arith, s.requires.1, c.before.before.loop-i.invariant.size_is))
+    (c.loop-i.invariant.turned.inside, omega (arith, s.requires.1, c.loop-i.invariant.size_is))
 
 pub shape_of-set-then-not-accepted : goal.shape_of-set-then-not-accepted
 shape_of-set-then-not-accepted c =
     let o = c.before.before.before in
-    o.read_band-found.ensures.size_is ∙ o.before.before.before.loop-i.invariant.size_is
+    o.read_band-found.ensures.size_is ∙ o.loop-i.invariant.size_is
 
 pub returns-then-not-accepted : goal.returns-then-not-accepted
 returns-then-not-accepted c =
     let o = c.before.before.before in
-    let l = o.before.before.before.loop-i in
-    rows_refused l.invariant 0 (omega arith) (sym (get_or-replicate band_count l.i band_letter 0 (omega arith))) o.read_band-found.ensures c.before.accepted.ensures c.if-not-accepted.true-raw
+    let l = o.loop-i in
+    rows_refused l.invariant 0 (omega arith) (sym (get_or-replicate band_count l.i band_letter 0 (omega arith))) o.read_band-found.ensures c.accepted.ensures c.if-not-accepted.true-raw
 
 pub loop-i-preserved : goal.loop-i-preserved
 loop-i-preserved c =
     let o = c.before.before.before in
-    let l = o.before.before.before.loop-i in
-    rows_next l.invariant 0 (omega arith) (sym (get_or-replicate band_count l.i band_letter 0 (omega arith))) o.read_band-found.ensures c.before.accepted.ensures (band_sound band_letter) refl c.if-not-accepted.false-raw (omega arith)
+    let l = o.loop-i in
+    rows_next l.invariant 0 (omega arith) (sym (get_or-replicate band_count l.i band_letter 0 (omega arith))) o.read_band-found.ensures c.accepted.ensures (band_sound band_letter) refl c.if-not-accepted.false-raw (omega arith)
 
 pub returns : goal.returns
-returns c = rows_done c.before.loop-i.invariant (omega arith)
+returns c = rows_done c.loop-i.invariant (omega arith)
 
 pub loop-i-init : goal.loop-i-init
 loop-i-init c =
@@ -42,4 +42,4 @@ loop-i-init c =
 
 pub shape_of-set : goal.shape_of-set
 shape_of-set c =
-    c.before.loop-i.invariant.size_is
+    c.loop-i.invariant.size_is

@@ -11,7 +11,7 @@ use Rattle.reading.proofs.read_front.Goals as goal
 pub returns-then-not-accepted : goal.returns-then-not-accepted
 returns-then-not-accepted c =
     let s = c.before.before.before.before.before.before in
-    volume_refused s.args.bytes.now c.before.before.before.read_volume-first.ensures s.requires.0 s.requires.1 (sym c.before.accepted.ensures ∙ c.if-not-accepted.true)
+    volume_refused s.args.bytes.now c.read_volume-first.ensures s.requires.0 s.requires.1 (sym c.accepted.ensures ∙ c.if-not-accepted.true)
 
 -- ---- past the V line
 
@@ -19,17 +19,17 @@ module _ (c : Else-not-accepted) where
   abbrev start : Start
   start = c.before.before.before.before.before.before
 
-  passed : is_accepted c.before.before.before.read_volume-first.result ≡ true
-  passed = sym c.before.accepted.ensures ∙ c.if-not-accepted.false
+  passed : is_accepted c.read_volume-first.result ≡ true
+  passed = sym c.accepted.ensures ∙ c.if-not-accepted.false
 
 pub read_bands-requires : goal.read_bands-requires
 read_bands-requires c =
     let f = c.before in
     let s = start f in
-    (volume_room s.args.bytes.now f.before.before.before.read_volume-first.ensures s.requires.0 (passed f), s.requires.1)
+    (volume_room s.args.bytes.now f.read_volume-first.ensures s.requires.0 (passed f), s.requires.1)
 
 pub returns : goal.returns
 returns c =
     let f = c.before.before.before in
     let s = start f in
-    bands_read s.args.bytes.now f.before.before.before.read_volume-first.ensures s.requires.0 (passed f) s.requires.1 c.before.read_bands.ensures
+    bands_read s.args.bytes.now f.read_volume-first.ensures s.requires.0 (passed f) s.requires.1 c.read_bands.ensures

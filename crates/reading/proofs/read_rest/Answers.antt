@@ -10,11 +10,11 @@ pub returns-then-not-accepted : goal.returns-then-not-accepted
 returns-then-not-accepted c =
     let o = c.before.before in
     let s = o.before.before.before in
-    rest-refused s.args.long side_letters s.args.bytes.now s.args.at o.read_sides-sides.ensures (sym c.before.accepted.ensures ∙ c.if-not-accepted.true)
+    rest-refused s.args.long side_letters s.args.bytes.now s.args.at o.read_sides-sides.ensures (sym c.accepted.ensures ∙ c.if-not-accepted.true)
 
 pub returns : goal.returns
 returns c =
     let f = c.before.before in
     let o = f.before.before in
     let s = o.before.before.before in
-    rest_read s.args.long side_letters s.args.bytes.now s.args.at o.read_sides-sides.ensures (sym f.before.accepted.ensures ∙ f.if-not-accepted.false) c.before.check_taken-verdict.ensures
+    rest_read s.args.long side_letters s.args.bytes.now s.args.at o.read_sides-sides.ensures (sym f.accepted.ensures ∙ f.if-not-accepted.false) c.check_taken-verdict.ensures

@@ -16,22 +16,22 @@ loop-i-init c =
 pub returns-then-not-accepted : goal.returns-then-not-accepted
 returns-then-not-accepted c =
     let o = c.before.before in
-    let l = o.before.before.before.loop-i in
+    let l = o.loop-i in
     let s = o.before.before.before.before.before.before.before in
-    sides-refused s.args.long s.args.letters.now s.args.bytes.now s.args.at l.invariant (omega (arith, s.requires.1)) refl o.read_side-found.ensures (sym c.before.accepted.ensures ∙ c.if-not-accepted.true)
+    sides-refused s.args.long s.args.letters.now s.args.bytes.now s.args.at l.invariant (omega (arith, s.requires.1)) refl o.read_side-found.ensures (sym c.accepted.ensures ∙ c.if-not-accepted.true)
 
 pub loop-i-preserved : goal.loop-i-preserved
 loop-i-preserved c =
     let o = c.before.before.before in
-    let l = o.before.before.before.loop-i in
+    let l = o.loop-i in
     let s = o.before.before.before.before.before.before.before in
-    sides-next s.args.long s.args.letters.now s.args.bytes.now s.args.at l.invariant (omega (arith, s.requires.1)) refl o.read_side-found.ensures (sym c.before.before.accepted.ensures ∙ c.before.if-not-accepted.false)
+    sides-next s.args.long s.args.letters.now s.args.bytes.now s.args.at l.invariant (omega (arith, s.requires.1)) refl o.read_side-found.ensures (sym c.accepted.ensures ∙ c.if-not-accepted.false)
 
 pub returns : goal.returns
 returns c =
     let s = c.before.before.before.before.before in
-    sides_done s.args.long s.args.letters.now s.args.bytes.now s.args.at c.before.loop-i.invariant (omega (arith, s.requires.1))
+    sides_done s.args.long s.args.letters.now s.args.bytes.now s.args.at c.loop-i.invariant (omega (arith, s.requires.1))
 
 pub read_side-found-requires : goal.read_side-found-requires
 read_side-found-requires c =
-    c.before.before.loop-i.invariant.turned.inside
+    c.loop-i.invariant.turned.inside

@@ -11,9 +11,9 @@ returns c =
     record {
       volume =
           record {
-            present = (to_z-of_z {w = w64} (record { sfits = c.before.before.number_at-present.type_inv }) ∙ c.before.before.number_at-present.ensures) i;
-            target = (to_z-of_z {w = w64} (record { sfits = c.before.number_at-target.type_inv }) ∙ c.before.number_at-target.ensures) i;
+            present = (to_z-of_z {w = w64} (record { sfits = c.number_at-present.type_inv }) ∙ c.number_at-present.ensures) i;
+            target = (to_z-of_z {w = w64} (record { sfits = c.number_at-target.type_inv }) ∙ c.number_at-target.ensures) i;
           };
       bands = c.bands_of-bands.ensures i;
-      channels = c.before.before.before.args.channels;
+      channels = c.args.channels;
     }

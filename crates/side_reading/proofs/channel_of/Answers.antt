@@ -9,8 +9,8 @@ pub returns : goal.returns
 returns c =
     λ i.
     record {
-      x1 = (to_z-of_z {w = w64} (record { sfits = c.before.before.before.number_at-x1.type_inv }) ∙ c.before.before.before.number_at-x1.ensures) i;
-      x2 = (to_z-of_z {w = w64} (record { sfits = c.before.before.number_at-x2.type_inv }) ∙ c.before.before.number_at-x2.ensures) i;
-      flag = (to_z-of_z {w = w64} (record { sfits = c.before.number_at-flag.type_inv }) ∙ c.before.number_at-flag.ensures) i;
+      x1 = (to_z-of_z {w = w64} (record { sfits = c.number_at-x1.type_inv }) ∙ c.number_at-x1.ensures) i;
+      x2 = (to_z-of_z {w = w64} (record { sfits = c.number_at-x2.type_inv }) ∙ c.number_at-x2.ensures) i;
+      flag = (to_z-of_z {w = w64} (record { sfits = c.number_at-flag.type_inv }) ∙ c.number_at-flag.ensures) i;
       sections = c.sections_of-sections.ensures i;
     }

@@ -9,11 +9,11 @@ use Rattle.integers.proofs.Machine.{widened, widen_need}
 use Rattle.side_reading.proofs.number_at.Goals.{After-result-1}
 use Rattle.side_reading.proofs.number_at.Goals as goal
 
-fits : (c : After-result-1) → SFits w32 (get_or c.before.args.row.now c.before.args.at (pos 0))
+fits : (c : After-result-1) → SFits w32 (get_or c.args.row.now c.args.at (pos 0))
 fits c = record { sfits = omega arith }
 
 pub overflow_cast-result : goal.overflow_cast-result
-overflow_cast-result c = widen_need tt (get_or c.before.args.row.now c.before.args.at (pos 0)) (fits c)
+overflow_cast-result c = widen_need tt (get_or c.args.row.now c.args.at (pos 0)) (fits c)
 
 pub returns : goal.returns
-returns c = (widened tt (get_or c.before.args.row.now c.before.args.at (pos 0)) (fits c)).reads
+returns c = (widened tt (get_or c.args.row.now c.args.at (pos 0)) (fits c)).reads

@@ -15,7 +15,7 @@ use Rattle.side_reading.proofs.read_lines.Goals as goal
 pub returns-then-not-accepted : goal.returns-then-not-accepted
 returns-then-not-accepted c =
     let s = c.before.before.before.before.before.before in
-    head_refused s.args.long s.args.letter s.args.bytes.now s.args.at c.before.before.before.read_head-first.ensures s.requires.1 s.requires.2 (sym c.before.accepted.ensures ∙ c.if-not-accepted.true)
+    head_refused s.args.long s.args.letter s.args.bytes.now s.args.at c.read_head-first.ensures s.requires.1 s.requires.2 (sym c.accepted.ensures ∙ c.if-not-accepted.true)
 
 -- ---- past the head
 
@@ -23,11 +23,11 @@ module _ (c : Else-not-accepted) where
   abbrev start : Start
   start = c.before.before.before.before.before.before
 
-  passed : is_accepted c.before.before.before.read_head-first.result ≡ true
-  passed = sym c.before.accepted.ensures ∙ c.if-not-accepted.false
+  passed : is_accepted c.read_head-first.result ≡ true
+  passed = sym c.accepted.ensures ∙ c.if-not-accepted.false
 
   room : start.args.at + line_size (length head_ranges) ≤ length start.args.bytes.now
-  room = head_room start.args.long start.args.letter start.args.bytes.now start.args.at c.before.before.before.read_head-first.ensures start.requires.1 passed start.requires.0
+  room = head_room start.args.long start.args.letter start.args.bytes.now start.args.at c.read_head-first.ensures start.requires.1 passed start.requires.0
 
 pub read_sections-requires : goal.read_sections-requires
 read_sections-requires c =
@@ -38,4 +38,4 @@ pub returns : goal.returns
 returns c =
     let f = c.before.before.before in
     let s = start f in
-    sections_read s.args.long s.args.letter s.args.bytes.now s.args.at f.before.before.before.read_head-first.ensures s.requires.1 (passed f) s.requires.2 c.before.read_sections.ensures
+    sections_read s.args.long s.args.letter s.args.bytes.now s.args.at f.read_head-first.ensures s.requires.1 (passed f) s.requires.2 c.read_sections.ensures

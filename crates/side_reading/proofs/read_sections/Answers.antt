@@ -18,17 +18,17 @@ use Rattle.side_reading.proofs.read_sections.Goals as goal
 pub read_section-found-requires : goal.read_section-found-requires
 read_section-found-requires c =
     let s = c.before.before.before.before in
-    let l = c.before.before.loop-i in
+    let l = c.loop-i in
     (l.invariant.turned.inside, omega (arith, s.requires.1, l.invariant.size_is))
 
 pub shape_of-rows-then-not-accepted : goal.shape_of-rows-then-not-accepted
-shape_of-rows-then-not-accepted c = c.before.before.before.read_section-found.ensures.size_is ∙ c.before.before.before.before.before.before.loop-i.invariant.size_is
+shape_of-rows-then-not-accepted c = c.read_section-found.ensures.size_is ∙ c.loop-i.invariant.size_is
 
 pub returns-then-not-accepted : goal.returns-then-not-accepted
 returns-then-not-accepted c =
     let s = c.before.before.before.before.before.before.before.before in
-    let l = c.before.before.before.before.before.before.loop-i in
-    rows_refused l.invariant false (omega arith) (sym (kind_at s.args.long l.i (omega arith))) c.before.before.before.read_section-found.ensures c.before.accepted.ensures c.if-not-accepted.true-raw
+    let l = c.loop-i in
+    rows_refused l.invariant false (omega arith) (sym (kind_at s.args.long l.i (omega arith))) c.read_section-found.ensures c.accepted.ensures c.if-not-accepted.true-raw
 
 -- the place behind a line is a number of a place
 module _ (s : Start) where
@@ -38,18 +38,18 @@ module _ (s : Start) where
 pub overflow_add-next : goal.overflow_add-next
 overflow_add-next c =
     let s = c.before.before.before.before.before.before.before.before.before in
-    let l = c.before.before.before.before.before.before.before.loop-i in
+    let l = c.loop-i in
     omega (arith, bytes_fit s, l.invariant.turned.inside, c.section_line-next.ensures, few_fields (feeds_back l.i && s.args.long))
 
 pub loop-i-preserved : goal.loop-i-preserved
 loop-i-preserved c =
     let s = c.before.before.before.before.before.before.before.before.before in
-    let l = c.before.before.before.before.before.before.before.loop-i in
-    rows_next l.invariant false (omega arith) (sym (kind_at s.args.long l.i (omega arith))) c.before.before.before.before.read_section-found.ensures c.before.before.accepted.ensures
-    (section_sound (feeds_back l.i && s.args.long)) refl c.before.if-not-accepted.false-raw (ap (λ (n : ℕ). l.next + n) c.section_line-next.ensures)
+    let l = c.loop-i in
+    rows_next l.invariant false (omega arith) (sym (kind_at s.args.long l.i (omega arith))) c.read_section-found.ensures c.accepted.ensures
+    (section_sound (feeds_back l.i && s.args.long)) refl c.if-not-accepted.false-raw (ap (λ (n : ℕ). l.next + n) c.section_line-next.ensures)
 
 pub returns : goal.returns
-returns c = rows_done c.before.loop-i.invariant (omega arith)
+returns c = rows_done c.loop-i.invariant (omega arith)
 
 pub loop-i-init : goal.loop-i-init
 loop-i-init c =
@@ -57,4 +57,4 @@ loop-i-init c =
 
 pub shape_of-rows : goal.shape_of-rows
 shape_of-rows c =
-    c.before.loop-i.invariant.size_is
+    c.loop-i.invariant.size_is

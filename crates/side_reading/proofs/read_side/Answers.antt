@@ -23,4 +23,4 @@ overflow_add-next c =
 pub returns : goal.returns
 returns c =
     let s = c.before.before.before.before.before.before.before.before.before.before in
-    side_read s.args.long s.args.letter s.args.bytes.now s.args.at c.before.before.before.before.before.before.read_lines-verdict.ensures s.requires c.before.channel_of-channel.ensures (ap (λ (n : ℕ). s.args.at + n) c.side_lines.ensures)
+    side_read s.args.long s.args.letter s.args.bytes.now s.args.at c.read_lines-verdict.ensures s.requires c.channel_of-channel.ensures (ap (λ (n : ℕ). s.args.at + n) c.side_lines.ensures)

@@ -9,7 +9,7 @@ use Rattle.side_reading.specs.Side.{section_in_rows}
 use Rattle.side_reading.proofs.sections_of.Goals as goal
 
 pub loop-b-preserved : goal.loop-b-preserved
-loop-b-preserved c = tabulated_next c.before.before.loop-b.invariant (omega arith) c.section_at-section.ensures
+loop-b-preserved c = tabulated_next c.loop-b.invariant (omega arith) c.section_at-section.ensures
 
 pub loop-b-init : goal.loop-b-init
 loop-b-init c =
@@ -17,4 +17,4 @@ loop-b-init c =
 
 pub returns : goal.returns
 returns c =
-    tabulated_done c.before.loop-b.invariant (omega arith)
+    tabulated_done c.loop-b.invariant (omega arith)

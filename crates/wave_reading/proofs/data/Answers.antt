@@ -11,8 +11,8 @@ use Rattle.wave_reading.proofs.Inside.{found_within}
 use Rattle.wave_reading.proofs.data.Goals.{After-find-place}
 use Rattle.wave_reading.proofs.data.Goals as goal
 
-within : (c : After-find-place) → c.find-place.result.from + c.find-place.result.size ≤ length c.before.before.args.file.now
-within c = rw c.find-place.ensures (found_within c.before.before.args.file.now)
+within : (c : After-find-place) → c.find-place.result.from + c.find-place.result.size ≤ length c.args.file.now
+within c = rw c.find-place.ensures (found_within c.args.file.now)
 
 -- the part from one place to another, by how many bytes it has
 part : (b : List ℕ) (place : Located) → place ≡ found b → take (place.from + place.size - place.from) (drop place.from b) ≡ data_of b
@@ -24,7 +24,7 @@ part b place e =
 pub returns : goal.returns
 returns c =
     let l = c.before.before in
-    (part l.before.before.args.file.now l.find-place.result l.find-place.ensures, rw (← l.find-place.ensures))
+    (part l.args.file.now l.find-place.result l.find-place.ensures, rw (← l.find-place.ensures))
 
 pub overflow_add-to : goal.overflow_add-to
 overflow_add-to c =

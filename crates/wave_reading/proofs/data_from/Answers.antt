@@ -6,4 +6,4 @@ pub returns-then-seen : goal.returns-then-seen
 returns-then-seen c = simp c.if-seen.true
 
 pub returns : goal.returns
-returns c = simp c.before.if-seen.false c.refused.ensures
+returns c = simp c.if-seen.false c.refused.ensures

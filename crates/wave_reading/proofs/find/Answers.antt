@@ -36,11 +36,11 @@ pub returns-then-not-accepted : goal.returns-then-not-accepted
 returns-then-not-accepted c =
     let a = c.before.before in
     let l = a.before in
-    stop l.before.before.args.file.now l.locate-place.result l.locate-place.ensures c.refused.result c.refused.ensures
-    (sym a.accepted.ensures ∙ not-true a.accepted.result c.before.if-not-accepted.true-raw)
+    stop l.args.file.now l.locate-place.result l.locate-place.ensures c.refused.result c.refused.ensures
+    (sym a.accepted.ensures ∙ not-true a.accepted.result c.if-not-accepted.true-raw)
 
 pub bytes_missing-missing-requires : goal.bytes_missing-missing-requires
-bytes_missing-missing-requires c = let l = c.before.before in rw l.locate-place.ensures (located-within l.before.before.args.file.now)
+bytes_missing-missing-requires c = let l = c.before.before in rw l.locate-place.ensures (located-within l.args.file.now)
 
 pub returns-then-not-accepted-2 : goal.returns-then-not-accepted-2
 returns-then-not-accepted-2 c =
@@ -49,9 +49,9 @@ returns-then-not-accepted-2 c =
     let m = d.before in
     let f = m.before in
     let l = f.before.before in
-    lost l.before.before.args.file.now l.locate-place.result l.locate-place.ensures d.check_data-verdict.result m.bytes_missing-missing.result m.bytes_missing-missing.ensures d.check_data-verdict.ensures
-    (sym f.before.accepted.ensures ∙ not-false f.before.accepted.result f.if-not-accepted.false-raw) c.refused-then-not-accepted-2.result c.refused-then-not-accepted-2.ensures
-    (sym a.accepted-2.ensures ∙ not-true a.accepted-2.result c.before.if-not-accepted-2.true-raw)
+    lost l.args.file.now l.locate-place.result l.locate-place.ensures d.check_data-verdict.result m.bytes_missing-missing.result m.bytes_missing-missing.ensures d.check_data-verdict.ensures
+    (sym f.accepted.ensures ∙ not-false f.accepted.result f.if-not-accepted.false-raw) c.refused-then-not-accepted-2.result c.refused-then-not-accepted-2.ensures
+    (sym a.accepted-2.ensures ∙ not-true a.accepted-2.result c.if-not-accepted-2.true-raw)
 
 pub returns : goal.returns
 returns c =
@@ -60,6 +60,6 @@ returns c =
     let m = d.before in
     let f = m.before in
     let l = f.before.before in
-    kept l.before.before.args.file.now l.locate-place.result l.locate-place.ensures d.check_data-verdict.result m.bytes_missing-missing.result m.bytes_missing-missing.ensures d.check_data-verdict.ensures
-    (sym f.before.accepted.ensures ∙ not-false f.before.accepted.result f.if-not-accepted.false-raw)
+    kept l.args.file.now l.locate-place.result l.locate-place.ensures d.check_data-verdict.result m.bytes_missing-missing.result m.bytes_missing-missing.ensures d.check_data-verdict.ensures
+    (sym f.accepted.ensures ∙ not-false f.accepted.result f.if-not-accepted.false-raw)
     (sym a.accepted-2.ensures ∙ not-false a.accepted-2.result c.if-not-accepted-2.false-raw)

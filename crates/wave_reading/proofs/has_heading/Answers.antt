@@ -10,4 +10,4 @@ returns-then-file-lt-FILE_HEADING c = simp (lt-leb _ _ c.if-file-lt-FILE_HEADING
 
 pub returns : goal.returns
 unfolding has_heading
-returns c = simp (le-leb _ _ c.before.before.if-file-lt-FILE_HEADING.false, c.before.four_at-riff.ensures.0, c.four_at-name.ensures.0)
+returns c = simp (le-leb _ _ c.if-file-lt-FILE_HEADING.false, c.four_at-riff.ensures.0, c.four_at-name.ensures.0)

@@ -7,10 +7,10 @@ pub returns : goal.returns
 unfolding says_format
 returns c =
     simp (
-      c.before.before.before.before.before.two_at-coding.ensures,
-      c.before.before.before.before.two_at-sides.ensures,
-      c.before.before.before.four_at-rate.ensures.0,
-      c.before.before.four_at-byte_rate.ensures.0,
-      c.before.two_at-frame.ensures,
+      c.two_at-coding.ensures,
+      c.two_at-sides.ensures,
+      c.four_at-rate.ensures.0,
+      c.four_at-byte_rate.ensures.0,
+      c.two_at-frame.ensures,
       c.two_at-bits.ensures,
     )

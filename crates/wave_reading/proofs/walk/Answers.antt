@@ -21,7 +21,7 @@ module _ (c : After-four_at-size) where
   head = c.before.before.before
 
   abbrev b : List ℕ
-  b = head.before.before.args.file.now
+  b = head.args.file.now
 
   abbrev at : ℕ
   at = head.loop-at.at
@@ -32,14 +32,14 @@ module _ (c : After-four_at-size) where
   there : at + 8 ≤ length b
   there = omega arith
 
-  data-here : c.before.four_at-name.result ≡ data_name → eqb (four_at b at) data_name ≡ true
-  data-here e = eq-eqb (four_at b at) data_name (sym c.before.four_at-name.ensures.0 ∙ e)
+  data-here : c.four_at-name.result ≡ data_name → eqb (four_at b at) data_name ≡ true
+  data-here e = eq-eqb (four_at b at) data_name (sym c.four_at-name.ensures.0 ∙ e)
 
-  other-here : (c.before.four_at-name.result ≡ data_name → ⊥) → eqb (four_at b at) data_name ≡ false
-  other-here f = ne_eqb (four_at b at) data_name (λ e. f (c.before.four_at-name.ensures.0 ∙ e))
+  other-here : (c.four_at-name.result ≡ data_name → ⊥) → eqb (four_at b at) data_name ≡ false
+  other-here f = ne_eqb (four_at b at) data_name (λ e. f (c.four_at-name.ensures.0 ∙ e))
 
   -- another chunk, that is no misfit, is passed returns
-  passed : (c.before.four_at-name.result ≡ data_name → ⊥) → misfits b at seen ≡ false → chunks (length b) b (next_at b at) (seen || eqb (four_at b at) format) ≡ chunks (length b) b 12 false
+  passed : (c.four_at-name.result ≡ data_name → ⊥) → misfits b at seen ≡ false → chunks (length b) b (next_at b at) (seen || eqb (four_at b at) format) ≡ chunks (length b) b 12 false
   passed f k = sym (walk_next b at seen there (other-here f) k) ∙ head.loop-at.invariant.1
 
 pub loop-at-init : goal.loop-at-init
@@ -50,7 +50,7 @@ returns-then-name-eq-DATA c =
     let h = c.before.before in
     c.data_from.ensures
     ∙ ap (λ (n : ℕ). data_from (at h + 8) n (seen h)) h.four_at-size.ensures.0
-    ∙ sym (walk_data (b h) (at h) (seen h) (there h) (data-here h c.before.if-name-eq-DATA.true))
+    ∙ sym (walk_data (b h) (at h) (seen h) (there h) (data-here h c.if-name-eq-DATA.true))
     ∙ (head h).loop-at.invariant.1
 
 pub returns-then-is_misfit : goal.returns-then-is_misfit
@@ -58,7 +58,7 @@ returns-then-is_misfit c =
     let m = c.before.before in
     let h = m.before.before in
     c.refused.ensures
-    ∙ sym (walk_misfit (b h) (at h) (seen h) (there h) (other-here h m.before.if-name-eq-DATA.false) (sym m.is_misfit.ensures ∙ c.before.if-is_misfit.true))
+    ∙ sym (walk_misfit (b h) (at h) (seen h) (there h) (other-here h m.if-name-eq-DATA.false) (sym m.is_misfit.ensures ∙ c.if-is_misfit.true))
     ∙ (head h).loop-at.invariant.1
 
 pub returns-then-file-at : goal.returns-then-file-at
@@ -67,19 +67,19 @@ returns-then-file-at c =
     let h = m.before.before in
     c.refused-then-file-at.ensures
     ∙ sym (walk_over (b h) (next_at (b h) (at h)) (seen h || eqb (four_at (b h) (at h)) format) (omega (arith, h.four_at-size.ensures.0, there h)))
-    ∙ passed h m.before.if-name-eq-DATA.false (sym m.is_misfit.ensures ∙ c.before.before.if-is_misfit.false)
+    ∙ passed h m.if-name-eq-DATA.false (sym m.is_misfit.ensures ∙ c.if-is_misfit.false)
 
 pub loop-at-preserved : goal.loop-at-preserved
 loop-at-preserved c =
     let m = c.before.before.before in
     let h = m.before.before in (
       search rules,
-      ap₂ (chunks (length (b h)) (b h)) (omega (arith, h.four_at-size.ensures.0)) (c.either-seen.ensures ∙ ap (λ (n : ℕ). seen h || eqb n format) h.before.four_at-name.ensures.0)
-          ∙ passed h m.before.if-name-eq-DATA.false (sym m.is_misfit.ensures ∙ c.before.before.if-is_misfit.false),
+      ap₂ (chunks (length (b h)) (b h)) (omega (arith, h.four_at-size.ensures.0)) (c.either-seen.ensures ∙ ap (λ (n : ℕ). seen h || eqb n format) h.four_at-name.ensures.0)
+          ∙ passed h m.if-name-eq-DATA.false (sym m.is_misfit.ensures ∙ c.if-is_misfit.false),
     )
 
 pub returns : goal.returns
-returns c = c.refused-2.ensures ∙ sym (walk_over c.before.before.before.before.args.file.now c.before.before.loop-at.at c.before.before.loop-at.seen (omega arith)) ∙ c.before.before.loop-at.invariant.1
+returns c = c.refused-2.ensures ∙ sym (walk_over c.args.file.now c.loop-at.at c.loop-at.seen (omega arith)) ∙ c.loop-at.invariant.1
 
 pub overflow_sub-file : goal.overflow_sub-file
 overflow_sub-file c =

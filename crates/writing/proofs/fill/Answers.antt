@@ -11,21 +11,21 @@ use Rattle.writing.proofs.fill.Goals.{Start}
 use Rattle.writing.proofs.fill.Goals as goal
 
 pub returns-then-out-lt-SHEET_SIZE : goal.returns-then-out-lt-SHEET_SIZE
-returns-then-out-lt-SHEET_SIZE c = short_filled side_letters c.before.before.args.unit c.before.before.args.out.now (omega arith)
+returns-then-out-lt-SHEET_SIZE c = short_filled side_letters c.args.unit c.args.out.now (omega arith)
 
 pub returns-then-not-is_fit : goal.returns-then-not-is_fit
 returns-then-not-is_fit c =
-    unfit_filled side_letters c.before.before.before.before.args.unit c.before.before.before.before.args.out.now (omega arith) c.before.is_fit.ensures (c.if-not-is_fit.true)
+    unfit_filled side_letters c.args.unit c.args.out.now (omega arith) c.is_fit.ensures (c.if-not-is_fit.true)
 
 pub put_sheet-requires : goal.put_sheet-requires
 put_sheet-requires c = (
   omega arith,
-  fit_of_test c.before.before.before.before.before.args.unit (sym c.before.before.is_fit.ensures ∙ c.before.if-not-is_fit.false),
+  fit_of_test c.args.unit (sym c.is_fit.ensures ∙ c.if-not-is_fit.false),
 )
 
 pub returns : goal.returns
 returns c =
-    sheet_filled side_letters s.args.unit s.args.out.now (omega arith) c.before.before.before.before.before.is_fit.ensures (c.before.before.before.before.if-not-is_fit.false) (unit_typed s.args.unit _ s.well_formed.0) c.before.before.put_sheet.ensures
+    sheet_filled side_letters s.args.unit s.args.out.now (omega arith) c.is_fit.ensures (c.if-not-is_fit.false) (unit_typed s.args.unit _ s.well_formed.0) c.put_sheet.ensures
   where
     s : Start
     s = c.before.before.before.before.before.before.before.before

@@ -15,14 +15,14 @@ pub loop-i-init : goal.loop-i-init
 loop-i-init c = onward_begin (omega arith)
 
 pub put_band-requires : goal.put_band-requires
-put_band-requires c = omega (arith, onward_size c.before.before.before.loop-i.invariant)
+put_band-requires c = omega (arith, onward_size c.loop-i.invariant)
 
 pub loop-i-preserved : goal.loop-i-preserved
 loop-i-preserved c =
-    onward_next c.before.before.before.before.before.before.loop-i.invariant 0 zero_band (omega arith) (omega arith) (get_or-replicate band_count c.before.before.before.before.before.before.loop-i.i band_letter 0 (omega arith)) c.before.before.put_band.ensures (omega (arith, text_length band_letter (band_row (get_or c.before.before.before.before.before.before.before.before.args.bands c.before.before.before.before.before.before.loop-i.i zero_band))))
+    onward_next c.loop-i.invariant 0 zero_band (omega arith) (omega arith) (get_or-replicate band_count c.loop-i.i band_letter 0 (omega arith)) c.put_band.ensures (omega (arith, text_length band_letter (band_row (get_or c.args.bands c.loop-i.i zero_band))))
 
 pub shape_of-out : goal.shape_of-out
-shape_of-out c = onward_size c.before.loop-i.invariant
+shape_of-out c = onward_size c.loop-i.invariant
 
 pub returns : goal.returns
-returns c = onward_done c.before.loop-i.invariant (omega arith)
+returns c = onward_done c.loop-i.invariant (omega arith)

@@ -19,7 +19,7 @@ use Rattle.writing.proofs.put_sections.Goals as goal
 pub put_section-next-requires : goal.put_section-next-requires
 put_section-next-requires c =
     let s = c.before.before.before.before.before in
-    let l = c.before.before.before.loop-i in
+    let l = c.loop-i in
     let whole = sections_length true s.args.sections (omega arith) in (
       omega (
         arith,
@@ -33,16 +33,16 @@ put_section-next-requires c =
 pub loop-i-preserved : goal.loop-i-preserved
 loop-i-preserved c =
     let s = c.before.before.before.before.before.before.before.before in
-    let l = c.before.before.before.before.before.before.loop-i in
-    let found = c.before.before.put_section-next in
+    let l = c.loop-i in
+    let found = c.put_section-next in
     onward_next l.invariant false cleared_band_section (omega arith) (omega arith) (long_kind_at l.i (omega arith)) found.ensures.0
     (omega (arith, found.ensures.1, section_length (feeds_back l.i) (get_or s.args.sections l.i cleared_band_section)))
 
 pub shape_of-out : goal.shape_of-out
-shape_of-out c = onward_size c.before.loop-i.invariant
+shape_of-out c = onward_size c.loop-i.invariant
 
 pub returns : goal.returns
-returns c = onward_done c.before.loop-i.invariant (omega arith)
+returns c = onward_done c.loop-i.invariant (omega arith)
 
 pub loop-i-init : goal.loop-i-init
 loop-i-init c =

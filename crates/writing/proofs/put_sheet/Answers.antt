@@ -19,8 +19,8 @@ pub returns : goal.returns
 unfolding sheet_of
 returns c =
     sets_behind s.args.out.now (front_form.text (u.volume, u.bands)) ((sides_form true side_letters).text u.channels) 0 front_size (omega (arith, length-append (volume_form.text u.volume) (bands_form.text u.bands), volume-long, bands_length u.bands (unit_typed u _ s.well_formed.1.0).bands))
-    (sets_behind s.args.out.now (volume_form.text u.volume) (bands_form.text u.bands) 0 (line_size (length volume_ranges)) (omega (arith, volume-long)) c.before.before.before.before.before.before.before.before.before.before.before.put_volume.ensures c.before.before.before.before.before.before.before.put_bands.ensures)
-    c.before.before.put_sides.ensures
+    (sets_behind s.args.out.now (volume_form.text u.volume) (bands_form.text u.bands) 0 (line_size (length volume_ranges)) (omega (arith, volume-long)) c.put_volume.ensures c.put_bands.ensures)
+    c.put_sides.ensures
   where
     s : Start
     s = c.before.before.before.before.before.before.before.before.before.before.before.before.before.before.before.before.before

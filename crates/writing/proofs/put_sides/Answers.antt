@@ -22,8 +22,8 @@ loop-i-init c = (omega arith, onward_begin refl)
 
 pub put_side-next-requires : goal.put_side-next-requires
 put_side-next-requires c = (
-  omega (arith, c.before.before.before.before.loop-i.invariant.0, onward_size c.before.before.before.before.loop-i.invariant.1),
-  each_get_d ChannelFit s.args.channels zero_channel s.requires.2 c.before.before.before.before.loop-i.i (omega arith),
+  omega (arith, c.loop-i.invariant.0, onward_size c.loop-i.invariant.1),
+  each_get_d ChannelFit s.args.channels zero_channel s.requires.2 c.loop-i.i (omega arith),
 )
   where
     s : Start
@@ -31,8 +31,8 @@ put_side-next-requires c = (
 
 pub loop-i-preserved : goal.loop-i-preserved
 loop-i-preserved c = (
-  omega (arith, c.before.before.put_side-next.ensures.1, turn.loop-i.invariant.0),
-  onward_next turn.loop-i.invariant.1 0 zero_channel (omega arith) (omega arith) refl c.before.before.put_side-next.ensures.0 (omega (arith, c.before.before.put_side-next.ensures.1, side_length true (get_or s.args.letters.now turn.loop-i.i 0) (get_or s.args.channels turn.loop-i.i zero_channel) ten)),
+  omega (arith, c.put_side-next.ensures.1, turn.loop-i.invariant.0),
+  onward_next turn.loop-i.invariant.1 0 zero_channel (omega arith) (omega arith) refl c.put_side-next.ensures.0 (omega (arith, c.put_side-next.ensures.1, side_length true (get_or s.args.letters.now turn.loop-i.i 0) (get_or s.args.channels turn.loop-i.i zero_channel) ten)),
 )
   where
     s : Start
@@ -45,7 +45,7 @@ loop-i-preserved c = (
     ten = each_get_d TenSections s.args.channels zero_channel (channels_typed s.args.channels _ s.well_formed.1.1.1.0) turn.loop-i.i (omega arith)
 
 pub shape_of-out : goal.shape_of-out
-shape_of-out c = onward_size c.before.loop-i.invariant.1
+shape_of-out c = onward_size c.loop-i.invariant.1
 
 pub returns : goal.returns
-returns c = onward_done c.before.loop-i.invariant.1 (omega arith)
+returns c = onward_done c.loop-i.invariant.1 (omega arith)

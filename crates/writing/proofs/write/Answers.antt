@@ -15,13 +15,13 @@ use Rattle.writing.proofs.write.Goals as goal
 -- what is filled is as long as the buffer, so that its front can be handed back
 module _ (c : After-fill-count) where
   abbrev unit : Unit
-  unit = c.before.before.before.args.unit
+  unit = c.args.unit
 
   abbrev out : List ℕ
-  out = c.before.before.before.args.out.now
+  out = c.args.out.now
 
   abbrev after : List ℕ
-  after = c.fill-count.new.1.0
+  after = c.fill-count.new.out
 
   part : (c.fill-count.result ≤ length after) × (take c.fill-count.result after ≡ filled_part side_letters unit (length out))
   part = part_filled side_letters unit out c.fill-count.ensures.0 c.fill-count.ensures.1 (omega arith)

@@ -33,7 +33,7 @@ falling-is n h = sub_whole binary64 (pos 0) (lit≤ tt) (of_whole binary64 (pos 
 
 module _ (c : After-row_known-1) where
   abbrev s : Start
-  s = c.before
+  s = c.before.before
 
   abbrev slope : ℕ
   slope = s.args.slope
@@ -80,9 +80,9 @@ module _ (c : After-row_known-1) where
 
 pub returns : goal.returns
 unfolding ramp
-returns c = λ i. record { present = next i; target = (s c.before).requires.target_carries.whole i }
+returns c = λ i. record { present = next i; target = (s (goal.at.returns c).After-row_known-1).requires.target_carries.whole i }
   where
-    next : add binary64 (s c.before).args.self.present c.limited.result ≡ float (ramp (slope c.before) (P c.before) (R c.before))
+    next : add binary64 (s (goal.at.returns c).After-row_known-1).args.self.present c.limited.result ≡ float (ramp (slope (goal.at.returns c).After-row_known-1) (P (goal.at.returns c).After-row_known-1) (R (goal.at.returns c).After-row_known-1))
     next =
-        ap₂ (add binary64) (s c.before).requires.present_carries.whole (c.limited.ensures ∙ limited-way c.before)
-        ∙ add_whole binary64 (P c.before) (le_trans (s c.before).requires.present_carries.small (lit≤ tt)) (of_whole binary64 (distance c.before) (distance-size c.before))
+        ap₂ (add binary64) (s (goal.at.returns c).After-row_known-1).requires.present_carries.whole (c.limited.ensures ∙ limited-way (goal.at.returns c).After-row_known-1)
+        ∙ add_whole binary64 (P (goal.at.returns c).After-row_known-1) (le_trans (s (goal.at.returns c).After-row_known-1).requires.present_carries.small (lit≤ tt)) (of_whole binary64 (distance (goal.at.returns c).After-row_known-1) (distance-size (goal.at.returns c).After-row_known-1))
