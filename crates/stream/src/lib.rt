@@ -53,5 +53,5 @@ pub fn keep_tail(input: &mut [u8], from: usize)
     let count = input.len() - from;
     let mut tail = [0u8; frames::FRAME_SIZE];
     tail[..count].copy_from_slice(&input[from..]);
-    input[..count].copy_from_slice(&tail[..count]);
+    copying::put_front(&tail[..count], input);
 }

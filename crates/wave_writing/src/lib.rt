@@ -28,9 +28,8 @@ pub fn write(frames: &[u8], buffer: &mut [u8]) -> Verdict
         return Verdict::OutputShort;
     }
     let front = heading(size);
-    let end = HEADING_SIZE + size;
-    buffer[..HEADING_SIZE].copy_from_slice(&front);
-    buffer[HEADING_SIZE..end].copy_from_slice(frames);
+    copying::put_front(&front, buffer);
+    copying::put_front(frames, &mut buffer[HEADING_SIZE..]);
     Verdict::Accepted
 }
 

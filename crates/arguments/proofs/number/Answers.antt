@@ -8,43 +8,31 @@ use lib.ListN.{length}
 use borrow.Author.Tests.{le-leb, lt-leb}
 use borrow.Author.Rules.{rules}
 use mir.Facts.{to_z-of_z}
+use mir.Syntax.{w32}
 use Rattle.fields.specs.Fields.{field_at, field_read}
 use Rattle.arguments.specs.Meaning.{none, unsigned_of, right_justified, argument_number}
 use Rattle.arguments.proofs.Right.{in_columns}
-use Rattle.arguments.proofs.number.Statement.{statement}
-use Rattle.arguments.proofs.number.Tie as tie
+use Rattle.arguments.proofs.number.Goals as goal
 
-returns : tie.Need-returns
+pub returns-then-text-gt-FIELD_SIZE : goal.returns-then-text-gt-FIELD_SIZE
+unfolding argument_number
+returns-then-text-gt-FIELD_SIZE c =
+    ap (λ (t : Bool). cond t (unsigned_of (field_read (right_justified c.args.text.now))) none)
+    (sym (lt-leb (length c.args.text.now) 9 (omega arith)))
+
+pub returns : goal.returns
 unfolding argument_number
 returns c =
-    ap (λ (t : Bool). cond t (unsigned_of (field_read (right_justified c.before.before.args.text.now))) none)
-    (sym (lt-leb (length c.before.before.args.text.now) 9 (omega arith)))
-
-returns-2 : tie.Need-returns-2
-unfolding argument_number
-returns-2 c =
     c.unsigned.ensures
     ∙ ap unsigned_of
-    (to_z-of_z (record { sfits = c.before.read-field.type-inv })
-    ∙ c.before.read-field.ensures
-    ∙ ap (λ (l : List ℕ). field_read (field_at l 0)) c.before.before.before.before.put_right.ensures
+    (to_z-of_z {w = w32} (record { sfits = c.read_field.type_inv })
+    ∙ c.read_field.ensures
+    ∙ ap (λ (l : List ℕ). field_read (field_at l 0)) c.put_right.ensures
     ∙ ap field_read (in_columns text short))
     ∙ ap (λ (t : Bool). cond t (unsigned_of (field_read (right_justified text))) none) (sym (le-leb (length text) 9 short))
   where
     text : List ℕ
-    text = c.before.before.before.before.before.before.before.before.args.text.now
+    text = c.args.text.now
 
     short : length text ≤ 9
     short = omega arith
-
-pub number-spec : {M : Type 1} → statement M
-number-spec =
-    tie.close
-    (tie.spec
-    returns
-    (λ c. search rules)
-    (λ c κs. search rules)
-    (λ c. search rules)
-    (λ c κs. search rules)
-    (λ c κs. search rules)
-    returns-2)

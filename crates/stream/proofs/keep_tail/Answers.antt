@@ -8,16 +8,13 @@ use lib.Seq.{take-length}
 use Rattle.stream.specs.Advance.{tail_first}
 use Rattle.stream.proofs.Copies.{front_copied, rest_from}
 use borrow.Author.Rules.{rules}
-use Rattle.stream.proofs.keep_tail.Statement.{statement}
-use Rattle.stream.proofs.keep_tail.Tie as tie
-use Rattle.stream.proofs.keep_tail.Reads as reads
-use Rattle.stream.proofs.keep_tail.Lts as lts
-use Rattle.bytes.proofs.copy.Reads as copy-reads
+use Rattle.stream.proofs.keep_tail.Goals.{MISSING-After-copy, Start}
+use Rattle.stream.proofs.keep_tail.Goals as goal
 
 -- what was copied out is the tail
-module _ (c : lts.After-copy (copy-reads.Asked, copy-reads.Learnt) reads.Pre reads.Post) where
-  abbrev start : lts.Start (copy-reads.Asked, copy-reads.Learnt) reads.Pre reads.Post
-  start = c.before.before.before.before.before
+module _ (c : MISSING-After-copy) where
+  abbrev start : Start
+  start = c
 
   abbrev from : ℕ
   from = start.args.from
@@ -34,32 +31,19 @@ module _ (c : lts.After-copy (copy-reads.Asked, copy-reads.Learnt) reads.Pre rea
   tail-length = length-drop from input
 
 slice-aggregate-copy-2 : tie.Need-slice-aggregate-copy-2
-slice-aggregate-copy-2 c = omega (arith, c.before.before.copy.ensures.0, ap length (tail-is c.before.before), ap length (rest_from (from c.before.before) (input c.before.before)))
+slice-aggregate-copy-2 c =
+    let p = (goal.at.slice-aggregate-copy-2 c).MISSING-After-copy in
+    omega (arith, c.copy.ensures.0, ap length (tail-is p), ap length (rest_from (from p) (input p)))
 
 copy-requires-2 : tie.Need-copy-requires-2
-copy-requires-2 c κs = omega (arith, ap length (tail-is c.before.before.before), tail-length c.before.before.before)
+copy-requires-2 c κs = omega (arith, ap length (tail-is c), tail-length c)
 
-returns : tie.Need-returns
+pub returns : goal.returns
 unfolding tail_first
 returns c =
-    c.before.before.copy2.ensures.1
+    c.copy2.ensures.1
     ∙ ap (λ (l : List ℕ). take (length l) l ++ drop (length l) (input s)) (tail-is s)
     ∙ ap (λ (l : List ℕ). l ++ drop (length (drop (from s) (input s))) (input s)) (take-length (drop (from s) (input s)))
   where
-    s : lts.After-copy (copy-reads.Asked, copy-reads.Learnt) reads.Pre reads.Post
-    s = c.before.before.before.before.before.before
-
-pub keep-tail-spec : {M : Type 1} → statement M
-keep-tail-spec =
-    tie.close
-    (tie.spec
-    (λ c. search rules)
-    (λ c. search rules)
-    (λ c. search rules)
-    (λ c. search rules)
-    (λ c κs. search rules)
-    (λ c. search rules)
-    slice-aggregate-copy-2
-    copy-requires-2
-    (λ c. search rules)
-    returns)
+    s : MISSING-After-copy
+    s = c
