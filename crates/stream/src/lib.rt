@@ -52,6 +52,6 @@ pub fn keep_tail(input: &mut [u8], from: usize)
 {
     let count = input.len() - from;
     let mut tail = [0u8; frames::FRAME_SIZE];
-    tail[..count].copy_from_slice(&input[from..]);
+    copying::put_front(&input[from..], &mut tail);
     copying::put_front(&tail[..count], input);
 }

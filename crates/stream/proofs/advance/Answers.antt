@@ -6,7 +6,6 @@ use Prim.Native.Nat.{ℕ, ◌-◌, ◌%◌}
 use native.Mathlib.Nat.{div-add-mod'}
 use native.Mathlib.Omega.{arith}
 use lib.ListN.{length, length-take}
-use borrow.Author.Tests.{not-true, not-false}
 use Rattle.refusals.proofs.Laws.{passed, failed}
 use Rattle.refusals.specs.Numbers.{is_accepted}
 use Rattle.unit.specs.declared.Unit.{Unit}
@@ -14,8 +13,7 @@ use Rattle.blocks.specs.Block.{block_played}
 use Rattle.blocks.specs.declared.Played.{Played}
 use Rattle.stream.specs.declared.Advanced.{Advanced}
 use Rattle.stream.specs.Advance.{whole_count, whole_frames, played_count, advanced, advanced_output}
-use borrow.Author.Rules.{rules}
-use Rattle.stream.proofs.advance.Goals.{After-accepted, Start}
+use Rattle.stream.proofs.advance.Goals.{After-accepted}
 use Rattle.stream.proofs.advance.Goals as goal
 
 pub slice_bounds-play-end : goal.slice_bounds-play-end
@@ -23,17 +21,14 @@ slice_bounds-play-end c = simp length-take (omega arith)
 
 -- the block of the whole frames
 module _ (c : After-accepted) where
-  abbrev start : Start
-  start = c
-
   abbrev u : Unit
-  u = start.args.unit
+  u = c.args.unit
 
   abbrev input : List ℕ
-  input = start.args.input.now
+  input = c.args.input.now
 
   abbrev room : ℕ
-  room = length start.args.output.now
+  room = length c.args.output.now
 
   abbrev test : Bool
   test = is_accepted (block_played 2 u (whole_frames 2 input) room).verdict
@@ -51,25 +46,21 @@ module _ (c : After-accepted) where
       let e = c.play-block.ensures.0 in
       λ i. record { verdict = (e i).verdict; unit = (e i).unit; played = count i; held = (rest ∙ ap (λ (k : ℕ). length input - k) count) i }
 
-  output-is : c.play-block.new.1.1.0 ≡ advanced_output 2 u input start.args.output.now
+  output-is : c.play-block.new.output ≡ advanced_output 2 u input c.args.output.now
   unfolding advanced_output
   output-is = c.play-block.ensures.1
 
 pub returns-then-not-accepted : goal.returns-then-not-accepted
-returns-then-not-accepted c = (
-  answer-is a 0 (length (input a)) (failed (test a) (whole_count 2 (input a)) 0 (sym (test-is a) ∙ not-true a.accepted.result c.if-not-accepted.true-raw)) (omega arith),
-  output-is a,
-)
-  where
-    a : After-accepted
-    a = c
+returns-then-not-accepted c =
+    let p = (goal.at.returns-then-not-accepted c).After-accepted in (
+      answer-is p 0 (length (input p)) (failed (test p) (whole_count 2 (input p)) 0 (sym (test-is p) ∙ c.if-not-accepted.true)) (omega arith),
+      output-is p,
+    )
 
 pub returns : goal.returns
-returns c = (
-  answer-is a (whole_count 2 (input a)) (length (input a) % 4) (passed (test a) (whole_count 2 (input a)) 0 (sym (test-is a) ∙ not-false a.accepted.result c.if-not-accepted.false-raw))
-      (omega (arith, div-add-mod' (length (input a)) 4)),
-  output-is a,
-)
-  where
-    a : After-accepted
-    a = c
+returns c =
+    let p = (goal.at.returns c).After-accepted in (
+      answer-is p (whole_count 2 (input p)) (length (input p) % 4) (passed (test p) (whole_count 2 (input p)) 0 (sym (test-is p) ∙ c.if-not-accepted.false))
+          (omega (arith, div-add-mod' (length (input p)) 4)),
+      output-is p,
+    )
