@@ -17,4 +17,4 @@ returns c =
     ∙ (λ i. sets s.args.out.now s.args.at (line_text band_letter (reads_back w32 s.args.band.alpha (omega arith) i ∷ reads_back w32 s.args.band.beta (omega arith) i ∷ reads_back w32 s.args.band.gamma (omega arith) i ∷ [])))
   where
     s : Start
-    s = c.before.before.before.before.before.before.before.before.before
+    s = c

@@ -34,11 +34,13 @@ module _ (c : After-slice_known-in-loop-i-1) where
   number_is = reads_back w32 (get_or row i (pos 0)) (omega arith)
 
 pub loop-i-preserved : goal.loop-i-preserved
-loop-i-preserved c = (
+loop-i-preserved c =
+    let p = (goal.at.loop-i-preserved c).After-slice_known-in-loop-i-1 in
+    (
   search rules,
   c.put_field.ensures
-      ∙ ap₂ (λ (l : List ℕ) (z : ℤ). sets l (at c + field_size * i c) (field z)) c.loop-i.invariant.1 (number_is c)
-      ∙ field_put c.args.out.now (at c) (row c) (i c) (omega arith),
+      ∙ ap₂ (λ (l : List ℕ) (z : ℤ). sets l (at p + field_size * i p) (field z)) c.loop-i.invariant.1 (number_is p)
+      ∙ field_put c.args.out.now (at p) (row p) (i p) (omega arith),
 )
 
 pub shape_of-out : goal.shape_of-out

@@ -14,4 +14,4 @@ returns c =
     ∙ (λ i. sets s.args.out.now s.args.at (line_text s.args.letter (to_z-of_z s.ranges.x1 i ∷ to_z-of_z s.ranges.x2 i ∷ to_z-of_z s.ranges.flag i ∷ [])))
   where
     s : Start
-    s = c.before.before.before.before.before.before
+    s = c

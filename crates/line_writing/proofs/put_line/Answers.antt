@@ -36,8 +36,9 @@ module _ (c : After-slice_known-2-1) where
 
 pub returns : goal.returns
 returns c =
-    ap (λ (l : List ℕ). set l (at c + 1 + field_size * length (row c)) line_feed) c.put_fields.ensures
-    ∙ parts_put s.args.out.now (at c) s.args.letter (joined field (row c)) line_feed (at c + 1 + field_size * length (row c)) (fields-end c)
+    let p = (goal.at.returns c).After-slice_known-2-1 in
+    ap (λ (l : List ℕ). set l (at p + 1 + field_size * length (row p)) line_feed) c.put_fields.ensures
+    ∙ parts_put s.args.out.now (at p) s.args.letter (joined field (row p)) line_feed (at p + 1 + field_size * length (row p)) (fields-end p)
   where
     s : Start
-    s = c.before.before.before.before.before
+    s = c

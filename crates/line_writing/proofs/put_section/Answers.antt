@@ -41,35 +41,39 @@ module _ (s : Start) where
 -- ---- the needs
 
 pub overflow_cast-y1 : goal.overflow_cast-y1
-overflow_cast-y1 c = narrow_need c.args.section.y1 (y1-size c.before.before.before)
+overflow_cast-y1 c = narrow_need c.args.section.y1 (y1-size c)
 
 pub overflow_cast-y2 : goal.overflow_cast-y2
-overflow_cast-y2 c = narrow_need c.args.section.y2 (y2-size c.before.before.before.before.before)
+overflow_cast-y2 c = narrow_need c.args.section.y2 (y2-size c)
 
 pub overflow_cast-present : goal.overflow_cast-present
-overflow_cast-present c = narrow_need c.args.section.gain.present (present-size c.before.before.before.before.before.before.before)
+overflow_cast-present c = narrow_need c.args.section.gain.present (present-size c)
 
 pub overflow_cast-target : goal.overflow_cast-target
-overflow_cast-target c = narrow_need c.args.section.gain.target (target-size c.before.before.before.before.before.before.before.before.before)
+overflow_cast-target c = narrow_need c.args.section.gain.target (target-size c)
 
 pub overflow_cast-remainder : goal.overflow_cast-remainder
-overflow_cast-remainder c = narrow_need c.args.section.remainder (remainder-small c.before.before.before.before.before.before.before.before.before.before.before)
+overflow_cast-remainder c = narrow_need c.args.section.remainder (remainder-small c)
 
 -- the line has at most five fields
 few : (c : After-section_fields-count) → c.section_fields-count.result ≤ row_size
 few c = omega (arith, c.section_fields-count.ensures, few_fields c.args.fifth)
 
 pub slice_bounds-row-end : goal.slice_bounds-row-end
-slice_bounds-row-end c = few c.before
+slice_bounds-row-end c =
+    let p = (goal.at.slice_bounds-row-end c).After-section_fields-count in
+    few p
 
 pub slice_bounds-put_line-end : goal.slice_bounds-put_line-end
-slice_bounds-put_line-end c = simp length-take (omega (arith, few c.before.before))
+slice_bounds-put_line-end c =
+    let p = (goal.at.slice_bounds-put_line-end c).After-section_fields-count in
+    simp length-take (omega (arith, few p))
 
 pub put_line-requires : goal.put_line-requires
 put_line-requires c = omega (arith, slice_bounds-put_line-end c, c.section_fields-count.ensures, c.requires.0)
 
 pub overflow_add-result : goal.overflow_add-result
-overflow_add-result c = omega (arith, c.section_line.ensures, behind-fits c.before.before.before.before.before.before.before.before.before.before.before.before.before.before.before.before.before.before)
+overflow_add-result c = omega (arith, c.section_line.ensures, behind-fits c)
 
 pub returns : goal.returns
 returns c = (
@@ -80,4 +84,4 @@ returns c = (
 )
   where
     s : Start
-    s = c.before.before.before.before.before.before.before.before.before.before.before.before.before.before.before.before.before.before
+    s = c

@@ -25,10 +25,10 @@ module _ (s : Start) where
 -- ---- the needs
 
 pub overflow_cast-present : goal.overflow_cast-present
-overflow_cast-present c = narrow_need c.args.volume.present (present-size c.before.before.before)
+overflow_cast-present c = narrow_need c.args.volume.present (present-size c)
 
 pub overflow_cast-target : goal.overflow_cast-target
-overflow_cast-target c = narrow_need c.args.volume.target (target-size c.before.before.before.before.before)
+overflow_cast-target c = narrow_need c.args.volume.target (target-size c)
 
 pub returns : goal.returns
 returns c =
@@ -36,4 +36,4 @@ returns c =
     ∙ (λ i. sets s.args.out.now s.args.at (line_text volume_letter (narrow_reads s.args.volume.present (present-size s) i ∷ narrow_reads s.args.volume.target (target-size s) i ∷ [])))
   where
     s : Start
-    s = c.before.before.before.before.before.before.before.before.before.before
+    s = c

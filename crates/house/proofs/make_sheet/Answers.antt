@@ -13,24 +13,11 @@ use Rattle.loading.proofs.Laws.{loaded_fit}
 use Rattle.sheet.specs.Sheet.{side_letters, sheet_size}
 use Rattle.writing.specs.Written.{filled_part}
 use Rattle.roundtrip.proofs.Holds.{part_is_sheet}
-use Rattle.house.proofs.make_sheet.Statement.{statement}
-use Rattle.house.proofs.make_sheet.Tie as tie
+use Rattle.house.proofs.make_sheet.Goals as goal
 
-hand-out-requires : tie.Need-hand-out-requires
-hand-out-requires c κs =
-    c.before.write.ensures.0
+pub hand_out-requires : goal.hand_out-requires
+hand_out-requires c =
+    c.write-part.ensures.0
     ∙ ap (λ (u : Unit). filled_part side_letters u (sheet_size side_letters))
-    (ap (λ (l : Loaded). l.unit) c.before.before.before.before.load.ensures ∙ ap (λ (set : List ℤ). (loaded set).unit) c.before.before.before.before.before.before.house-set.ensures)
+    (ap (λ (l : Loaded). l.unit) c.load-loaded.ensures ∙ ap (λ (set : List ℤ). (loaded set).unit) c.house_set-set.ensures)
     ∙ part_is_sheet side_letters (loaded house_set).unit (sheet_size side_letters) (test_of_fit (loaded house_set).unit (loaded_fit house_set)) (lit≤ tt)
-
-pub make-sheet-spec : {M : Type 1} → statement M
-make-sheet-spec =
-    tie.close
-    (tie.spec
-    (λ c κs. search rules)
-    (λ c. search rules)
-    (λ c κs. search rules)
-    (λ c. search rules)
-    (λ c κs. search rules)
-    hand-out-requires
-    (λ c. search rules))

@@ -8,24 +8,20 @@ use Rattle.refusals.specs.Numbers.{unless}
 use Rattle.refusals.specs.declared.Verdict.TheVariants.{Accepted, InputLength}
 use Rattle.decisions.specs.declared.PassEnd.{PassEnd}
 use Rattle.decisions.specs.Decisions.{ending_of}
-use Rattle.decisions.proofs.ending.Statement.{statement}
-use Rattle.decisions.proofs.ending.Tie as tie
+use Rattle.decisions.proofs.ending.Goals as goal
 
 -- the end of a pass, by whether sound was lost and whether nothing is held
 abbrev told : Bool → Bool → PassEnd
 told lost none = record { is_saved = not lost; verdict = cond lost Accepted (unless none InputLength Accepted) }
 
-returns : tie.Need-returns
+pub returns-then-is_lost : goal.returns-then-is_lost
 unfolding ending_of
-returns c = ap (λ (lost : Bool). told lost (eqb c.before.args.held 0)) (sym c.if1.true)
+returns-then-is_lost c = ap (λ (lost : Bool). told lost (eqb c.args.held 0)) (sym c.if-is_lost.true)
 
-returns-2 : tie.Need-returns-2
+pub returns-then-held-gt0 : goal.returns-then-held-gt0
 unfolding ending_of
-returns-2 c = ap₂ told (sym c.before.if1.false) (sym (ne_eqb c.before.before.args.held 0 (λ e. absurd (omega (arith, e)))))
+returns-then-held-gt0 c = ap₂ told (sym c.if-is_lost.false) (sym (ne_eqb c.args.held 0 (λ e. absurd (omega (arith, e)))))
 
-returns-3 : tie.Need-returns-3
+pub returns : goal.returns
 unfolding ending_of
-returns-3 c = ap₂ told (sym c.before.if1.false) (sym (eq-eqb c.before.before.args.held 0 (omega arith)))
-
-pub ending-spec : {M : Type 1} → statement M
-ending-spec = tie.close (tie.spec returns returns-2 returns-3)
+returns c = ap₂ told (sym c.if-is_lost.false) (sym (eq-eqb c.args.held 0 (omega arith)))
