@@ -39,72 +39,67 @@ module _ (c : Start) where
 
 pub loop-i-init : goal.loop-i-init
 loop-i-init c =
+    let p = (goal.at.loop-i-init c).Start in
     let args = c.args in
-    none_read_yet (range c.before) args.count args.bytes.now args.at args.slots.now args.place
+    none_read_yet (range p) args.count args.bytes.now args.at args.slots.now args.place
 
 -- ---- the ith field read
 
 module _ (c : After-read_field-number) where
-  abbrev start : Start
-  start = c.before.before.before.before
-
   abbrev bytes : List ℕ
-  bytes = start.args.bytes.now
+  bytes = c.args.bytes.now
 
   abbrev i : ℕ
   i = c.loop-i.i
 
   abbrev here : ℕ
-  here = start.args.at + field_size * i
+  here = c.args.at + field_size * i
 
   abbrev number : ℤ
   number = c.read_field-number.result
 
-  below : i < start.args.count
+  below : i < c.args.count
   below = omega arith
 
   long : here + field_size ≤ length bytes
-  long = omega (arith, start.requires.0)
+  long = omega (arith, c.requires.0)
 
   -- it is refused
   refused : {v : Verdict} → field_verdict (range start) (field_at bytes here) ≡ v → is_accepted v ≡ false
-      → FieldsGive (replicate start.args.count (within start.args.low start.args.high)) (drop start.args.at bytes) start.args.slots.now start.args.place v c.loop-i.slots
+      → FieldsGive (replicate c.args.count (within c.args.low c.args.high)) (drop c.args.at bytes) c.args.slots.now c.args.place v c.loop-i.slots
   refused e f =
       in_words start
-      (read_off (range start) start.args.count bytes start.args.at start.args.slots.now start.args.place c.loop-i.invariant below e f)
+      (read_off (range start) c.args.count bytes c.args.at c.args.slots.now c.args.place c.loop-i.invariant below e f)
 
 pub returns-then-number-eq-NO_NUMBER : goal.returns-then-number-eq-NO_NUMBER
 returns-then-number-eq-NO_NUMBER c =
-    let o = c.before in
-    refused o (field_badly (range (start o)) (bytes o) (here o) (long o) (number o) o.read_field-number.type_inv o.read_field-number.ensures c.if-number-eq-NO_NUMBER.true) refl
+    let p = (goal.at.returns-then-number-eq-NO_NUMBER c).After-read_field-number in
+    refused p (field_badly (range (start c)) (bytes p) (here p) (long p) (number p) c.read_field-number.type_inv c.read_field-number.ensures c.if-number-eq-NO_NUMBER.true) refl
 
 -- ---- its number tested
 
 module _ (c : After-in_range_i32) where
-  abbrev o : After-read_field-number
-  o = c.before.before
-
   tested : (t : Bool) → c.in_range_i32.result ≡ t → field_verdict (range (start o)) (field_at (bytes o) (here o)) ≡ unless t Unfit Accepted
   tested t e =
-      field_tested (range (start o)) (bytes o) (here o) (long o) (number o) o.read_field-number.ok o.read_field-number.ensures c.if-number-eq-NO_NUMBER.false t
+      field_tested (range (start o)) (bytes o) (here o) (long o) (number o) c.read_field-number.ok c.read_field-number.ensures c.if-number-eq-NO_NUMBER.false t
       (sym c.in_range_i32.ensures ∙ e)
 
 pub returns-then-not-in_range_i32 : goal.returns-then-not-in_range_i32
 returns-then-not-in_range_i32 c =
-    let t = c.before in
-    refused (o t) (tested t false (c.if-not-in_range_i32.true)) refl
+    let p = (goal.at.returns-then-not-in_range_i32 c).After-in_range_i32 in
+    refused (o c) (tested p false (c.if-not-in_range_i32.true)) refl
 
 pub loop-i-preserved : goal.loop-i-preserved
 loop-i-preserved c =
-    let t = c.before in
-    let f = o t in
+    let p = (goal.at.loop-i-preserved c).After-in_range_i32 in
+    let f = o c in
     let s = start f in
     read_on (range s) s.args.count (bytes f) s.args.at s.args.slots.now s.args.place f.loop-i.invariant (below f)
-    (tested t true (c.if-not-in_range_i32.false))
-    (field_number (range s) (bytes f) (here f) (long f) (number f) f.read_field-number.ok f.read_field-number.ensures t.if-number-eq-NO_NUMBER.false)
+    (tested p true (c.if-not-in_range_i32.false))
+    (field_number (range s) (bytes f) (here f) (long f) (number f) f.read_field-number.ok f.read_field-number.ensures c.if-number-eq-NO_NUMBER.false)
 
 pub returns : goal.returns
 returns c =
-    let s = c.before.before.before in
-    in_words s
-    (all_read (range s) s.args.count s.args.bytes.now s.args.at s.args.slots.now s.args.place c.loop-i.invariant (omega arith))
+    let p = (goal.at.returns c).Start in
+    in_words p
+    (all_read (range p) c.args.count c.args.bytes.now c.args.at c.args.slots.now c.args.place c.loop-i.invariant (omega arith))
