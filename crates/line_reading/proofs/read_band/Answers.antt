@@ -47,29 +47,33 @@ module _ (c : After-read_fields-middle) where
   abbrev after : List ℤ
   after = c.read_fields-middle.new.slots
 
+  began : is_accepted c.check_letter-front.result ≡ true
+  began = sym c.accepted.ensures ∙ c.if-not-accepted.false
+
+  enough : c.args.at + line_size band_size ≤ length c.args.bytes.now
+  enough = room_from band_letter band_size c.args.bytes.now c.args.at c.requires.0 c.check_letter-front.ensures began
+
   -- any number of nine digits is in its range
-  fields : FieldsGive band_ranges (drop (c.args.at + 1) (bytes o)) c.args.slots.now c.args.place c.read_fields-middle.result after
-  fields = any_fields band_size (drop (c.args.at + 1) (bytes o)) (omega (arith, room o, length-drop (c.args.at + 1) (bytes o))) c.read_fields-middle.ensures
+  fields : FieldsGive band_ranges (drop (c.args.at + 1) c.args.bytes.now) c.args.slots.now c.args.place c.read_fields-middle.result after
+  fields = any_fields band_size (drop (c.args.at + 1) c.args.bytes.now) (omega (arith, enough, length-drop (c.args.at + 1) c.args.bytes.now)) c.read_fields-middle.ensures
 
   -- the numbers stored are the line's
-  there : is_accepted c.read_fields-middle.result ≡ true → take band_size (drop c.args.place after) ≡ field_numbers band_size (drop 1 (drop c.args.at (bytes o)))
+  there : is_accepted c.read_fields-middle.result ≡ true → take band_size (drop c.args.place after) ≡ field_numbers band_size (drop 1 (drop c.args.at c.args.bytes.now))
   there e =
-      numbers_there band_letter band_ranges band_joint (λ l. l) band_size refl (bytes o) c.args.at c.args.slots.now c.args.place c.check_letter-front.ensures (passed o) fields e band_size refl c.requires.1
+      numbers_there band_letter band_ranges band_joint (λ l. l) band_size refl c.args.bytes.now c.args.at c.args.slots.now c.args.place c.check_letter-front.ensures began fields e band_size refl c.requires.1
 
 pub returns-then-not-accepted-2 : goal.returns-then-not-accepted-2
 returns-then-not-accepted-2 c =
     let p = (goal.at.returns-then-not-accepted-2 c).After-read_fields-middle in
-    let s = start (o c) in
-    fields_refused band_letter band_ranges band_joint (λ l. l) band_size refl (bytes (o c)) s.args.at s.args.slots.now s.args.place c.check_letter-front.ensures (passed (o c)) (fields p)
+    fields_refused band_letter band_ranges band_joint (λ l. l) band_size refl c.args.bytes.now c.args.at c.args.slots.now c.args.place c.check_letter-front.ensures (began p) (fields p)
     (sym c.accepted-2.ensures ∙ c.if-not-accepted-2.true)
 
 pub check_end-end-requires : goal.check_end-end-requires
-check_end-end-requires c = room (o c)
+check_end-end-requires c = room (goal.at.check_end-end-requires c).Else-not-accepted
 
 pub returns : goal.returns
 returns c =
     let p = (goal.at.returns c).After-read_fields-middle in
-    let s = start (o c) in
     let e = sym c.accepted-2.ensures ∙ c.if-not-accepted-2.false in
-    line_ended band_letter band_ranges band_joint (λ l. l) band_size refl (bytes (o c)) s.args.at s.args.slots.now s.args.place c.check_letter-front.ensures (passed (o c)) (fields p) e
+    line_ended band_letter band_ranges band_joint (λ l. l) band_size refl c.args.bytes.now c.args.at c.args.slots.now c.args.place c.check_letter-front.ensures (began p) (fields p) e
     (c.first_of.ensures ∙ ap₂ first_of (c.check_band_at-joint.ensures ∙ ap band_joint (there p e)) c.check_end-end.ensures)

@@ -40,8 +40,7 @@ read_head_fields-middle-requires c =
 pub returns-then-not-accepted-2 : goal.returns-then-not-accepted-2
 returns-then-not-accepted-2 c =
     let p = (goal.at.returns-then-not-accepted-2 c).Else-not-accepted in
-    let s = start c in
-    fields_refused s.args.letter head_ranges alone (λ l. l) 3 refl (bytes p) s.args.at s.args.slots.now 0 c.check_letter-front.ensures (passed p) c.read_head_fields-middle.ensures
+    fields_refused c.args.letter head_ranges alone (λ l. l) 3 refl (bytes p) c.args.at c.args.slots.now 0 c.check_letter-front.ensures (passed p) c.read_head_fields-middle.ensures
     (sym c.accepted-2.ensures ∙ c.if-not-accepted-2.true)
 
 pub check_end-requires : goal.check_end-requires
@@ -52,6 +51,5 @@ check_end-requires c =
 pub returns : goal.returns
 returns c =
     let p = (goal.at.returns c).Else-not-accepted in
-    let s = start c in
-    line_ended s.args.letter head_ranges alone (λ l. l) 3 refl (bytes p) s.args.at s.args.slots.now 0 c.check_letter-front.ensures (passed p) c.read_head_fields-middle.ensures
+    line_ended c.args.letter head_ranges alone (λ l. l) 3 refl (bytes p) c.args.at c.args.slots.now 0 c.check_letter-front.ensures (passed p) c.read_head_fields-middle.ensures
     (sym c.accepted-2.ensures ∙ c.if-not-accepted-2.false) c.check_end.ensures

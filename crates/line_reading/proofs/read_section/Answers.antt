@@ -53,8 +53,7 @@ read_section_fields-middle-requires c =
 pub returns-then-not-accepted-2 : goal.returns-then-not-accepted-2
 returns-then-not-accepted-2 c =
     let p = (goal.at.returns-then-not-accepted-2 c).Else-not-accepted in
-    let s = start c in
-    fields_refused section_letter (section_ranges s.args.fifth) alone five_of (count p) (count-is p) (bytes p) s.args.at s.args.slots.now s.args.place c.check_letter-front.ensures (passed p) c.read_section_fields-middle.ensures
+    fields_refused section_letter (section_ranges c.args.fifth) alone five_of (count p) (count-is p) (bytes p) c.args.at c.args.slots.now c.args.place c.check_letter-front.ensures (passed p) c.read_section_fields-middle.ensures
     (sym c.accepted-2.ensures ∙ c.if-not-accepted-2.true)
 
 pub check_end-requires : goal.check_end-requires
@@ -65,6 +64,5 @@ check_end-requires c =
 pub returns : goal.returns
 returns c =
     let p = (goal.at.returns c).Else-not-accepted in
-    let s = start c in
-    line_ended section_letter (section_ranges s.args.fifth) alone five_of (count p) (count-is p) (bytes p) s.args.at s.args.slots.now s.args.place c.check_letter-front.ensures (passed p) c.read_section_fields-middle.ensures
+    line_ended section_letter (section_ranges c.args.fifth) alone five_of (count p) (count-is p) (bytes p) c.args.at c.args.slots.now c.args.place c.check_letter-front.ensures (passed p) c.read_section_fields-middle.ensures
     (sym c.accepted-2.ensures ∙ c.if-not-accepted-2.false) c.check_end.ensures

@@ -42,8 +42,7 @@ pub returns-then-not-accepted-2 : goal.returns-then-not-accepted-2
 unfolding is_volume
 returns-then-not-accepted-2 c =
     let p = (goal.at.returns-then-not-accepted-2 c).Else-not-accepted in
-    let s = start c in
-    fields_refused volume_letter volume_ranges alone (λ l. l) 2 refl (bytes p) s.args.at s.args.slots.now 0 c.check_letter-front.ensures (passed p) c.read_fields-middle.ensures
+    fields_refused volume_letter volume_ranges alone (λ l. l) 2 refl (bytes p) c.args.at c.args.slots.now 0 c.check_letter-front.ensures (passed p) c.read_fields-middle.ensures
     (sym c.accepted-2.ensures ∙ c.if-not-accepted-2.true)
 
 pub check_end-requires : goal.check_end-requires
@@ -55,6 +54,5 @@ pub returns : goal.returns
 unfolding is_volume
 returns c =
     let p = (goal.at.returns c).Else-not-accepted in
-    let s = start c in
-    line_ended volume_letter volume_ranges alone (λ l. l) 2 refl (bytes p) s.args.at s.args.slots.now 0 c.check_letter-front.ensures (passed p) c.read_fields-middle.ensures
+    line_ended volume_letter volume_ranges alone (λ l. l) 2 refl (bytes p) c.args.at c.args.slots.now 0 c.check_letter-front.ensures (passed p) c.read_fields-middle.ensures
     (sym c.accepted-2.ensures ∙ c.if-not-accepted-2.false) c.check_end.ensures
