@@ -24,11 +24,11 @@ pub loop-p-init : goal.loop-p-init
 loop-p-init c = paired_begins z.args.bands.now z.args.sides.now z.args.pairs z.args.volume z.args.count z.args.input.now z.args.output.now z.requires
   where
     z : Start
-    z = c.before.before.before
+    z = c.before.before.before.before
 
 module _ (c : In-loop-p) where
   abbrev s : Start
-  s = c.before.before.before.before.before
+  s = c.before.before.before.before.before.before
 
   abbrev p : ℕ
   p = c.loop-p.p
@@ -67,19 +67,19 @@ pub slice_bounds-pair_frames-end : goal.slice_bounds-pair_frames-end
 slice_bounds-pair_frames-end c = omega (arith, has c, sides-length (s c).args.bands.now (s c).args.sides.now (s c).args.pairs (s c).args.volume (s c).args.count (s c).args.input.now (s c).args.output.now (s c).requires (sides c) (out c) c.loop-p.level (p c) (below c) (inv c))
 
 pub overflow_mul-p : goal.overflow_mul-p
-overflow_mul-p c = omega (arith, has c.before)
+overflow_mul-p c = omega (arith, has (goal.at.overflow_mul-p c).In-loop-p)
 
 pub pair_frames-level-requires : goal.pair_frames-level-requires
 pair_frames-level-requires c = pair_asks (s i).args.bands.now (s i).args.sides.now (s i).args.pairs (s i).args.volume (s i).args.count (s i).args.input.now (s i).args.output.now (s i).requires (sides i) (out i) i.loop-p.level (p i) (below i) (inv i)
   where
     i : In-loop-p
-    i = c.before.before
+    i = (goal.at.pair_frames-level-requires c).In-loop-p
 
 pub overflow_add-p : goal.overflow_add-p
-overflow_add-p c = omega (arith, has c.before.before.before.before.before.before.before)
+overflow_add-p c = omega (arith, has (goal.at.overflow_add-p c).In-loop-p)
 
 pub loop-p-smaller : goal.loop-p-smaller
-loop-p-smaller c = omega (arith, below c.before.before.before.before.before.before.before)
+loop-p-smaller c = omega (arith, below (goal.at.loop-p-smaller c).In-loop-p)
 
 pub loop-p-preserved : goal.loop-p-preserved
 loop-p-preserved c =
@@ -87,11 +87,11 @@ loop-p-preserved c =
     (paired_next (s i).args.bands.now (s i).args.sides.now (s i).args.pairs (s i).args.volume (s i).args.count (s i).args.input.now (s i).args.output.now (s i).requires (sides i) (out i) i.loop-p.level (p i) (below i) (inv i) c.pair_frames-level.result c.pair_frames-level.new.pair c.pair_frames-level.new.output c.pair_frames-level.ensures)
   where
     i : In-loop-p
-    i = c.before.before.before.before.before.before.before
+    i = (goal.at.loop-p-preserved c).In-loop-p
 
 module _ (c : After-loop-p) where
   abbrev e : Start
-  e = c.before.before.before.before.before
+  e = c.before.before.before.before.before.before
 
   given : FramesGives e.args.bands.now e.args.sides.now e.args.pairs e.args.volume e.args.count e.args.input.now e.args.output.now c.loop-p.level c.loop-p.sides c.loop-p.output
   given =

@@ -17,7 +17,7 @@ pub loop-k-init : goal.loop-k-init
 loop-k-init c = mixing_begins s.args.bands.now s.args.pair.now s.args.words.now s.args.count s.requires
   where
     s : Start
-    s = c.before.before
+    s = c.before.before.before
 
 module _ (c : In-loop-k) where
   abbrev s : Start
@@ -51,14 +51,14 @@ module _ (c : In-loop-k) where
   has = room bands l words s.args.count s.requires m w k below inv
 
 pub overflow_mul-k : goal.overflow_mul-k
-overflow_mul-k c = omega (arith, below c.before, (s c.before).requires.few)
+overflow_mul-k c = omega (arith, below c, (s c).requires.few)
 
 pub sides_at-x-requires : goal.sides_at-x-requires
-sides_at-x-requires c = omega (arith, has c.before)
+sides_at-x-requires c = omega (arith, has c)
 
 module _ (c : After-sides_at-x) where
   abbrev n : In-loop-k
-  n = c.before.before
+  n = c.before
 
   x-is : c.sides_at-x.result ≡ sides_at (words n) (2 * k n)
   x-is = c.sides_at-x.ensures ∙ (inv n).ahead (k n) (omega arith)
@@ -93,7 +93,7 @@ loop-k-preserved c =
     i = c.before.before.before.before.before.before.before.before.before.before
 
     e : After-sides_at-x
-    e = c.before.before.before.before.before.before.before.before
+    e = c.before.before.before.before.before.before.before.before.before
 
     after : List Float
     after = c.frame-totals.new.pair

@@ -11,20 +11,22 @@ use Rattle.engine.specs.declared.FloatLevel.{FloatLevel}
 use Rattle.frames.specs.Run.{pass_frames}
 use Rattle.frames.proofs.Column.{stored_length}
 use Rattle.frames.proofs.Passing.{Passing, passing_begins, read_asks, mix_asks, put_asks, passing_next, passing_ends}
-use Rattle.frames.proofs.pair_frames.Goals.{After-loop-done, After-mix_words, After-pass_frames-n, After-read_words, In-loop-done, Start}
+use Rattle.frames.proofs.pair_frames.Lts as lts
+use Rattle.frames.proofs.pair_frames.Reads as reads
+use Rattle.frames.proofs.pair_frames.Tie as tie
 use Rattle.frames.proofs.pair_frames.Goals as goal
 
 pub loop-done-init : goal.loop-done-init
 loop-done-init c =
     passing_begins z.args.bands.now z.args.pair.now z.args.volume z.args.size z.args.at z.args.count z.args.input.now z.args.output.now z.requires _ (omega arith)
   where
-    z : Start
-    z = c.before.before.before
+    z : lts.Start tie.the-claims reads.Pre reads.Post goal.the-invariant-loop-done goal.the-decreases-loop-done
+    z = c.before.before.before.before
 
 -- ---- a pass
 
-module _ (c : In-loop-done) where
-  abbrev s : Start
+module _ (c : lts.In-loop tie.the-claims reads.Pre reads.Post goal.the-invariant-loop-done goal.the-decreases-loop-done) where
+  abbrev s : lts.Start tie.the-claims reads.Pre reads.Post goal.the-invariant-loop-done goal.the-decreases-loop-done
   s = c.before.before.before.before.before
 
   abbrev bands : List Float
@@ -65,19 +67,19 @@ module _ (c : In-loop-done) where
   here = s.requires.input_has done below
 
 pub overflow_sub-left : goal.overflow_sub-left
-overflow_sub-left c = omega (arith, below c)
+overflow_sub-left c = omega (arith, below c.before)
 
 pub pass_frames-n-requires : goal.pass_frames-n-requires
 pass_frames-n-requires c = tt
 
 pub overflow_mul-from : goal.overflow_mul-from
-overflow_mul-from c = omega (arith, here c.before)
+overflow_mul-from c = omega (arith, here c.before.before)
 
 pub overflow_add-from : goal.overflow_add-from
-overflow_add-from c = omega (arith, here c.before)
+overflow_add-from c = omega (arith, here c.before.before)
 
-module _ (c : After-pass_frames-n) where
-  abbrev i : In-loop-done
+module _ (c : lts.After-pass_frames tie.the-claims reads.Pre reads.Post goal.the-invariant-loop-done goal.the-decreases-loop-done) where
+  abbrev i : lts.In-loop tie.the-claims reads.Pre reads.Post goal.the-invariant-loop-done goal.the-decreases-loop-done
   i = c.before
 
   abbrev n : ℕ
@@ -96,16 +98,16 @@ module _ (c : After-pass_frames-n) where
       one_left = omega (arith, below i)
 
 pub slice_bounds-read_words-end : goal.slice_bounds-read_words-end
-slice_bounds-read_words-end c = sym (inv c.before.before).words_size
+slice_bounds-read_words-end c = sym (inv c.before.before.before).words_size
 
 pub read_words-requires : goal.read_words-requires
-read_words-requires c = read_asks (bands j) (l j) (s j).args.volume (s j).args.size (s j).args.at (s j).args.count (input j) (room j) (s j).requires (m j) (out j) (words j) (level j) (done j) (inv j) (n c.before) (left c.before) (few c.before)
+read_words-requires c = read_asks (bands j) (l j) (s j).args.volume (s j).args.size (s j).args.at (s j).args.count (input j) (room j) (s j).requires (m j) (out j) (words j) (level j) (done j) (inv j) (n c.before.before) (left c.before.before) (few c.before.before)
   where
-    j : In-loop-done
-    j = c.before.before
+    j : lts.In-loop tie.the-claims reads.Pre reads.Post goal.the-invariant-loop-done goal.the-decreases-loop-done
+    j = c.before.before.before
 
-module _ (c : After-read_words) where
-  abbrev p : After-pass_frames-n
+module _ (c : lts.After-read_words tie.the-claims reads.Pre reads.Post goal.the-invariant-loop-done goal.the-decreases-loop-done) where
+  abbrev p : lts.After-pass_frames tie.the-claims reads.Pre reads.Post goal.the-invariant-loop-done goal.the-decreases-loop-done
   p = c.before.before
 
   abbrev w : List Float
@@ -117,14 +119,14 @@ slice_bounds-mix_words-end c = sym c.read_words.ensures.words_size
 pub mix_words-requires : goal.mix_words-requires
 mix_words-requires c = mix_asks (bands j) (l j) (s j).args.volume (s j).args.size (s j).args.at (s j).args.count (input j) (room j) (s j).requires (m j) (out j) (words j) (level j) (done j) (inv j) (n (p r)) (left (p r)) (few (p r)) (w r) r.read_words.ensures
   where
-    r : After-read_words
-    r = c.before.before.before
+    r : lts.After-read_words tie.the-claims reads.Pre reads.Post goal.the-invariant-loop-done goal.the-decreases-loop-done
+    r = c.before.before.before.before
 
-    j : In-loop-done
+    j : lts.In-loop tie.the-claims reads.Pre reads.Post goal.the-invariant-loop-done goal.the-decreases-loop-done
     j = i (p r)
 
-module _ (c : After-mix_words) where
-  abbrev r : After-read_words
+module _ (c : lts.After-mix_words tie.the-claims reads.Pre reads.Post goal.the-invariant-loop-done goal.the-decreases-loop-done) where
+  abbrev r : lts.After-read_words tie.the-claims reads.Pre reads.Post goal.the-invariant-loop-done goal.the-decreases-loop-done
   r = c.before.before.before.before
 
   abbrev after : List Float
@@ -139,33 +141,33 @@ slice_bounds-put_sounds-end c = sym c.mix_words.ensures.words_size
 pub put_sounds-level-requires : goal.put_sounds-level-requires
 put_sounds-level-requires c = put_asks (bands j) (l j) (s j).args.volume (s j).args.size (s j).args.at (s j).args.count (input j) (room j) (s j).requires (m j) (out j) (words j) (level j) (done j) (inv j) (n (p (r q))) (left (p (r q))) (few (p (r q))) (w (r q)) (r q).read_words.ensures (after q) (totals q) q.mix_words.ensures
   where
-    q : After-mix_words
-    q = c.before.before.before.before.before
+    q : lts.After-mix_words tie.the-claims reads.Pre reads.Post goal.the-invariant-loop-done goal.the-decreases-loop-done
+    q = c.before.before.before.before.before.before
 
-    j : In-loop-done
+    j : lts.In-loop tie.the-claims reads.Pre reads.Post goal.the-invariant-loop-done goal.the-decreases-loop-done
     j = i (p (r q))
 
 pub overflow_add-done : goal.overflow_add-done
-overflow_add-done c = omega (arith, left c.before.before.before.before.before.before.before.before.before.before.before.before.before.before, below c.before.before.before.before.before.before.before.before.before.before.before.before.before.before.before)
+overflow_add-done c = omega (arith, left c.before.before.before.before.before.before.before.before.before.before.before.before.before.before.before, below c.before.before.before.before.before.before.before.before.before.before.before.before.before.before.before.before)
 
 pub loop-done-smaller : goal.loop-done-smaller
-loop-done-smaller c = omega (arith, left c.before.before.before.before.before.before.before.before.before.before.before.before.before.before, some c.before.before.before.before.before.before.before.before.before.before.before.before.before.before)
+loop-done-smaller c = omega (arith, left c.before.before.before.before.before.before.before.before.before.before.before.before.before.before.before, some c.before.before.before.before.before.before.before.before.before.before.before.before.before.before.before)
 
 pub loop-done-preserved : goal.loop-done-preserved
 loop-done-preserved c =
     subst (λ (k : ℕ). Passing (bands j) (l j) (s j).args.volume (s j).args.size (s j).args.at (s j).args.count (input j) (room j) (after q) c.put_sounds-level.new.output (totals q) c.put_sounds-level.result k) (add_comm (n (p (r q))) (done j))
     (passing_next (bands j) (l j) (s j).args.volume (s j).args.size (s j).args.at (s j).args.count (input j) (room j) (s j).requires (m j) (out j) (words j) (level j) (done j) (inv j) (n (p (r q))) (left (p (r q))) (few (p (r q))) (w (r q)) (r q).read_words.ensures (after q) (totals q) q.mix_words.ensures c.put_sounds-level.result c.put_sounds-level.new.output c.put_sounds-level.ensures)
   where
-    q : After-mix_words
-    q = c.before.before.before.before.before.before.before.before
+    q : lts.After-mix_words tie.the-claims reads.Pre reads.Post goal.the-invariant-loop-done goal.the-decreases-loop-done
+    q = c.before.before.before.before.before.before.before.before.before
 
-    j : In-loop-done
+    j : lts.In-loop tie.the-claims reads.Pre reads.Post goal.the-invariant-loop-done goal.the-decreases-loop-done
     j = i (p (r q))
 
 -- ---- after the last pass
 
-module _ (c : After-loop-done) where
-  abbrev e : Start
+module _ (c : lts.After-loop tie.the-claims reads.Pre reads.Post goal.the-invariant-loop-done goal.the-decreases-loop-done) where
+  abbrev e : lts.Start tie.the-claims reads.Pre reads.Post goal.the-invariant-loop-done goal.the-decreases-loop-done
   e = c.before.before.before.before.before
 
   last : Passing e.args.bands.now e.args.pair.now e.args.volume e.args.size e.args.at e.args.count e.args.input.now e.args.output.now c.loop-done.pair c.loop-done.output c.loop-done.words c.loop-done.level e.args.count
@@ -174,11 +176,11 @@ module _ (c : After-loop-done) where
       (omega (arith, c.loop-done.invariant.most, c.loop-done-test.false)) c.loop-done.invariant
 
 pub shape_of-pair : goal.shape_of-pair
-shape_of-pair c = (last c).size_is ∙ sym (e c).requires.pair_fit.size
+shape_of-pair c = (last c.before).size_is ∙ sym (e c.before).requires.pair_fit.size
 
 pub shape_of-output : goal.shape_of-output
-shape_of-output c = ap length (last c).bytes ∙ stored_length _ _ _ _ _ _
+shape_of-output c = ap length (last c.before).bytes ∙ stored_length _ _ _ _ _ _
 
 pub returns : goal.returns
 returns c =
-    passing_ends (e c).args.bands.now (e c).args.pair.now (e c).args.volume (e c).args.size (e c).args.at (e c).args.count (e c).args.input.now (e c).args.output.now (e c).requires c.loop-done.pair c.loop-done.output c.loop-done.words c.loop-done.level (last c)
+    passing_ends (e c.before).args.bands.now (e c.before).args.pair.now (e c.before).args.volume (e c.before).args.size (e c.before).args.at (e c.before).args.count (e c.before).args.input.now (e c.before).args.output.now (e c.before).requires c.loop-done.pair c.loop-done.output c.loop-done.words c.loop-done.level (last c.before)

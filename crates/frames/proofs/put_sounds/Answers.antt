@@ -29,8 +29,10 @@ use Rattle.engine.proofs.Carry.{carries, level_back, volume_moves}
 use Rattle.frames.specs.Column.{volume_played, put_sample, columns_stored}
 use Rattle.frames.specs.Run.{first_words, second_words, total_heard}
 use Rattle.frames.proofs.Column.{volume_fit, sample_length, stored_length}
-use Rattle.frames.proofs.put_sounds.Goals.{After-loop-k, After-moved-level, After-output, After-output-in-loop-k, After-put_sample, After-sides_at-total, In-loop-k, Start}
-use Rattle.frames.proofs.put_sounds.Invariants.{Sounding, )}
+use Rattle.frames.proofs.put_sounds.Lts as lts
+use Rattle.frames.proofs.put_sounds.Reads as reads
+use Rattle.frames.proofs.put_sounds.Tie as tie
+use Rattle.frames.proofs.put_sounds.Invariants.{Sounding}
 use Rattle.frames.proofs.put_sounds.Goals as goal
 
 -- after k frames
@@ -39,8 +41,8 @@ pub loop-k-init : goal.loop-k-init
 unfolding volume_played columns_stored
 loop-k-init c = record { most = omega arith; level_is = c.requires.volume_fit.whole; bytes = refl }
 
-module _ (c : In-loop-k) where
-  abbrev s : Start
+module _ (c : lts.In-loop tie.the-claims reads.Pre reads.Post goal.the-invariant-loop-k goal.the-decreases-loop-k) where
+  abbrev s : lts.Start tie.the-claims reads.Pre reads.Post goal.the-invariant-loop-k goal.the-decreases-loop-k
   s = c.before.before.before.before
 
   abbrev totals : List Float
@@ -70,7 +72,8 @@ module _ (c : In-loop-k) where
   here : size * k + (at + 4) ≤ length s.args.output.now
   here = s.requires.has k below
 
-  fit : VolumeFit (volume_played volume k  fit = volume_fit volume k s.requires.volume_fit.fit
+  fit : VolumeFit (volume_played volume k)
+  fit = volume_fit volume k s.requires.volume_fit.fit
 
   next-fit : VolumeFit (volume_played volume (suc k))
   next-fit = volume_fit volume (suc k) s.requires.volume_fit.fit
@@ -79,15 +82,15 @@ module _ (c : In-loop-k) where
   out-length = ap length inv.bytes ∙ stored_length size at (total_heard s.args.volume (first_words totals)) (total_heard s.args.volume (second_words totals)) s.args.output.now k
 
 pub overflow_add-second : goal.overflow_add-second
-overflow_add-second c = omega (arith, here c)
+overflow_add-second c = omega (arith, here c.before)
 
 pub moved-level-requires : goal.moved-level-requires
-moved-level-requires c = subst LevelCarries (sym (inv c).level_is) (volume_moves (volume_played (volume c) (k c)) (fit c))
+moved-level-requires c = subst LevelCarries (sym (inv c.before).level_is) (volume_moves (volume_played (volume c.before) (k c.before)) (fit c.before))
 
 -- ---- the volume has moved
 
-module _ (c : After-moved-level) where
-  abbrev n : In-loop-k
+module _ (c : lts.After-moved tie.the-claims reads.Pre reads.Post goal.the-invariant-loop-k goal.the-decreases-loop-k) where
+  abbrev n : lts.In-loop tie.the-claims reads.Pre reads.Post goal.the-invariant-loop-k goal.the-decreases-loop-k
   n = c.before
 
   level-next : c.moved-level.result ≡ float_level (volume_played (volume n) (suc (k n)))
@@ -104,27 +107,27 @@ module _ (c : After-moved-level) where
   present-whole = ap whole_of present-is ∙ ap (λ (v : Level). v.present) (level_back (volume_played (volume n) (suc (k n))) (next-fit n))
 
 pub overflow_mul-k : goal.overflow_mul-k
-overflow_mul-k c = omega (arith, below c.before, (s c.before).requires.few)
+overflow_mul-k c = omega (arith, below c.before.before, (s c.before.before).requires.few)
 
 pub sides_at-total-requires : goal.sides_at-total-requires
-sides_at-total-requires c = omega (arith, below c.before, (s c.before).requires.few, (s c.before).requires.words_size)
+sides_at-total-requires c = omega (arith, below c.before.before, (s c.before.before).requires.few, (s c.before.before).requires.words_size)
 
 pub overflow_mul-size : goal.overflow_mul-size
-overflow_mul-size c = omega (arith, here c.before.before.before)
+overflow_mul-size c = omega (arith, here c.before.before.before.before)
 
 pub overflow_add-size : goal.overflow_add-size
-overflow_add-size c = omega (arith, here c.before.before.before)
+overflow_add-size c = omega (arith, here c.before.before.before.before)
 
 -- what the output asks, of one side's total
-output-asks : (c : After-sides_at-total) (t : Float) → Carries t total_size → (u : Float) → u ≡ t → OutputAsks c.moved-level.result.present u
+output-asks : (c : lts.After-sides_at tie.the-claims reads.Pre reads.Post goal.the-invariant-loop-k goal.the-decreases-loop-k) (t : Float) → Carries t total_size → (u : Float) → u ≡ t → OutputAsks c.moved-level.result.present u
 output-asks c t h u e = record { volume_carries = present-carries c.before; total_carries = subst (λ (x : Float). Carries x total_size) (sym e) h }
 
 pub output-requires : goal.output-requires
 output-requires c =
-    output-asks c.before (float_at (totals i) (2 * k i)) ((s i).requires.first_totals (k i) (below i)) c.sides_at-total.result.first (ap (λ (x : Sides). x.first) c.sides_at-total.ensures)
+    output-asks c.before.before (float_at (totals i) (2 * k i)) ((s i).requires.first_totals (k i) (below i)) c.sides_at-total.result.first (ap (λ (x : Sides). x.first) c.sides_at-total.ensures)
   where
-    i : In-loop-k
-    i = c.before.before.before
+    i : lts.In-loop tie.the-claims reads.Pre reads.Post goal.the-invariant-loop-k goal.the-decreases-loop-k
+    i = c.before.before.before.before
 
 -- an output is a sample
 module _ (volume m : ℤ) where
@@ -136,30 +139,30 @@ module _ (volume m : ℤ) where
   unfolding output
   output-high = limit_high sample_low sample_high (le_z_yes tt) _
 
-module _ (c : After-output) where
-  abbrev m1 : After-moved-level
+module _ (c : lts.After-output tie.the-claims reads.Pre reads.Post goal.the-invariant-loop-k goal.the-decreases-loop-k) where
+  abbrev m1 : lts.After-moved tie.the-claims reads.Pre reads.Post goal.the-invariant-loop-k goal.the-decreases-loop-k
   m1 = c.before.before.before
 
-  abbrev i1 : In-loop-k
+  abbrev i1 : lts.In-loop tie.the-claims reads.Pre reads.Post goal.the-invariant-loop-k goal.the-decreases-loop-k
   i1 = c.before.before.before.before
 
   first-is : to_z w64 (of_z w64 c.output.result) ≡ total_heard (s i1).args.volume (first_words (totals i1)) (k i1)
   first-is =
-      to_z-of_z (record { sfits = c.output.type_inv })
+      to_z-of_z {w = w64} (record { sfits = c.output.type_inv })
       ∙ c.output.ensures
       ∙ (λ i. output (present-whole m1 i) (nearest (whole_of (c.sides_at-total.ensures i).first) 23))
 
 pub put_sample-requires : goal.put_sample-requires
 put_sample-requires c = (
-  omega (arith, here (i1 c), out-length (i1 c)),
-  subst (λ (z : ℤ). sample_low ≤ℤ z) (sym (first-is c)) (output-low _ _),
-  subst (λ (z : ℤ). z ≤ℤ sample_high) (sym (first-is c)) (output-high _ _),
+  omega (arith, here (i1 c.before), out-length (i1 c.before)),
+  subst (λ (z : ℤ). sample_low ≤ℤ z) (sym (first-is c.before)) (output-low _ _),
+  subst (λ (z : ℤ). z ≤ℤ sample_high) (sym (first-is c.before)) (output-high _ _),
 )
 
 -- ---- the first sample is stored
 
-module _ (c : After-put_sample) where
-  abbrev o1 : After-output
+module _ (c : lts.After-put_sample tie.the-claims reads.Pre reads.Post goal.the-invariant-loop-k goal.the-decreases-loop-k) where
+  abbrev o1 : lts.After-output tie.the-claims reads.Pre reads.Post goal.the-invariant-loop-k goal.the-decreases-loop-k
   o1 = c.before
 
   half_is : c.put_sample.new.output ≡ put_sample (out (i1 o1)) (size (i1 o1) * k (i1 o1) + at (i1 o1)) (total_heard (s (i1 o1)).args.volume (first_words (totals (i1 o1))) (k (i1 o1)))
@@ -169,40 +172,40 @@ module _ (c : After-put_sample) where
   half_length = ap length half_is ∙ sample_length (out (i1 o1)) (size (i1 o1) * k (i1 o1) + at (i1 o1)) _ ∙ out-length (i1 o1)
 
 pub overflow_mul-size-in-loop-k : goal.overflow_mul-size-in-loop-k
-overflow_mul-size-in-loop-k c = omega (arith, here c.before.before.before.before.before.before.before.before)
+overflow_mul-size-in-loop-k c = omega (arith, here c.before.before.before.before.before.before.before.before.before)
 
 pub overflow_add-size-in-loop-k : goal.overflow_add-size-in-loop-k
-overflow_add-size-in-loop-k c = omega (arith, here c.before.before.before.before.before.before.before.before)
+overflow_add-size-in-loop-k c = omega (arith, here c.before.before.before.before.before.before.before.before.before)
 
 pub output-requires-in-loop-k : goal.output-requires-in-loop-k
 output-requires-in-loop-k c =
-    output-asks c.before.before.before.before.before.before (float_at (totals i) (2 * k i + 1)) ((s i).requires.second_totals (k i) (below i)) c.sides_at-total.result.second (ap (λ (x : Sides). x.second) c.sides_at-total.ensures)
+    output-asks c.before.before.before.before.before.before.before (float_at (totals i) (2 * k i + 1)) ((s i).requires.second_totals (k i) (below i)) c.sides_at-total.result.second (ap (λ (x : Sides). x.second) c.sides_at-total.ensures)
   where
-    i : In-loop-k
-    i = c.before.before.before.before.before.before.before.before
+    i : lts.In-loop tie.the-claims reads.Pre reads.Post goal.the-invariant-loop-k goal.the-decreases-loop-k
+    i = c.before.before.before.before.before.before.before.before.before
 
-module _ (c : After-output-in-loop-k) where
-  abbrev i2 : In-loop-k
+module _ (c : lts.After-output3 tie.the-claims reads.Pre reads.Post goal.the-invariant-loop-k goal.the-decreases-loop-k) where
+  abbrev i2 : lts.In-loop tie.the-claims reads.Pre reads.Post goal.the-invariant-loop-k goal.the-decreases-loop-k
   i2 = c.before.before.before.before.before.before.before.before.before
 
   second_is : to_z w64 (of_z w64 c.output-in-loop-k.result) ≡ total_heard (s i2).args.volume (second_words (totals i2)) (k i2)
   second_is =
-      to_z-of_z (record { sfits = c.output-in-loop-k.type_inv })
+      to_z-of_z {w = w64} (record { sfits = c.output-in-loop-k.type_inv })
       ∙ c.output-in-loop-k.ensures
       ∙ (λ i. output (present-whole c.before.before.before.before.before.before.before.before i) (nearest (whole_of (c.sides_at-total.ensures i).second) 23))
 
 pub put_sample-requires-in-loop-k : goal.put_sample-requires-in-loop-k
 put_sample-requires-in-loop-k c = (
-  omega (arith, here (i2 c), half_length c.before.before.before.before),
-  subst (λ (z : ℤ). sample_low ≤ℤ z) (sym (second_is c)) (output-low _ _),
-  subst (λ (z : ℤ). z ≤ℤ sample_high) (sym (second_is c)) (output-high _ _),
+  omega (arith, here (i2 c.before), half_length c.before.before.before.before.before),
+  subst (λ (z : ℤ). sample_low ≤ℤ z) (sym (second_is c.before)) (output-low _ _),
+  subst (λ (z : ℤ). z ≤ℤ sample_high) (sym (second_is c.before)) (output-high _ _),
 )
 
 pub overflow_add-k : goal.overflow_add-k
-overflow_add-k c = omega (arith, below c.before.before.before.before.before.before.before.before.before.before.before.before, (s c.before.before.before.before.before.before.before.before.before.before.before.before).requires.few)
+overflow_add-k c = omega (arith, below c.before.before.before.before.before.before.before.before.before.before.before.before.before, (s c.before.before.before.before.before.before.before.before.before.before.before.before.before).requires.few)
 
 pub loop-k-smaller : goal.loop-k-smaller
-loop-k-smaller c = omega (arith, below c.before.before.before.before.before.before.before.before.before.before.before.before)
+loop-k-smaller c = omega (arith, below c.before.before.before.before.before.before.before.before.before.before.before.before.before)
 
 pub loop-k-preserved : goal.loop-k-preserved
 unfolding columns_stored
@@ -210,18 +213,18 @@ loop-k-preserved c =
     subst (λ (j : ℕ). Sounding (totals i) (s i).args.volume (s i).args.output.now (size i) (at i) (s i).args.count c.put_sample-in-loop-k.new.output c.moved-level.result j) (sym (add-one (k i)))
     (record {
       most = below i;
-      level_is = level-next c.before.before.before.before.before.before.before.before.before.before.before;
+      level_is = level-next c.before.before.before.before.before.before.before.before.before.before.before.before;
       bytes =
           c.put_sample-in-loop-k.ensures
           ∙ ap₂ (λ (l : List ℕ) (z : ℤ). put_sample l (size i * k i + (at i + 2)) z)
-          (half_is c.before.before.before.before.before.before.before ∙ ap (λ (l : List ℕ). put_sample l (size i * k i + at i) (total_heard (s i).args.volume (first_words (totals i)) (k i))) (inv i).bytes)
-          (second_is c.before.before.before);
+          (half_is c.before.before.before.before.before.before.before.before ∙ ap (λ (l : List ℕ). put_sample l (size i * k i + at i) (total_heard (s i).args.volume (first_words (totals i)) (k i))) (inv i).bytes)
+          (second_is c.before.before.before.before);
     })
   where
-    i : In-loop-k
-    i = c.before.before.before.before.before.before.before.before.before.before.before.before
+    i : lts.In-loop tie.the-claims reads.Pre reads.Post goal.the-invariant-loop-k goal.the-decreases-loop-k
+    i = c.before.before.before.before.before.before.before.before.before.before.before.before.before
 
-all : (c : After-loop-k) → c.loop-k.k ≡ c.args.count
+all : (c : lts.After-loop tie.the-claims reads.Pre reads.Post goal.the-invariant-loop-k goal.the-decreases-loop-k) → c.loop-k.k ≡ c.args.count
 all c = omega (arith, c.loop-k.invariant.most, c.loop-k-test.false)
 
 pub shape_of-output : goal.shape_of-output
@@ -230,9 +233,9 @@ shape_of-output c = ap length c.loop-k.invariant.bytes ∙ stored_length _ _ _ _
 pub returns : goal.returns
 returns c =
     record {
-      volume_is = c.loop-k.invariant.level_is ∙ ap (λ (j : ℕ). float_level (volume_played (level_in z.args.volume) j)) (all c);
-      bytes = c.loop-k.invariant.bytes ∙ ap (columns_stored z.args.size z.args.at (total_heard z.args.volume (first_words z.args.totals.now)) (total_heard z.args.volume (second_words z.args.totals.now)) z.args.output.now) (all c);
+      volume_is = c.loop-k.invariant.level_is ∙ ap (λ (j : ℕ). float_level (volume_played (level_in z.args.volume) j)) (all c.before);
+      bytes = c.loop-k.invariant.bytes ∙ ap (columns_stored z.args.size z.args.at (total_heard z.args.volume (first_words z.args.totals.now)) (total_heard z.args.volume (second_words z.args.totals.now)) z.args.output.now) (all c.before);
     }
   where
-    z : Start
-    z = c.before.before.before.before
+    z : lts.Start tie.the-claims reads.Pre reads.Post goal.the-invariant-loop-k goal.the-decreases-loop-k
+    z = c.before.before.before.before.before

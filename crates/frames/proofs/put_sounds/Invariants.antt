@@ -39,12 +39,6 @@ pub record Sounding (totals : List Float) (volume : FloatLevel) (room : List ℕ
 
 
 
-)
-
-
-)
-
-
 abbrev pub invariant-loop-k : goal.invariant-loop-k
 invariant-loop-k l = Sounding l.totals l.initial.level l.initial.output l.size l.at l.count l.output l.level l.k
 

@@ -26,7 +26,7 @@ loop-k-init c = record { most = omega arith; words_size = c.requires.words_size;
 
 module _ (c : In-loop-k) where
   abbrev s : Start
-  s = c.before.before.before.before
+  s = c.before.before.before.before.before
 
   abbrev k : ℕ
   k = c.loop-k.k
@@ -57,32 +57,32 @@ pub word-requires : goal.word-requires
 word-requires c = omega (arith, here c)
 
 pub overflow_mul-size-in-loop-k : goal.overflow_mul-size-in-loop-k
-overflow_mul-size-in-loop-k c = omega (arith, here c.before)
+overflow_mul-size-in-loop-k c = omega (arith, here (goal.at.overflow_mul-size-in-loop-k c).In-loop-k)
 
 pub overflow_add-size-in-loop-k : goal.overflow_add-size-in-loop-k
-overflow_add-size-in-loop-k c = omega (arith, here c.before)
+overflow_add-size-in-loop-k c = omega (arith, here (goal.at.overflow_add-size-in-loop-k c).In-loop-k)
 
 pub word-requires-in-loop-k : goal.word-requires-in-loop-k
-word-requires-in-loop-k c = omega (arith, here c.before)
+word-requires-in-loop-k c = omega (arith, here (goal.at.word-requires-in-loop-k c).In-loop-k)
 
 pub overflow_mul-k : goal.overflow_mul-k
 overflow_mul-k c = omega (arith, below n, (s n).requires.few)
   where
     n : In-loop-k
-    n = c.before.before.before
+    n = (goal.at.overflow_mul-k c).In-loop-k
 
 -- there is room for the words
 room : (n : In-loop-k) → 2 * k n + 1 < length (words n)
 room n = omega (arith, below n, (s n).requires.few, (inv n).words_size)
 
 pub put_sides-requires : goal.put_sides-requires
-put_sides-requires c = omega (arith, room c.before.before.before)
+put_sides-requires c = omega (arith, room (goal.at.put_sides-requires c).In-loop-k)
 
 pub overflow_add-k : goal.overflow_add-k
-overflow_add-k c = omega (arith, below c.before.before.before.before.before.before, (s c.before.before.before.before.before.before).requires.few)
+overflow_add-k c = omega (arith, below (goal.at.overflow_add-k c).In-loop-k, (s (goal.at.overflow_add-k c).In-loop-k).requires.few)
 
 pub loop-k-smaller : goal.loop-k-smaller
-loop-k-smaller c = omega (arith, below c.before.before.before.before.before.before)
+loop-k-smaller c = omega (arith, below (goal.at.loop-k-smaller c).In-loop-k)
 
 pub loop-k-preserved : goal.loop-k-preserved
 loop-k-preserved c =
@@ -95,7 +95,7 @@ loop-k-preserved c =
     }))
   where
     n : In-loop-k
-    n = c.before.before.before.before.before.before
+    n = (goal.at.loop-k-preserved c).In-loop-k
 
     x : Sides
     x = record { first = c.word.result; second = c.word-in-loop-k.result }

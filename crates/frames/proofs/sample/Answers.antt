@@ -56,16 +56,16 @@ overflow_add-bits-2 c = omega (arith, few c)
 
 pub returns-then-bits-lt32768 : goal.returns-then-bits-lt32768
 unfolding sample_of
-returns-then-bits-lt32768 c = (Bits c.before).reads ∙ sym (sample-is c.before ∙ simp (lt-ltb _ _ c.if-bits-lt32768.true))
+returns-then-bits-lt32768 c = (Bits (goal.at.returns-then-bits-lt32768 c).After-shared_slice_known-2-1).reads ∙ sym (sample-is (goal.at.returns-then-bits-lt32768 c).After-shared_slice_known-2-1 ∙ simp (lt-ltb _ _ c.if-bits-lt32768.true))
 
 pub overflow_cast-result-2 : goal.overflow_cast-result-2
-overflow_cast-result-2 c = record { sfits = omega (arith, few c.before) }
+overflow_cast-result-2 c = record { sfits = omega (arith, few (goal.at.overflow_cast-result-2 c).After-shared_slice_known-2-1) }
 
 pub overflow_sub-result : goal.overflow_sub-result
-overflow_sub-result c = binary_need ◌-ℤ◌ (Bits c.before) (literal 65536) (below-fits c.before)
+overflow_sub-result c = binary_need ◌-ℤ◌ (Bits (goal.at.overflow_sub-result c).After-shared_slice_known-2-1) (literal 65536) (below-fits (goal.at.overflow_sub-result c).After-shared_slice_known-2-1)
 
 pub returns : goal.returns
 unfolding sample_of
 returns c =
-    (binary ◌-ℤ◌ (Bits c.before) (literal 65536) (below-fits c.before)).reads
-    ∙ sym (sample-is c.before ∙ simp (le-ltb _ _ c.if-bits-lt32768.false))
+    (binary ◌-ℤ◌ (Bits (goal.at.returns c).After-shared_slice_known-2-1) (literal 65536) (below-fits (goal.at.returns c).After-shared_slice_known-2-1)).reads
+    ∙ sym (sample-is (goal.at.returns c).After-shared_slice_known-2-1 ∙ simp (le-ltb _ _ c.if-bits-lt32768.false))

@@ -41,7 +41,7 @@ pub overflow_mul-result : goal.overflow_mul-result
 overflow_mul-result c = binary_need ◌*ℤ◌ (literal 256) (Sample c) (x_fits c)
 
 pub int_to_float-result : goal.int_to_float-result
-int_to_float-result c = subst (λ (z : ℤ). T (in_float binary64 z)) (sym (x-reads c.before)) (int_in binary64 (x c.before) (le_trans (x-size c.before) (lit≤ tt)))
+int_to_float-result c = subst (λ (z : ℤ). T (in_float binary64 z)) (sym (x-reads (goal.at.int_to_float-result c).After-sample)) (int_in binary64 (x (goal.at.int_to_float-result c).After-sample) (le_trans (x-size (goal.at.int_to_float-result c).After-sample) (lit≤ tt)))
 
 pub returns : goal.returns
-returns c = ap float (x-reads c.before)
+returns c = ap float (x-reads (goal.at.returns c).After-sample)

@@ -8,11 +8,11 @@ use Rattle.bands.specs.Bands.{band_count}
 use Rattle.unit.proofs.PastEnd.{zero_band}
 use Rattle.numbers.specs.Layout.{bands_place, left_place, band_numbers, PutGives}
 use Rattle.numbers.proofs.Put.{put_none, put_entry, put_entries}
-use Rattle.numbers.proofs.put_bands.Invariants.{)}
 use Rattle.numbers.proofs.put_bands.Goals as goal
 
 pub loop-b-init : goal.loop-b-init
-loop-b-init c = (search rules, put_none c.args.out.now bands_place c.requires
+loop-b-init c = (search rules, put_none c.args.out.now bands_place c.requires)
+
 pub put_band-requires : goal.put_band-requires
 put_band-requires c = (c.loop-b.invariant.1.size, omega arith)
 

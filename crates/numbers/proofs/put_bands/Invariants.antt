@@ -10,9 +10,6 @@ use Rattle.numbers.specs.Layout.{bands_place, left_place, band_numbers, PutGives
 use Rattle.numbers.proofs.Put.{put_none, put_entry, put_entries}
 use Rattle.numbers.proofs.put_bands.Given as goal
 
-)
-
-
 abbrev pub invariant-loop-b : goal.invariant-loop-b
 invariant-loop-b l = (l.b ≤ band_count) × PutGives l.initial.out bands_place (joined band_numbers (take l.b l.bands)) (3 * l.b + 2) l.out
 

@@ -12,11 +12,11 @@ use Rattle.lists.specs.Lists.{joined}
 use Rattle.unit.specs.Cleared.{cleared_band_section}
 use Rattle.numbers.specs.Layout.{section_size, section_numbers, PutGives}
 use Rattle.numbers.proofs.Put.{put_none, put_entry, put_entries}
-use Rattle.numbers.proofs.put_sections.Invariants.{)}
 use Rattle.numbers.proofs.put_sections.Goals as goal
 
 pub loop-b-init : goal.loop-b-init
-loop-b-init c = (search rules, subst (λ (n : ℕ). PutGives c.args.out.now c.args.start [] n c.args.out.now) none (put_none c.args.out.now c.args.start c.requires.0)  where
+loop-b-init c = (search rules, subst (λ (n : ℕ). PutGives c.args.out.now c.args.start [] n c.args.out.now) none (put_none c.args.out.now c.args.start c.requires.0))
+  where
     none : c.args.start ≡ c.args.start + section_size * 0
     none = omega arith
 

@@ -14,12 +14,6 @@ use Rattle.numbers.specs.Layout.{section_size, section_numbers, PutGives}
 use Rattle.numbers.proofs.Put.{put_none, put_entry, put_entries}
 use Rattle.numbers.proofs.put_sections.Given as goal
 
-)
-
-
-)
-
-
 abbrev pub invariant-loop-b : goal.invariant-loop-b
 invariant-loop-b l = (l.b ≤ band_count) × PutGives l.initial.out l.start (joined section_numbers (take l.b l.sections)) (l.start + section_size * l.b) l.out
 

@@ -22,7 +22,7 @@ section_of-section-requires c =
     (section_asks s.args.pair.now s.args.side s.requires c.loop-b.b (omega arith))
   where
     s : Start
-    s = c.before.before.before.before
+    s = c.before.before.before.before.before
 
 pub loop-b-preserved : goal.loop-b-preserved
 loop-b-preserved c =
@@ -31,7 +31,7 @@ loop-b-preserved c =
     ∙ section_is s.args.pair.now s.args.side s.requires c.loop-b.b (omega arith))
   where
     s : Start
-    s = c.before.before.before.before.before
+    s = c.before.before.before.before.before.before
 
 pub whole_of-x1-requires : goal.whole_of-x1-requires
 whole_of-x1-requires c = x1_carries c.args.pair.now c.args.side c.requires
@@ -53,7 +53,7 @@ returns c =
     }
   where
     s : Start
-    s = c.before.before.before.before.before.before.before.before.before
+    s = c.before.before.before.before.before.before.before.before.before.before
 
     side : ℕ
     side = s.args.side

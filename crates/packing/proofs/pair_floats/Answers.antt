@@ -45,23 +45,23 @@ pub sides_of-requires : goal.sides_of-requires
 sides_of-requires c = (kept-size s.args.first.x1 (x1-size s.args.first s.requires.first_fit), kept-size s.args.second.x1 (x1-size s.args.second s.requires.second_fit))
   where
     s : Start
-    s = c.before.before.before
+    s = c.before.before.before.before
 
 pub sides_of-requires-2 : goal.sides_of-requires-2
 sides_of-requires-2 c = (kept-size s.args.first.x2 (x2-size s.args.first s.requires.first_fit), kept-size s.args.second.x2 (x2-size s.args.second s.requires.second_fit))
   where
     s : Start
-    s = c.before.before.before.before.before.before
+    s = c.before.before.before.before.before.before.before
 
 pub sides_of-requires-3 : goal.sides_of-requires-3
 sides_of-requires-3 c = (kept-size s.args.first.flag (the-flag-size s.args.first s.requires.first_fit), kept-size s.args.second.flag (the-flag-size s.args.second s.requires.second_fit))
   where
     s : Start
-    s = c.before.before.before.before.before.before.before.before.before
+    s = c.before.before.before.before.before.before.before.before.before.before
 
 module _ (p : After-put_three) where
   abbrev s : Start
-  s = p.before.before.before.before.before.before.before.before.before.before.before
+  s = p.before.before.before.before.before.before.before.before.before.before.before.before
 
   abbrev first : Channel
   first = s.args.first
@@ -95,7 +95,7 @@ put_sections-requires c =
     })
   where
     p : After-put_three
-    p = c.before.before.before.before
+    p = (goal.at.put_sections-requires c).After-put_three
 
 pub returns : goal.returns
 returns c =
@@ -103,4 +103,4 @@ returns c =
     (subst (λ (l : List Float). PutSectionsGives l (first p).sections (second p).sections c.put_sections.new.pair) (heads-are p) c.put_sections.ensures)
   where
     p : After-put_three
-    p = c.before.before.before.before.before
+    p = (goal.at.returns c).After-put_three

@@ -16,7 +16,7 @@ use Rattle.engine.specs.Layout.{section_floats, first_side, second_side, put_sec
 use Rattle.engine.proofs.Store.{section_length}
 use Rattle.engine.proofs.Read.{sections_read}
 use Rattle.packing.proofs.Sections.{Filled, filled_more}
-use Rattle.packing.proofs.put_sections.Goals.{After-put_section, MISSING-At-loop·own, Start}
+use Rattle.packing.proofs.put_sections.Goals.{After-put_section, Start}
 use Rattle.packing.proofs.put_sections.Goals as goal
 
 pub loop-b-init : goal.loop-b-init
@@ -43,13 +43,10 @@ section_floats-requires-in-loop-b c =
 
 pub put_section-requires-in-loop-b : goal.put_section-requires-in-loop-b
 put_section-requires-in-loop-b c =
-    omega (arith, h.invariant.size, ap length p.put_section.ensures, section_length h.pair (section_floats * h.b) p.section_floats.result)
+    omega (arith, c.loop-b.invariant.size, ap length p.put_section.ensures, section_length c.loop-b.pair (section_floats * c.loop-b.b) p.section_floats.result)
   where
     p : After-put_section
     p = c.before.before.before
-
-    h : MISSING-At-loop·own c.before.before.before.before.before.before.before.before.before
-    h = c.loop-b
 
 pub loop-b-preserved : goal.loop-b-preserved
 loop-b-preserved c =

@@ -18,4 +18,4 @@ returns c =
     ∙ ap (λ (l : List Float). put_sides l (s.args.at + 2) s.args.b) c.put_sides.ensures)
   where
     s : Start
-    s = c.before.before.before.before.before.before.before.before.before.before.before.before.before
+    s = c.before.before.before.before.before.before.before.before.before.before.before.before.before.before

@@ -38,7 +38,7 @@ float_of-requires-3 c =
     (le_trans (remainder-size s.args.section.remainder s.requires.remainder) (lit≤ tt))
   where
     s : Start
-    s = c.before.before.before.before.before.before.before
+    s = c.before.before.before.before.before.before.before.before
 
 pub returns : goal.returns
 returns c =
