@@ -14,11 +14,13 @@ use Rattle.frames.specs.Bytes.{frame_count}
 use Rattle.frames.specs.Played.{played, sound}
 use Rattle.blocks.specs.Block.{block_verdict, block_played, block_output}
 use Rattle.blocks.proofs.Block.{refused_unit, refused-output}
-use Rattle.blocks.proofs.play.Goals.{After-accepted, After-run-after, Start}
+use Rattle.blocks.proofs.play.Lts as lts
+use Rattle.blocks.proofs.play.Reads as reads
+use Rattle.blocks.proofs.play.Tie as tie
 use Rattle.blocks.proofs.play.Goals as goal
 
-module _ (c : After-accepted) where
-  abbrev s : Start
+module _ (c : lts.After-accepted tie.the-claims reads.Pre reads.Post) where
+  abbrev s : lts.Start tie.the-claims reads.Pre reads.Post
   s = c.before.before.before.before
 
   abbrev verdict : Verdict
@@ -31,7 +33,7 @@ module _ (c : After-accepted) where
   accepted-is = sym (c.accepted.ensures ∙ ap is_accepted verdict-is)
 
 pub run-after-requires : goal.run-after-requires
-run-after-requires c = accepted-is c.before.before.before.before.before ∙ c.if-accepted.true
+run-after-requires c = accepted-is c.before.before.before.before.before.before ∙ c.if-accepted.true
 
 pub returns-then-accepted : goal.returns-then-accepted
 unfolding block_played block_output
@@ -41,10 +43,10 @@ returns-then-accepted c = (
       ∙ passed (is_accepted (verdict a)) (sound 2 u input (frame_count 2 input) ++ drop (length input) room) room yes,
 )
   where
-    r : After-run-after
-    r = c.before.before
+    r : lts.After-run tie.the-claims reads.Pre reads.Post
+    r = c.before.before.before
 
-    a : After-accepted
+    a : lts.After-accepted tie.the-claims reads.Pre reads.Post
     a = r.before.before.before.before.before.before
 
     u : Unit
@@ -57,14 +59,14 @@ returns-then-accepted c = (
     room = (s a).args.output.now
 
     yes : is_accepted (verdict a) ≡ true
-    yes = accepted-is a ∙ r.if-accepted.taken
+    yes = accepted-is a ∙ r.if-accepted.true
 
 pub returns : goal.returns
 unfolding block_played
 returns c = (
-  (λ i. record { verdict = verdict-is c.before i; unit = sym (refused_unit channel_count (s c.before).args.unit (s c.before).args.input.now _ no) i }),
-  sym (refused-output channel_count (s c.before).args.unit (s c.before).args.input.now _ no),
+  (λ i. record { verdict = verdict-is c.before.before i; unit = sym (refused_unit channel_count (s c.before.before).args.unit (s c.before.before).args.input.now _ no) i }),
+  sym (refused-output channel_count (s c.before.before).args.unit (s c.before.before).args.input.now _ no),
 )
   where
-    no : is_accepted (verdict c.before) ≡ false
-    no = accepted-is c.before ∙ c.if-accepted.false
+    no : is_accepted (verdict c.before.before) ≡ false
+    no = accepted-is c.before.before ∙ c.if-accepted.false

@@ -12,14 +12,16 @@ use Rattle.unit.specs.Fit.{ChannelFit, Fit}
 use Rattle.unit.proofs.Ranges.{volume_size}
 use Rattle.unit.proofs.PastEnd.{zero_channel}
 use Rattle.engine.specs.declared.FloatLevel.{FloatLevel}
-use Rattle.frames-level.specs.Run.{unit_in}
+use Rattle.frames.specs.Run.{unit_in}
 use Rattle.blocks.specs.Run.{unit_of_parts}
 use Rattle.blocks.proofs.Block.{BlockAccepts, block_accepted}
 use Rattle.blocks.proofs.Packed.{Packed, frames_asks, unit_after_lem, fit_after, volume_after, output_after}
-use Rattle.blocks.proofs.run.Goals.{After-frames-level, After-level_floats, Start}
+use Rattle.blocks.proofs.run.Lts as lts
+use Rattle.blocks.proofs.run.Reads as reads
+use Rattle.blocks.proofs.run.Tie as tie
 use Rattle.blocks.proofs.run.Goals as goal
 
-module _ (s : Start) where
+module _ (s : lts.Start tie.the-claims reads.Pre reads.Post) where
   abbrev input : List ℕ
   input = s.args.input.now
 
@@ -39,8 +41,8 @@ pair_floats-pair-requires c =
       second_fit = each_get_d ChannelFit s.args.channels zero_channel (accepts s).fit.channels 1 (omega arith);
     }
   where
-    s : Start
-    s = c.before.before.before.before.before
+    s : lts.Start tie.the-claims reads.Pre reads.Post
+    s = c.before.before.before.before.before.before
 
 pub level_floats-requires : goal.level_floats-requires
 level_floats-requires c =
@@ -49,11 +51,11 @@ level_floats-requires c =
       target_size = volume_size s.args.volume.target (accepts s).fit.volume.target;
     }
   where
-    s : Start
-    s = c.before.before.before.before.before.before.before.before
+    s : lts.Start tie.the-claims reads.Pre reads.Post
+    s = c.before.before.before.before.before.before.before.before.before
 
-module _ (c : After-level_floats) where
-  abbrev z : Start
+module _ (c : lts.After-level_floats tie.the-claims reads.Pre reads.Post) where
+  abbrev z : lts.Start tie.the-claims reads.Pre reads.Post
   z = c.before.before.before.before.before.before.before.before.before
 
   abbrev bands : List Float
@@ -77,10 +79,10 @@ module _ (c : After-level_floats) where
       }
 
 pub frames-level-requires : goal.frames-level-requires
-frames-level-requires c = frames_asks (U (z c.before)) (input (z c.before)) (room (z c.before)) (accepts (z c.before)) (level c.before) (bands c.before) (pair c.before) (packed c.before)
+frames-level-requires c = frames_asks (U (z c.before.before)) (input (z c.before.before)) (room (z c.before.before)) (accepts (z c.before.before)) (level c.before.before) (bands c.before.before) (pair c.before.before) (packed c.before.before)
 
-module _ (c : After-frames-level) where
-  abbrev p : After-level_floats
+module _ (c : lts.After-frames tie.the-claims reads.Pre reads.Post) where
+  abbrev p : lts.After-level_floats tie.the-claims reads.Pre reads.Post
   p = c.before.before
 
   abbrev after : List Float
@@ -95,20 +97,20 @@ module _ (c : After-frames-level) where
 pub level_of-volume_after-requires : goal.level_of-volume_after-requires
 level_of-volume_after-requires c = volume_after (U (z (p f))) (input (z (p f))) (room (z (p f))) (accepts (z (p f))) (level (p f)) (bands (p f)) (pair (p f)) (packed (p f)) f.frames-level.result (after f) (filled f) f.frames-level.ensures
   where
-    f : After-frames-level
-    f = c.before.before.before
+    f : lts.After-frames tie.the-claims reads.Pre reads.Post
+    f = c.before.before.before.before
 
 pub channel_of-first_after-requires : goal.channel_of-first_after-requires
 channel_of-first_after-requires c = record { below = omega arith; size = f.frames-level.ensures.size; whole = f.frames-level.ensures.whole; fit = (fit f).channels.0 }
   where
-    f : After-frames-level
-    f = c.before.before.before.before.before
+    f : lts.After-frames tie.the-claims reads.Pre reads.Post
+    f = c.before.before.before.before.before.before
 
 pub channel_of-second_after-requires : goal.channel_of-second_after-requires
 channel_of-second_after-requires c = record { below = omega arith; size = f.frames-level.ensures.size; whole = f.frames-level.ensures.whole; fit = (fit f).channels.1.0 }
   where
-    f : After-frames-level
-    f = c.before.before.before.before.before.before.before
+    f : lts.After-frames tie.the-claims reads.Pre reads.Post
+    f = c.before.before.before.before.before.before.before.before
 
 pub returns : goal.returns
 returns c =
@@ -123,5 +125,5 @@ returns c =
       bytes = output_after (U (z (p f))) (input (z (p f))) (room (z (p f))) (accepts (z (p f))) (level (p f)) (bands (p f)) (pair (p f)) (packed (p f)) f.frames-level.result (after f) (filled f) f.frames-level.ensures;
     }
   where
-    f : After-frames-level
-    f = c.before.before.before.before.before.before.before.before
+    f : lts.After-frames tie.the-claims reads.Pre reads.Post
+    f = c.before.before.before.before.before.before.before.before.before
