@@ -1,5 +1,6 @@
 // What the arguments of a program stand for: what the program is asked for, and one argument as a number or the word "mute".
 #![tactic(auto)]
+
 ghost use Rattle.std.specs.Prelude.{◌≡◌, ◌++◌, ◌-◌, ◌≤◌, length, take};
 ghost use Rattle.fields.specs.Fields.{same_bytes};
 ghost use Rattle.arguments.specs.Meaning.{request_of, asks_wave, is_plain, asks_text, unsigned_of, argument_number, meaning_of};
@@ -127,7 +128,7 @@ fn put_right(text: &[u8], columns: &mut [u8])
     ensures { columns.new ≡ take (length columns.old - length text.now) columns.old ++ text.now }
 {
     let start = columns.len() - text.len();
-    bytes::copy(text, &mut columns[start..]);
+    columns[start..].copy_from_slice(text);
 }
 
 // A field's number, or none where it is below zero.

@@ -2,14 +2,10 @@
 use mathlib.Core.Path.{◌≡◌, sym, ap, ◌∙◌}
 use mathlib.Core.Bool.{true}
 use mathlib.Core.List.{List, ◌++◌}
-use Prim.Native.Nat.{ℕ, ◌+◌, ◌≤◌, ◌<◌}
+use Prim.Native.Nat.{ℕ, ◌+◌, ◌-◌, ◌≤◌, ◌<◌, min}
 use native.Mathlib.Omega.{arith}
-use lib.ListN.{length, take, length-append}
+use lib.ListN.{length, take, drop, length-append, length-drop}
 use lib.Seq.{length-take-le, take-append-add, take-append-le}
-use lib.IntN.{ℤ, pos, negsuc}
-use lib.Signed.{◌<ℤ◌}
-use Rattle.integers.proofs.Parts.{linear}
-use Rattle.io.specs.Counts.{clamp_len}
 use Rattle.console.specs.declared.Received.{Received}
 use Rattle.console.specs.Reads.{ReceiveGives}
 
@@ -29,10 +25,20 @@ read_behind held most more buffer part rest r h k few e same brings =
       comes = λ is_open some room. omega (arith, e, brings is_open some room);
     }
 
--- a count above zero, within the room, is above zero
-pub some_came : (got : ℤ) (room : ℕ) → pos 0 <ℤ got → 0 < room → 0 < clamp_len got room
-some_came (pos n) room h k = omega (linear, arith)
-some_came (negsuc n) room h k = absurd (omega linear)
+-- the same, where the part begins behind the held bytes and has as many bytes as are asked for, or all that there are
+pub read_into : (held most least more : ℕ) (buffer part : List ℕ) (r : Received) → held ≤ length buffer → least ≡ min most (length buffer - held) → length part ≡ length (take (held + least - held) (drop held buffer)) → more ≤ length part → r.count ≡ held + more → (r.is_open ≡ true → 0 < more) → ReceiveGives held most buffer r (take held buffer ++ (part ++ drop (held + least - held) (drop held buffer)))
+read_into held most least more buffer part r h size same few e brings =
+    let room : length (drop held buffer) ≡ length buffer - held = length-drop held buffer in
+    let length_is : length part ≡ least = same ∙ length-take-le (held + least - held) (drop held buffer) (omega arith) ∙ omega arith in
+    read_behind held most more buffer part (drop (held + least - held) (drop held buffer)) r h few (omega arith) e
+    (omega (
+      arith,
+      length-append (take held buffer) (part ++ drop (held + least - held) (drop held buffer)),
+      length-append part (drop (held + least - held) (drop held buffer)),
+      length-take-le held buffer h,
+      length-drop (held + least - held) (drop held buffer),
+    ))
+    (λ is_open some behind. brings is_open)
 
 -- the held bytes and those that came are counted, and no others
 pub count_is : (held most : ℕ) (buffer buffer' : List ℕ) (r : Received) → held ≤ length buffer → (g : ReceiveGives held most buffer r buffer') → r.count ≡ held + length g.bytes

@@ -1,12 +1,22 @@
-// What the programs share: what they tell of themselves, a refusal's line, and reading and writing that says what failed.
+// What the programs share: their arguments, what they tell of themselves, a refusal's line, and reading and writing that says what failed.
 #![tactic(auto)]
+
 ghost use Rattle.std.specs.Prelude.{◌≡◌, ◌≤◌, min, length};
-ghost use Rattle.io.specs.Counts.{IsPrefixLen};
 ghost use Rattle.console.specs.Answers.{SayAsks};
-ghost use Rattle.console.specs.Reads.{ReceiveGives};
+ghost use Rattle.console.specs.Reads.{IsPrefixLen, ReceiveGives};
 
 use arguments::Request;
 use refusals::Verdict;
+use std::env::FillError;
+use std::io;
+use std::io::Read;
+use std::rt::{Env, HostRuntime};
+
+// How many bytes a buffer for sound holds, and a read brings at most.
+pub const BUFFER_SIZE: usize = 65_536;
+
+// The name of standard input in a message.
+pub const INPUT_NAME: &str = "standard input";
 
 // What reading leaves: the count of bytes at the front of the buffer, whether more may come, and whether a read failed.
 #[derive(Clone, Copy)]
@@ -16,40 +26,62 @@ pub struct Received {
     pub is_failed: bool,
 }
 
+// How many arguments there are, the name of the program among them.
+pub fn argument_count(rt: &HostRuntime) -> usize {
+    let mut text = [0u8; 1];
+    for place in 0..usize::MAX {
+        if let Err(FillError::NotPresent) = rt.arg(place, &mut text) {
+            return place;
+        }
+    }
+    usize::MAX
+}
+
+// Puts an argument at the front of the text and gives its length: 0 where it is missing, or longer than there is room for.
+pub fn argument(rt: &HostRuntime, place: usize, text: &mut [u8]) -> usize
+    ensures { IsPrefixLen result text.new }
+{
+    match rt.arg(place, text) {
+        Ok(size) => size,
+        Err(_) => 0,
+    }
+}
+
 // What a program tells of itself: its help or its version on standard output where that is asked for, and how it is used on standard error where
 // something else is. The help begins with the line of usage.
-pub fn tell(request: Request, name: &[u8], usage: &[u8], help: &[u8]) {
+pub fn tell(rt: &HostRuntime, request: Request, name: &str, usage: &str, help: &str) {
     match request {
         Request::Plain => {}
-        Request::Help => tell_both(usage, help),
-        Request::Version => tell_both(name, b" (Fonddrys) 1.5\n"),
-        Request::Other => say_usage(usage),
+        Request::Help => tell_both(rt, usage, help),
+        Request::Version => tell_both(rt, name, " (Fonddrys) 1.5\n"),
+        Request::Other => say_usage(rt, usage),
     }
 }
 
 // Writes both texts to standard output.
-fn tell_both(first: &[u8], second: &[u8]) {
-    if write_out(first) {
-        write_out(second);
+fn tell_both(rt: &HostRuntime, first: &str, second: &str) {
+    if write_out(rt, first.as_bytes()) {
+        write_out(rt, second.as_bytes());
     }
 }
 
-// Writes the line of usage to standard error.
-pub fn say_usage(usage: &[u8]) {
-    io::write_all(libc::STDERR_FILENO, usage);
+// Writes the line of usage to standard error. Where that fails there is nowhere left to say so.
+pub fn say_usage(rt: &HostRuntime, usage: &str) {
+    let _ = rt.eprint(usage);
 }
 
 // A refusal's number, in one line on standard error; of an accepted call nothing is said.
-pub fn answer(verdict: Verdict) {
+pub fn answer(rt: &HostRuntime, verdict: Verdict) {
     if refusals::accepted(verdict) {
         return;
     }
     let number = refusals::number(verdict) as u8;
     if number < 10 {
-        say(verdict, &[fields::ZERO + number, sheet::LINE_FEED]);
+        say(rt, verdict, &[fields::ZERO + number, sheet::LINE_FEED]);
         return;
     }
     say(
+        rt,
         verdict,
         &[
             fields::ZERO + number / 10,
@@ -59,30 +91,66 @@ pub fn answer(verdict: Verdict) {
     );
 }
 
-// Writes the line of a refusal.
-fn say(verdict: Verdict, line: &[u8])
+// Writes the line of a refusal. Where that fails there is nowhere left to say so.
+fn say(rt: &HostRuntime, verdict: Verdict, line: &[u8])
     requires { SayAsks verdict line.now }
 {
-    io::write_all(libc::STDERR_FILENO, line);
+    write_error(rt, line);
+}
+
+// Writes bytes to standard error. Where that fails there is nowhere left to say so.
+pub fn write_error(rt: &HostRuntime, bytes: &[u8]) {
+    let _ = rt.stderr().write_all(bytes);
+}
+
+// Says on standard error what failed: its name, and the system's reason.
+pub fn fail(rt: &HostRuntime, name: &str, error: &io::Error) {
+    let _ = match format!(in rt.alloc(); "{error}") {
+        Ok(text) => {
+            let reason = reason(text.as_str());
+            eprintln!(rt; "{name}: {reason}")
+        }
+        Err(_) => eprintln!(rt; "{name}: {error}"),
+    };
+}
+
+// The system's reason alone, without the number of the error that stands behind it.
+fn reason(text: &str) -> &str {
+    match text.split_once(" (os error ") {
+        Some((reason, _)) => reason,
+        None => text,
+    }
 }
 
 // Reads once, so many bytes at most, behind the bytes that are held at the front of the buffer. Where that fails a message says so, by the name
 // of what is read.
-pub fn receive(fd: i32, name: &[u8], buffer: &mut [u8], held: usize, most: usize) -> Received
+pub fn receive<R: Read>(
+    rt: &HostRuntime,
+    input: &mut R,
+    name: &str,
+    buffer: &mut [u8],
+    held: usize,
+    most: usize,
+) -> Received
     requires { held ≤ length buffer.old }
     ensures { ReceiveGives held most buffer.old result buffer.new }
 {
     let end = held + least(most, buffer.len() - held);
     let room = &mut buffer[held..end];
-    let got = libc::read(fd, room);
-    if got < 0 {
-        os::fail(name);
-    }
-    let more = io::count(got, room);
-    Received {
-        count: held + more,
-        is_open: got > 0,
-        is_failed: got < 0,
+    match input.read(room) {
+        Ok(more) => Received {
+            count: held + more,
+            is_open: more > 0,
+            is_failed: false,
+        },
+        Err(error) => {
+            fail(rt, name, &error);
+            Received {
+                count: held,
+                is_open: false,
+                is_failed: true,
+            }
+        }
     }
 }
 
@@ -97,7 +165,12 @@ fn least(a: usize, b: usize) -> usize
 }
 
 // Reads until the buffer is full, the input ends or a read fails. Each read brings a byte at least, so that there are enough of them.
-pub fn receive_all(fd: i32, name: &[u8], buffer: &mut [u8]) -> Received
+pub fn receive_all<R: Read>(
+    rt: &HostRuntime,
+    input: &mut R,
+    name: &str,
+    buffer: &mut [u8],
+) -> Received
     ensures { IsPrefixLen result.count buffer.new }
 {
     let mut received = Received {
@@ -107,20 +180,20 @@ pub fn receive_all(fd: i32, name: &[u8], buffer: &mut [u8]) -> Received
     };
     let mut reads = buffer.len();
     while reads > 0 && received.is_open {
-        received = receive(fd, name, buffer, received.count, usize::MAX);
+        received = receive(rt, input, name, buffer, received.count, usize::MAX);
         reads -= 1;
     }
     received
 }
 
 // Reads so many bytes and drops them, until the input ends or a read fails, and gives how many are missing then.
-pub fn skip(fd: i32, name: &[u8], most: usize) -> usize
+pub fn skip<R: Read>(rt: &HostRuntime, input: &mut R, name: &str, most: usize) -> usize
     ensures { result ≤ most }
 {
-    let mut buffer = io::large_buffer();
+    let mut buffer = [0u8; BUFFER_SIZE];
     let mut left = most;
     while left > 0 {
-        let received = receive(fd, name, &mut buffer, 0, left);
+        let received = receive(rt, input, name, &mut buffer, 0, left);
         left -= received.count;
         if !received.is_open {
             break;
@@ -130,10 +203,12 @@ pub fn skip(fd: i32, name: &[u8], most: usize) -> usize
 }
 
 // Writes all bytes to standard output. Where that fails a message says so.
-pub fn write_out(bytes: &[u8]) -> bool {
-    let written = io::write_all(libc::STDOUT_FILENO, bytes);
-    if !written {
-        os::fail(b"standard output");
+pub fn write_out(rt: &HostRuntime, bytes: &[u8]) -> bool {
+    match rt.write_all(bytes) {
+        Ok(()) => true,
+        Err(error) => {
+            fail(rt, "standard output", &error);
+            false
+        }
     }
-    written
 }

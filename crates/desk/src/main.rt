@@ -3,8 +3,9 @@
 // orders are given or none. A refusal is one line on standard error, its number, and nothing is written. What the arguments mean is decided in
 // `arguments` and `order_lists`, and what is answered in `decisions`; here it is followed.
 #![tactic(auto)]
+
 ghost use Rattle.std.specs.Prelude.{◌≡◌, true, false};
-ghost use Rattle.io.specs.Counts.{IsPrefixLen};
+ghost use Rattle.console.specs.Reads.{IsPrefixLen};
 ghost use Rattle.arguments.specs.Meaning.{request_of};
 ghost use Rattle.order_lists.specs.Lists.{orders_in};
 ghost use Rattle.decisions.specs.Decisions.{is_call, desk_verdict, HandsOut};
@@ -13,50 +14,51 @@ use arguments::Request;
 use refusals::Verdict;
 
 // How desk is used.
-const USAGE: [u8; 70] = *b"usage: desk SIDE BAND POSITION [SIDE BAND POSITION ...] <SHEET >SHEET\n";
+const USAGE: &str = "usage: desk SIDE BAND POSITION [SIDE BAND POSITION ...] <SHEET >SHEET\n";
 
 // Does what the arguments ask for.
-fn main() {
+fn main(rt: HostRuntime) {
     let mut first = [0u8; arguments::TEXT_SIZE];
-    let size = os::arg(1, &mut first);
-    begin(os::arg_count(), &first[..size]);
+    let size = console::argument(&rt, 1, &mut first);
+    begin(&rt, console::argument_count(&rt), &first[..size]);
 }
 
 // Takes orders, where no text of desk's own is asked for.
-fn begin(count: usize, first: &[u8]) {
+fn begin(rt: &HostRuntime, count: usize, first: &[u8]) {
     let request = arguments::requested(count, first);
     if arguments::asks_text(request) {
-        tell(count, first, request);
+        tell(rt, count, first, request);
         return;
     }
-    take_orders(arguments::behind_name(count));
+    take_orders(rt, arguments::behind_name(count));
 }
 
 // What desk tells of itself, by the arguments.
-fn tell(count: usize, first: &[u8], request: Request)
+fn tell(rt: &HostRuntime, count: usize, first: &[u8], request: Request)
     requires { request ≡ request_of count first.now }
 {
     console::tell(
+        rt,
         request,
-        b"desk",
-        &USAGE,
-        b"Gives level orders to a strip sheet, 1 to 31 of them, all or none.\n\
-          SIDE is 0 left, 1 right, 2 both. BAND is 0 to 9, or 10 for the volume, with side 2. POSITION is 0 to 31, or mute.\n\
-          At 16 a band is flat; muted, a band of the house set nearly cancels the sound at its centre. The volume is silent at 0 and muted.\n\
-          A refusal is one line on standard error, its number, and nothing is written: 1 for a side and band that are not there,\n\
-          2 for a position over 31, 8 to 14 for the sheet.\n",
+        "desk",
+        USAGE,
+        "Gives level orders to a strip sheet, 1 to 31 of them, all or none.\n\
+         SIDE is 0 left, 1 right, 2 both. BAND is 0 to 9, or 10 for the volume, with side 2. POSITION is 0 to 31, or mute.\n\
+         At 16 a band is flat; muted, a band of the house set nearly cancels the sound at its centre. The volume is silent at 0 and muted.\n\
+         A refusal is one line on standard error, its number, and nothing is written: 1 for a side and band that are not there,\n\
+         2 for a position over 31, 8 to 14 for the sheet.\n",
     );
 }
 
 // Takes so many arguments for orders.
-fn take_orders(count: usize) {
+fn take_orders(rt: &HostRuntime, count: usize) {
     let mut numbers = [0u32; order_lists::LIST_ROOM];
-    let kept = gather(count, &mut numbers);
-    start(count, &numbers[..kept]);
+    let kept = gather(rt, count, &mut numbers);
+    start(rt, count, &numbers[..kept]);
 }
 
 // Puts the numbers that the arguments stand for at the front, as many as there is room for, and gives how many they are.
-fn gather(count: usize, numbers: &mut [u32]) -> usize
+fn gather(rt: &HostRuntime, count: usize, numbers: &mut [u32]) -> usize
     ensures { IsPrefixLen result numbers.new }
 {
     let mut i = 0;
@@ -64,69 +66,70 @@ fn gather(count: usize, numbers: &mut [u32]) -> usize
         if i >= count {
             break;
         }
-        numbers[i] = argument(i + 1);
+        numbers[i] = argument(rt, i + 1);
         i += 1;
     }
     i
 }
 
 // The number that an argument stands for. One that is missing, or longer than there is room for, counts as empty.
-fn argument(place: usize) -> u32 {
+fn argument(rt: &HostRuntime, place: usize) -> u32 {
     let mut text = [0u8; arguments::TEXT_SIZE];
-    let size = os::arg(place, &mut text);
+    let size = console::argument(rt, place, &mut text);
     arguments::meaning(&text[..size])
 }
 
 // Gives the orders that the arguments mean, or says how desk is used.
-fn start(count: usize, numbers: &[u32]) {
+fn start(rt: &HostRuntime, count: usize, numbers: &[u32]) {
     if !decisions::is_call(count, numbers) {
-        say_usage(count, numbers);
+        say_usage(rt, count, numbers);
         return;
     }
-    read_sheet(count, numbers);
+    read_sheet(rt, count, numbers);
 }
 
 // How desk is used, where the arguments are no orders.
-fn say_usage(count: usize, numbers: &[u32])
+fn say_usage(rt: &HostRuntime, count: usize, numbers: &[u32])
     requires { is_call count numbers.now ≡ false }
 {
-    console::say_usage(&USAGE);
+    console::say_usage(rt, USAGE);
 }
 
 // Reads the sheet, for arguments that are orders.
-fn read_sheet(count: usize, numbers: &[u32])
+fn read_sheet(rt: &HostRuntime, count: usize, numbers: &[u32])
     requires { is_call count numbers.now ≡ true }
 {
     let mut bytes = [0u8; sheet::SHEET_ROOM];
-    let received = console::receive_all(libc::STDIN_FILENO, b"standard input", &mut bytes);
+    let mut stdin = rt.stdin();
+    let received = console::receive_all(rt, &mut stdin, console::INPUT_NAME, &mut bytes);
     if received.is_failed {
         return;
     }
     let size = received.count;
-    order(numbers, &bytes[..size]);
+    order(rt, numbers, &bytes[..size]);
 }
 
 // Gives the orders to the sheet of these bytes.
-fn order(numbers: &[u32], bytes: &[u8]) {
+fn order(rt: &HostRuntime, numbers: &[u32], bytes: &[u8]) {
     let mut sheet = [0u8; sheet::SHEET_SIZE];
     let verdict = decisions::order(numbers, bytes, &mut sheet);
-    answer(numbers, bytes, verdict);
+    answer(rt, numbers, bytes, verdict);
     if !refusals::accepted(verdict) {
         return;
     }
-    hand_out(numbers, bytes, &sheet);
+    hand_out(rt, numbers, bytes, &sheet);
 }
 
 // What is said of the orders to the sheet of these bytes.
-fn answer(numbers: &[u32], bytes: &[u8], verdict: Verdict)
+fn answer(rt: &HostRuntime, numbers: &[u32], bytes: &[u8], verdict: Verdict)
     requires { verdict ≡ desk_verdict bytes.now (orders_in numbers.now) }
 {
-    console::answer(verdict);
+    console::answer(rt, verdict);
 }
 
 // Writes the sheet after the orders to standard output.
-fn hand_out(numbers: &[u32], bytes: &[u8], sheet: &[u8])
+fn hand_out(rt: &HostRuntime, numbers: &[u32], bytes: &[u8], sheet: &[u8])
     requires { HandsOut bytes.now (orders_in numbers.now) sheet.now }
 {
-    console::write_out(sheet);
+    console::write_out(rt, sheet);
 }

@@ -2,6 +2,7 @@
 // to strip.new; asked for wave files, their data. A refusal is one line on standard error, its number. What is answered is decided in `decisions`; here it
 // is followed.
 #![tactic(auto)]
+
 ghost use Rattle.std.specs.Prelude.{◌≡◌};
 ghost use Rattle.sheet.specs.Sheet.{side_letters};
 ghost use Rattle.roundtrip.specs.Claim.{ReadsAs};
@@ -14,107 +15,110 @@ mod waves;
 use arguments::Request;
 use playing::Progress;
 use refusals::Verdict;
+use std::fs::File;
 use unit::Unit;
 
+// The sheet that is played through.
+const SHEET_NAME: &str = "strip.sht";
+
 // Does what the arguments ask for.
-fn main() {
+fn main(rt: HostRuntime) {
     let mut first = [0u8; arguments::TEXT_SIZE];
-    let size = os::arg(1, &mut first);
-    begin(os::arg_count(), &first[..size]);
+    let size = console::argument(&rt, 1, &mut first);
+    begin(&rt, console::argument_count(&rt), &first[..size]);
 }
 
 // Begins a pass where there are no arguments, or where they ask for wave files.
-fn begin(count: usize, first: &[u8]) {
+fn begin(rt: &HostRuntime, count: usize, first: &[u8]) {
     let is_wave = arguments::asks_wave(count, first);
     if is_wave {
-        open_sheet(count, first, is_wave);
+        open_sheet(rt, count, first, is_wave);
         return;
     }
     let request = arguments::requested(count, first);
-    tell(count, first, request);
+    tell(rt, count, first, request);
     if arguments::is_plain(request) {
-        open_sheet(count, first, is_wave);
+        open_sheet(rt, count, first, is_wave);
     }
 }
 
 // What play tells of itself, by the arguments.
-fn tell(count: usize, first: &[u8], request: Request)
+fn tell(rt: &HostRuntime, count: usize, first: &[u8], request: Request)
     requires { request ≡ request_of count first.now }
 {
     console::tell(
+        rt,
         request,
-        b"play",
-        b"usage: play [--wave | --help | --version] <FRAMES >SOUND\n",
-        b"Plays frames through the strip sheet strip.sht, and leaves the sheet after them as strip.new.\n\
-          Frames are signed 16 bits, left then right, low byte first.\n\
-          --wave: the frames are the data of a wave file, and the sound is a wave file (PCM, stereo, 44,100, 16 bits).\n\
-          A refusal is one line on standard error, its number: 5 for frames that end within one, 8 to 14 for the sheet,\n\
-          16 to 18 for a wave file. After 16 to 18, and after 5 with --wave, there is no strip.new.\n\
-          Both files are in the folder in which play is started.\n",
+        "play",
+        "usage: play [--wave | --help | --version] <FRAMES >SOUND\n",
+        "Plays frames through the strip sheet strip.sht, and leaves the sheet after them as strip.new.\n\
+         Frames are signed 16 bits, left then right, low byte first.\n\
+         --wave: the frames are the data of a wave file, and the sound is a wave file (PCM, stereo, 44,100, 16 bits).\n\
+         A refusal is one line on standard error, its number: 5 for frames that end within one, 8 to 14 for the sheet,\n\
+         16 to 18 for a wave file. After 16 to 18, and after 5 with --wave, there is no strip.new.\n\
+         Both files are in the folder in which play is started.\n",
     );
 }
 
 // Opens the sheet, for frames or for a wave file.
-fn open_sheet(count: usize, first: &[u8], is_wave: bool)
+fn open_sheet(rt: &HostRuntime, count: usize, first: &[u8], is_wave: bool)
     requires { OpenAsks count first.now is_wave }
 {
-    let fd = os::open_read(b"strip.sht");
-    if fd < 0 {
+    match File::open(rt, SHEET_NAME) {
+        Ok(file) => read_sheet(rt, file, is_wave),
         // It counts as empty.
-        start(b"", is_wave);
-        return;
+        Err(_) => start(rt, b"", is_wave),
     }
-    read_sheet(fd, is_wave);
 }
 
 // Reads the sheet from its file, and plays through it.
-fn read_sheet(fd: i32, is_wave: bool) {
+fn read_sheet(rt: &HostRuntime, mut file: File, is_wave: bool) {
     let mut bytes = [0u8; sheet::SHEET_ROOM];
-    let received = console::receive_all(fd, b"strip.sht", &mut bytes);
-    libc::close(fd);
+    let received = console::receive_all(rt, &mut file, SHEET_NAME, &mut bytes);
+    drop(file);
     if received.is_failed {
         return;
     }
     let count = received.count;
-    start(&bytes[..count], is_wave);
+    start(rt, &bytes[..count], is_wave);
 }
 
 // Plays through the sheet of these bytes. After a refused one nothing is played or written.
-fn start(bytes: &[u8], is_wave: bool) {
+fn start(rt: &HostRuntime, bytes: &[u8], is_wave: bool) {
     let opening = decisions::opening(bytes);
     let verdict = opening.verdict;
-    answer_sheet(bytes, verdict);
+    answer_sheet(rt, bytes, verdict);
     if !refusals::accepted(verdict) {
         return;
     }
-    if !saving::can_save() {
+    if !saving::can_save(rt) {
         return;
     }
     let unit = opening.unit;
-    pass(bytes, unit, is_wave);
+    pass(rt, bytes, unit, is_wave);
 }
 
 // What is said of the sheet of these bytes.
-fn answer_sheet(bytes: &[u8], verdict: Verdict)
+fn answer_sheet(rt: &HostRuntime, bytes: &[u8], verdict: Verdict)
     requires { verdict ≡ (opened bytes.now).verdict }
 {
-    console::answer(verdict);
+    console::answer(rt, verdict);
 }
 
 // A pass through the unit that the sheet of these bytes carries.
-fn pass(bytes: &[u8], unit: Unit, is_wave: bool)
+fn pass(rt: &HostRuntime, bytes: &[u8], unit: Unit, is_wave: bool)
     requires { ReadsAs side_letters bytes.now unit }
 {
     if is_wave {
-        waves::pass(unit);
+        waves::pass(rt, unit);
         return;
     }
-    let stream = playing::play(unit, b"", usize::MAX);
-    finish(unit, stream);
+    let stream = playing::play(rt, unit, b"", usize::MAX);
+    finish(rt, unit, stream);
 }
 
 // The end of a pass that began with this unit: the sheet, and what is said of a tail.
-fn finish(begun: Unit, stream: Progress)
+fn finish(rt: &HostRuntime, begun: Unit, stream: Progress)
     requires { PassGives begun stream }
 {
     let is_lost = stream.is_lost;
@@ -122,22 +126,22 @@ fn finish(begun: Unit, stream: Progress)
     let ending = decisions::ending(is_lost, held);
     let verdict = ending.verdict;
     if ending.is_saved {
-        save(stream);
+        save(rt, stream);
     }
-    answer_end(is_lost, held, verdict);
+    answer_end(rt, is_lost, held, verdict);
 }
 
 // Saves the sheet after a pass.
-fn save(stream: Progress)
+fn save(rt: &HostRuntime, stream: Progress)
     requires { SaveAsks stream }
 {
     let unit = stream.unit;
-    saving::save(unit);
+    saving::save(rt, unit);
 }
 
 // What is said at the end of a pass.
-fn answer_end(is_lost: bool, held: usize, verdict: Verdict)
+fn answer_end(rt: &HostRuntime, is_lost: bool, held: usize, verdict: Verdict)
     requires { verdict ≡ (ending_of is_lost held).verdict }
 {
-    console::answer(verdict);
+    console::answer(rt, verdict);
 }

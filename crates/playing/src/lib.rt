@@ -1,8 +1,10 @@
 // Playing standard input to standard output.
 #![tactic(auto)]
+
 ghost use Rattle.std.specs.Prelude.{take};
 ghost use Rattle.playing.specs.Turns.{IsSound, SoundAsks, SoundGives, TurnAsks, TurnGives, PlayAsks, PlayGives};
 
+use std::rt::HostRuntime;
 use unit::Unit;
 
 // A stream between two reads: the unit, the count of bytes of a frame that is not whole yet, how many may still be read, whether more may come, and whether
@@ -25,14 +27,15 @@ struct Sounded {
 }
 
 // Plays the first bytes, and behind them what comes from standard input, so many bytes at most, until it ends or fails, or the output fails.
-pub fn play(unit: Unit, first: &[u8], most: usize) -> Progress
+pub fn play(rt: &HostRuntime, unit: Unit, first: &[u8], most: usize) -> Progress
     requires { PlayAsks unit first.now }
     ensures { PlayGives unit first.now most result }
 {
-    let mut input = io::large_buffer();
-    let mut output = io::large_buffer();
-    let count = bytes::copy(first, &mut input);
-    let begun = sound(unit, &mut input, count, &mut output);
+    let mut input = [0u8; console::BUFFER_SIZE];
+    let mut output = [0u8; console::BUFFER_SIZE];
+    let count = first.len();
+    input[..count].copy_from_slice(first);
+    let begun = sound(rt, unit, &mut input, count, &mut output);
     let after = begun.unit;
     let mut stream = Progress {
         unit: after,
@@ -42,22 +45,23 @@ pub fn play(unit: Unit, first: &[u8], most: usize) -> Progress
         is_lost: !begun.is_written,
     };
     while stream.is_open && stream.left > 0 {
-        stream = turn(stream, &mut input, &mut output);
+        stream = turn(rt, stream, &mut input, &mut output);
     }
     stream
 }
 
 // One read, and the sound of the frames that are then whole.
-fn turn(stream: Progress, input: &mut [u8], output: &mut [u8]) -> Progress
+fn turn(rt: &HostRuntime, stream: Progress, input: &mut [u8], output: &mut [u8]) -> Progress
     requires { TurnAsks stream input.old output.old }
     ensures { TurnGives stream input.old result input.new }
 {
     let held = stream.held;
     let left = stream.left;
-    let received = console::receive(libc::STDIN_FILENO, b"standard input", input, held, left);
+    let mut stdin = rt.stdin();
+    let received = console::receive(rt, &mut stdin, console::INPUT_NAME, input, held, left);
     let count = received.count;
     let unit = stream.unit;
-    let sounded = sound(unit, input, count, output);
+    let sounded = sound(rt, unit, input, count, output);
     let after = sounded.unit;
     Progress {
         unit: after,
@@ -69,7 +73,7 @@ fn turn(stream: Progress, input: &mut [u8], output: &mut [u8]) -> Progress
 }
 
 // Plays the whole frames of so many bytes at the front of the input, writes the sound, and keeps the tail at the front.
-fn sound(unit: Unit, input: &mut [u8], count: usize, output: &mut [u8]) -> Sounded
+fn sound(rt: &HostRuntime, unit: Unit, input: &mut [u8], count: usize, output: &mut [u8]) -> Sounded
     requires { SoundAsks unit input.old count output.old }
     ensures { SoundGives unit (take count input.old) result input.new }
 {
@@ -77,7 +81,7 @@ fn sound(unit: Unit, input: &mut [u8], count: usize, output: &mut [u8]) -> Sound
     let advanced = stream::advance(unit, piece, output);
     let later = advanced.unit;
     let played = advanced.played;
-    let is_written = send(unit, piece, &output[..played]);
+    let is_written = send(rt, unit, piece, &output[..played]);
     stream::keep_tail(&mut input[..count], played);
     Sounded {
         unit: later,
@@ -87,8 +91,8 @@ fn sound(unit: Unit, input: &mut [u8], count: usize, output: &mut [u8]) -> Sound
 }
 
 // Writes the sound of this piece through this unit to standard output. Where that fails a message says so.
-fn send(unit: Unit, piece: &[u8], sound: &[u8]) -> bool
+fn send(rt: &HostRuntime, unit: Unit, piece: &[u8], sound: &[u8]) -> bool
     requires { IsSound unit piece.now sound.now }
 {
-    console::write_out(sound)
+    console::write_out(rt, sound)
 }

@@ -3,7 +3,10 @@
 // Then three buffers of dots that were lent to `writing::write`, every byte of them: one longer than the sheet, one lent with an unfit unit, and
 // one that is too short. Of what stands behind the part that `write` hands back its contract says nothing.
 #![tactic(auto)]
+
 use levels::Level;
+use std::io;
+use std::io::Read;
 use unit::Unit;
 
 // A buffer with places behind the sheet, and one that is a byte too short.
@@ -18,12 +21,12 @@ const SET: [i32; bands::SET_SIZE] = [
     6606, 4181093, 8375315, 6606, 4181093, 8375315,
 ];
 
-fn main() {
+fn main(rt: HostRuntime) -> io::Result<()> {
     let set = SET;
     let loaded = loading::load(&set);
     let cleared = loaded.unit;
-    print_sheets(cleared);
-    print_longer(cleared);
+    print_sheets(&rt, cleared)?;
+    print_longer(&rt, cleared)?;
     let mut unfit = cleared;
     let below = Level {
         present: -1,
@@ -31,44 +34,45 @@ fn main() {
     };
     unfit.volume = below;
     let mut longer = [b'.'; LONGER];
-    print_written(cleared, &mut longer);
+    print_written(&rt, cleared, &mut longer)?;
     let mut refused = [b'.'; LONGER];
-    print_written(unfit, &mut refused);
+    print_written(&rt, unfit, &mut refused)?;
     let mut shorter = [b'.'; SHORTER];
-    print_written(cleared, &mut shorter);
+    print_written(&rt, cleared, &mut shorter)
 }
 
 // Prints the unit's sheet, the sheet after the frame (1000, 0), and that one again, of the unit that it is read as.
-fn print_sheets(cleared: Unit) {
+fn print_sheets(rt: &HostRuntime, cleared: Unit) -> io::Result<()> {
     let mut paper = [0u8; sheet::SHEET_SIZE];
     let part = writing::write(cleared, &mut paper);
-    io::write_all(1, part);
+    rt.write_all(part)?;
     let mut sound = [0u8; 4];
     let played = blocks::play(cleared, &[232, 3, 0, 0], &mut sound);
     let after = played.unit;
     let mut sheet = [0u8; sheet::SHEET_SIZE];
     writing::fill(after, &mut sheet);
-    io::write_all(1, &sheet);
+    rt.write_all(&sheet)?;
     let read = reading::read(&sheet, cleared);
     let carried = read.unit;
     let again = writing::write(carried, &mut paper);
-    io::write_all(1, again);
+    rt.write_all(again)
 }
 
 // Prints the sheet of the unit that the short sheet on standard input is read as.
-fn print_longer(cleared: Unit) {
+fn print_longer(rt: &HostRuntime, cleared: Unit) -> io::Result<()> {
     let mut short = [0u8; sheet::SHORT_SIZE];
-    io::read_full(0, &mut short);
+    // What is missing of it stays 0.
+    let _ = rt.stdin().read_exact(&mut short);
     let read = reading::read(&short, cleared);
     let carried = read.unit;
     let mut paper = [0u8; sheet::SHEET_SIZE];
     let part = writing::write(carried, &mut paper);
-    io::write_all(1, part);
+    rt.write_all(part)
 }
 
 // Has the unit's sheet written to the buffer, and prints the whole buffer and a line feed.
-fn print_written(unit: Unit, buffer: &mut [u8]) {
+fn print_written(rt: &HostRuntime, unit: Unit, buffer: &mut [u8]) -> io::Result<()> {
     writing::write(unit, buffer);
-    io::write_all(1, buffer);
-    io::write_all(1, b"\n");
+    rt.write_all(buffer)?;
+    rt.write_all(b"\n")
 }

@@ -51,7 +51,7 @@ pub record Advances (s : Stream) (bytes room : List ℕ) : Type 0 where
   pub held_is : drop (advanced channel_count s.unit (s.held ++ bytes) (length room)).played (s.held ++ bytes) ≡ (next s bytes).held
   pub held_count : (advanced channel_count s.unit (s.held ++ bytes) (length room)).held ≡ length (next s bytes).held
   -- the sound stands at the front of the output
-  pub sound-is :
+  pub sound_is :
       s.sound ++ take (advanced channel_count s.unit (s.held ++ bytes) (length room)).played (advanced_output channel_count s.unit (s.held ++ bytes) room)
       ≡ (next s bytes).sound
 

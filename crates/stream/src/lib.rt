@@ -1,6 +1,7 @@
 // Playing a stream: input that comes in pieces, cut anywhere. Whole frames are played at once, and the bytes of a frame that is not whole yet
 // are held until more come.
 #![tactic(auto)]
+
 ghost use Rattle.std.specs.Prelude.{◌≡◌, ◌+◌, ◌≤◌, length};
 ghost use Rattle.unit.specs.Sizes.{channel_count};
 ghost use Rattle.frames.specs.Bytes.{frame_size};
@@ -49,7 +50,8 @@ pub fn keep_tail(input: &mut [u8], from: usize)
     requires { (from ≤ length input.old) × (length input.old ≤ from + frame_size channel_count) }
     ensures { input.new ≡ tail_first from input.old }
 {
+    let count = input.len() - from;
     let mut tail = [0u8; frames::FRAME_SIZE];
-    let count = bytes::copy(&input[from..], &mut tail);
-    bytes::copy(&tail[..count], input);
+    copying::put_front(&input[from..], &mut tail);
+    copying::put_front(&tail[..count], input);
 }

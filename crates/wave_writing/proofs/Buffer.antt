@@ -56,13 +56,13 @@ module _ (d out : List ℕ) where
   written_is e = simp (e, append_assoc)
 
 -- the heading copied to the front, and then the frames behind it
-pub assembled : (h d out x y : List ℕ) → length h ≡ 44 → x ≡ take (length h) h ++ drop (length h) out → y ≡ take (length d) d ++ drop (length d) (take (length x - 44) (drop 44 x)) → take 44 x ++ (y ++ drop (length x - 44) (drop 44 x)) ≡ h ++ (d ++ drop (44 + length d) out)
+pub assembled : (h d out x y : List ℕ) → length h ≡ 44 → x ≡ h ++ drop (length h) out → y ≡ d ++ drop (length d) (take (length x - 44) (drop 44 x)) → take 44 x ++ (y ++ drop (length x - 44) (drop 44 x)) ≡ h ++ (d ++ drop (44 + length d) out)
 assembled h d out x y len ex ey =
-    let x' : x ≡ h ++ drop 44 out = ex ∙ ap₂ ◌++◌ (take-length h) (ap (λ (n : ℕ). drop n out) len) in
+    let x' : x ≡ h ++ drop 44 out = ex ∙ ap (λ (n : ℕ). h ++ drop n out) len in
     let front : take 44 x ≡ h = ap (take 44) x' ∙ take_at h (drop 44 out) 44 len in
     let back : drop 44 x ≡ drop 44 out = ap (drop 44) x' ∙ drop_at h (drop 44 out) 44 len in
     let all : length x - 44 ≡ length (drop 44 x) = sym (length-drop 44 x) in
     let y' : y ≡ d ++ drop (44 + length d) out =
-    ey ∙ ap₂ ◌++◌ (take-length d) (ap (drop (length d)) (ap (λ (n : ℕ). take n (drop 44 x)) all ∙ take-length (drop 44 x) ∙ back) ∙ drop-drop (length d) 44 out) in
+    ey ∙ ap (λ (l : List ℕ). d ++ drop (length d) l) (ap (λ (n : ℕ). take n (drop 44 x)) all ∙ take-length (drop 44 x) ∙ back) ∙ ap (λ (l : List ℕ). d ++ l) (drop-drop (length d) 44 out) in
     let none : drop (length x - 44) (drop 44 x) ≡ [] = ap (λ (n : ℕ). drop n (drop 44 x)) all ∙ drop-length (drop 44 x) in
     ap₂ ◌++◌ front (ap₂ ◌++◌ y' none ∙ append-nil (d ++ drop (44 + length d) out))

@@ -1,7 +1,8 @@
 // Writing a wave file: the plain heading of 44 bytes, and the frames behind it.
 #![tactic(auto)]
+
 ghost use Rattle.std.specs.Prelude.{◌≡◌, length, ◌≤◌};
-ghost use Rattle.wave_writing.specs.Writing.{heading as headingOf, most_data, size_verdict, write_verdict, written};
+ghost use Rattle.wave_writing.specs.Writing.{heading, most_data, size_verdict, write_verdict, written};
 
 use refusals::Verdict;
 
@@ -27,8 +28,8 @@ pub fn write(frames: &[u8], buffer: &mut [u8]) -> Verdict
         return Verdict::OutputShort;
     }
     let front = heading(size);
-    bytes::copy(&front, buffer);
-    bytes::copy(frames, &mut buffer[HEADING_SIZE..]);
+    copying::put_front(&front, buffer);
+    copying::put_front(frames, &mut buffer[HEADING_SIZE..]);
     Verdict::Accepted
 }
 
@@ -52,7 +53,7 @@ const PLAIN: [u8; HEADING_SIZE] =
 // The heading of a file with so many bytes of frames.
 pub fn heading(size: usize) -> [u8; HEADING_SIZE]
     requires { size ≤ most_data }
-    ensures { result ≡ headingOf size }
+    ensures { result ≡ heading size }
 {
     let rest = RIFF_REST + size;
     let mut bytes = PLAIN;

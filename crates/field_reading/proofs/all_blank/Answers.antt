@@ -12,9 +12,10 @@ use borrow.Author.Rules.{rules}
 use Rattle.fields.specs.Fields.{last_column}
 use Rattle.field_reading.specs.Scan.{blanks_of}
 use Rattle.field_reading.proofs.Blanks.{word_from, blank_word, last_word}
+use Rattle.field_reading.proofs.all_blank.Goals.{After-four-high}
 use Rattle.field_reading.proofs.all_blank.Goals as goal
 
-module _ (c : tie.After-four2) where
+module _ (c : After-four-high) where
   abbrev bytes : List ℕ
   bytes = c.args.bytes.now
 
@@ -26,7 +27,7 @@ module _ (c : tie.After-four2) where
 
   -- a byte is below 256
   small : (i : ℕ) → get_or bytes i 0 < 256
-  small i = omega (arith, c.shared_slice_known-9-1.given i)
+  small i = omega (arith, c.type_inv.bytes i)
 
   abbrev byte : ℕ → ℕ
   byte i = get_or bytes (at + i) 0
@@ -46,8 +47,9 @@ module _ (c : tie.After-four2) where
 
 pub returns : goal.returns
 returns c =
-    let end = at c + last_column in
-    ap₂ (λ (l h : ℕ). eqb l 0x2020_2020 && eqb h 0x2020_2020) (low-is c) (high_is c)
-    ∙ ap (λ (t : Bool). eqb (word_from (byte c) 4 0) 0x2020_2020 && t) (last_word (bytes c) (at c) end (long c) (small c) 4 4 (omega arith))
-    ∙ blank_word (bytes c) (at c) end (long c) (small c) 4 0 4 (omega arith)
-    ∙ ap (λ (i : ℕ). eqb (blanks_of (slice i end (bytes c))) last_column) (add-zero (at c))
+    let p = (goal.at.returns c).After-four-high in
+    let end = at p + last_column in
+    ap₂ (λ (l h : ℕ). eqb l 0x2020_2020 && eqb h 0x2020_2020) (low-is p) (high_is p)
+    ∙ ap (λ (t : Bool). eqb (word_from (byte p) 4 0) 0x2020_2020 && t) (last_word (bytes p) (at p) end (long p) (small p) 4 4 (omega arith))
+    ∙ blank_word (bytes p) (at p) end (long p) (small p) 4 0 4 (omega arith)
+    ∙ ap (λ (i : ℕ). eqb (blanks_of (slice i end (bytes p))) last_column) (add-zero (at p))

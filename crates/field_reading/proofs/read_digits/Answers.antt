@@ -80,42 +80,59 @@ module _ (c : In-loop-i) where
       sym (one_byte bytes c.loop-i.i end negative value (omega arith) c.requires.2 t d e v) ∙ c.loop-i.invariant.3
 
 module _ (c : Else-not-is_digit) where
-  is_one : is_digit (byte c.before.before.before) ≡ true
+  abbrev next : ℕ
+  next = get_or c.args.bytes.now c.loop-i.i 0
+
+  is_one : is_digit next ≡ true
   is_one = sym c.is_digit.ensures ∙ c.if-not-is_digit.false
 
-  high : byte c.before.before.before ≤ 57
-  high = digit_high (byte c.before.before.before) is_one
+  high : next ≤ 57
+  high = digit_high next is_one
 
-  digit-is : digit_in (byte c.before.before.before) ≡ byte c.before.before.before - 48
-  digit-is = omega (arith, digit_in_yes (byte c.before.before.before) is_one)
+  digit-is : digit_in next ≡ next - 48
+  digit-is = omega (arith, digit_in_yes next is_one)
 
 pub loop-i-init : goal.loop-i-init
 unfolding digits_read
 loop-i-init c = (search rules, search rules, one-le-pow (c.args.from - c.args.from) 10 (zero-lt-suc 9), refl)
 
 pub returns-then-not-is_digit : goal.returns-then-not-is_digit
-returns-then-not-is_digit c = answer-is c.before.before.before false _ (sym c.is_digit.ensures ∙ c.if-not-is_digit.true) refl
+returns-then-not-is_digit c =
+    let p = (goal.at.returns-then-not-is_digit c).In-loop-i in
+    answer-is p false _ (sym c.is_digit.ensures ∙ c.if-not-is_digit.true) refl
 
 pub overflow_mul-value : goal.overflow_mul-value
-overflow_mul-value c = record { fits = omega (arith, value_low c.before.before.before) }
+overflow_mul-value c =
+    let p = (goal.at.overflow_mul-value c).In-loop-i in
+    record { fits = omega (arith, value_low p) }
 
 pub overflow_sub-value : goal.overflow_sub-value
-overflow_sub-value c = digit_low (byte c.before.before.before) (is_one c)
+overflow_sub-value c =
+    let p = (goal.at.overflow_sub-value c).In-loop-i in
+    let p1 = (goal.at.overflow_sub-value c).Else-not-is_digit in
+    digit_low (byte p) (is_one p1)
 
 pub overflow_cast-value : goal.overflow_cast-value
-overflow_cast-value c = record { fits = omega (arith, high c) }
+overflow_cast-value c =
+    let p = (goal.at.overflow_cast-value c).Else-not-is_digit in
+    record { fits = omega (arith, high p) }
 
 pub overflow_add-value : goal.overflow_add-value
-overflow_add-value c = record { fits = omega (arith, value_low c.before.before.before, high c) }
+overflow_add-value c =
+    let p = (goal.at.overflow_add-value c).In-loop-i in
+    let p1 = (goal.at.overflow_add-value c).Else-not-is_digit in
+    record { fits = omega (arith, value_low p, high p1) }
 
 pub loop-i-preserved : goal.loop-i-preserved
 loop-i-preserved c =
-    let read = c.before.before.before in (
+    let p = (goal.at.loop-i-preserved c).In-loop-i in
+    let p1 = (goal.at.loop-i-preserved c).Else-not-is_digit in
+    (
       search rules,
       search rules,
-      longer (from read) read.loop-i.i (value read) (byte read - 48) read.loop-i.invariant.0
-          read.loop-i.invariant.2 (omega (arith, high c)),
-      answer-is read true (byte read - 48) (is_one c) (digit-is c),
+      longer (from p) c.loop-i.i (value p) (byte p - 48) c.loop-i.invariant.0
+          c.loop-i.invariant.2 (omega (arith, high p1)),
+      answer-is p true (byte p - 48) (is_one p1) (digit-is p1),
     )
 
 pub with_sign-requires : goal.with_sign-requires
@@ -123,8 +140,6 @@ with_sign-requires c = short (c.loop-i.i - c.args.from) 9 c.loop-i.value c.loop-
 
 pub returns : goal.returns
 returns c =
-    let loop = c.before.before in
-    let start = c.before.before.before.before in
     ap (λ (z : ℤ). answer true z) (reads_back w32 c.with_sign.result (omega arith) ∙ c.with_sign.ensures)
-    ∙ sym (all_read start.args.bytes.now loop.loop-i.i start.args.end start.args.negative loop.loop-i.value (omega arith))
-    ∙ loop.loop-i.invariant.3
+    ∙ sym (all_read c.args.bytes.now c.loop-i.i c.args.end c.args.negative c.loop-i.value (omega arith))
+    ∙ c.loop-i.invariant.3

@@ -9,10 +9,11 @@ use borrow.Author.Rules.{rules}
 use borrow.Author.Tests.{eqb-true, eqb-false}
 use Rattle.integers.proofs.Machine.{reads_back}
 use Rattle.field_reading.proofs.Places.{start_low, read_last, read_long, read_minus, read_plain}
+use Rattle.field_reading.proofs.read_field.Goals.{After-skip_blanks-start}
 use Rattle.field_reading.proofs.read_field.Goals as goal
 
 -- behind the blanks, which are fewer than eight
-module _ (c : tie.After-skip-blanks) where
+module _ (c : After-skip_blanks-start) where
   abbrev bytes : List ℕ
   bytes = c.args.bytes.now
 
@@ -28,41 +29,46 @@ module _ (c : tie.After-skip-blanks) where
   -- the blanks end before the last column
   inside : start < at + 8
   inside =
-      let blank = c.all_blank in
-      start_low bytes at long start c.skip_blanks-start.ensures (eqb-false _ 8 (sym blank.ensures ∙ c.if-all_blank.false))
+      start_low bytes at long start c.skip_blanks-start.ensures (eqb-false _ 8 (sym c.all_blank.ensures ∙ c.if-all_blank.false))
 
 pub returns-then-all_blank : goal.returns-then-all_blank
 returns-then-all_blank c =
-    let entry = c.before.before.before.before in
     reads_back w32 c.read_digits.result (omega arith) ∙ c.read_digits.ensures
-    ∙ sym (read_last entry.args.bytes.now entry.args.at entry.requires (eqb-true _ 8 (sym c.all_blank.ensures ∙ c.if-all_blank.true)))
+    ∙ sym (read_last c.args.bytes.now c.args.at c.requires (eqb-true _ 8 (sym c.all_blank.ensures ∙ c.if-all_blank.true)))
 
 pub returns-then-is_long : goal.returns-then-is_long
 returns-then-is_long c =
-    let entry = c.before.before.before.before.before.before.before in
     reads_back w32 c.read_digits-then-is_long.result (omega arith) ∙ c.read_digits-then-is_long.ensures
-    ∙ sym (read_long entry.args.bytes.now entry.args.at entry.requires (sym c.is_long.ensures ∙ c.if-is_long.true))
+    ∙ sym (read_long c.args.bytes.now c.args.at c.requires (sym c.is_long.ensures ∙ c.if-is_long.true))
 
 pub bounds-bytes-start : goal.bounds-bytes-start
-bounds-bytes-start c = omega (arith, inside c.before, long c.before)
+bounds-bytes-start c =
+    let p = (goal.at.bounds-bytes-start c).After-skip_blanks-start in
+    omega (arith, inside p, long p)
 
 pub overflow_add-start : goal.overflow_add-start
-overflow_add-start c = record { fits = omega (arith, inside c.before.before, long c.before.before) }
+overflow_add-start c =
+    let p = (goal.at.overflow_add-start c).After-skip_blanks-start in
+    record { fits = omega (arith, inside p, long p) }
 
 pub read_number-requires : goal.read_number-requires
-read_number-requires c = omega (arith, inside c.before.before, long c.before.before)
+read_number-requires c =
+    let p = (goal.at.read_number-requires c).After-skip_blanks-start in
+    omega (arith, inside p, long p)
 
 pub returns-then-bytes-start-eq-MINUS : goal.returns-then-bytes-start-eq-MINUS
 returns-then-bytes-start-eq-MINUS c =
-    let s = c.before.before.before in
+    let p = (goal.at.returns-then-bytes-start-eq-MINUS c).After-skip_blanks-start in
     reads_back w32 c.read_number.result (omega arith) ∙ c.read_number.ensures
-    ∙ sym (read_minus (bytes s) (at s) (long s) (start s) s.skip_blanks-start.ensures (inside s) c.if-bytes-start-eq-MINUS.true)
+    ∙ sym (read_minus (bytes p) (at p) (long p) (start p) c.skip_blanks-start.ensures (inside p) c.if-bytes-start-eq-MINUS.true)
 
 pub read_number-requires-2 : goal.read_number-requires-2
-read_number-requires-2 c = omega (arith, inside c.before.before, long c.before.before)
+read_number-requires-2 c =
+    let p = (goal.at.read_number-requires-2 c).After-skip_blanks-start in
+    omega (arith, inside p, long p)
 
 pub returns : goal.returns
 returns c =
-    let s = c.before.before.before in
+    let p = (goal.at.returns c).After-skip_blanks-start in
     reads_back w32 c.read_number-2.result (omega arith) ∙ c.read_number-2.ensures
-    ∙ sym (read_plain (bytes s) (at s) (long s) (start s) s.skip_blanks-start.ensures (inside s) c.if-bytes-start-eq-MINUS.false)
+    ∙ sym (read_plain (bytes p) (at p) (long p) (start p) c.skip_blanks-start.ensures (inside p) c.if-bytes-start-eq-MINUS.false)

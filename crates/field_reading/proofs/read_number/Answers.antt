@@ -9,11 +9,9 @@ use Rattle.field_reading.proofs.read_number.Goals as goal
 
 pub returns-then-bytes-from-eq-ZERO : goal.returns-then-bytes-from-eq-ZERO
 returns-then-bytes-from-eq-ZERO c =
-    let entry = c.before.before.before in
-    sym (read_zero entry.args.bytes.now entry.args.from entry.args.end entry.requires.0 entry.args.negative c.if-bytes-from-eq-ZERO.true)
+    sym (read_zero c.args.bytes.now c.args.from c.args.end c.requires.0 c.args.negative c.if-bytes-from-eq-ZERO.true)
 
 pub returns : goal.returns
 returns c =
-    let entry = c.before.before.before.before in
     reads_back w32 c.read_digits.result (omega arith) ∙ c.read_digits.ensures
-    ∙ sym (read_number entry.args.bytes.now entry.args.from entry.args.end entry.requires.0 entry.args.negative c.if-bytes-from-eq-ZERO.false)
+    ∙ sym (read_number c.args.bytes.now c.args.from c.args.end c.requires.0 c.args.negative c.if-bytes-from-eq-ZERO.false)

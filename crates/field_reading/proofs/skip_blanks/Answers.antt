@@ -13,22 +13,17 @@ loop-i-init c = (search rules, refl)
 
 pub returns-then-bytes-i-ne-BLANK : goal.returns-then-bytes-i-ne-BLANK
 returns-then-bytes-i-ne-BLANK c =
-    let loop = c.before.before.before in
-    let entry = c.before.before.before.before in
     omega (
       arith,
-      loop.loop-i.invariant.1,
-      no_more entry.args.bytes.now loop.loop-i.i entry.args.end (omega arith) entry.requires.1 c.if-bytes-i-ne-BLANK.true,
+      c.loop-i.invariant.1,
+      no_more c.args.bytes.now c.loop-i.i c.args.end (omega arith) c.requires.1 c.if-bytes-i-ne-BLANK.true,
     )
 
 pub loop-i-preserved : goal.loop-i-preserved
 loop-i-preserved c =
-    let loop = c.before.before.before in
-    let entry = c.before.before.before.before in
-    let more = one_more entry.args.bytes.now loop.loop-i.i entry.args.end (omega arith) entry.requires.1 c.if-bytes-i-ne-BLANK.false in
-    (search rules, omega (arith, loop.loop-i.invariant.1, more))
+    let more = one_more c.args.bytes.now c.loop-i.i c.args.end (omega arith) c.requires.1 c.if-bytes-i-ne-BLANK.false in
+    (search rules, omega (arith, c.loop-i.invariant.1, more))
 
 pub returns : goal.returns
 returns c =
-    let entry = c.before.before in
-    omega (arith, c.loop-i.invariant.1, none_left entry.args.bytes.now c.loop-i.i entry.args.end (omega arith))
+    omega (arith, c.loop-i.invariant.1, none_left c.args.bytes.now c.loop-i.i c.args.end (omega arith))

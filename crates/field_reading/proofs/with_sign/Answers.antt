@@ -22,12 +22,17 @@ module _ (c : Start) where
       below-fits {m = 1000000000} (omega (arith, c.requires, size)) tt
 
 pub overflow_sub-result : goal.overflow_sub-result
-overflow_sub-result c = binary_need ◌-ℤ◌ (literal 0) (value c.before) (flipped-fits c.before)
+overflow_sub-result c =
+    let p = (goal.at.overflow_sub-result c).Start in
+    binary_need ◌-ℤ◌ (literal 0) (value p) (flipped-fits p)
 
 pub returns-then-negative : goal.returns-then-negative
 returns-then-negative c =
-    binary_reads ◌-ℤ◌ (literal 0) (value c.before) (flipped-fits c.before) ∙ +ℤ_idl (neg_ℤ (pos c.args.value))
+    let p = (goal.at.returns-then-negative c).Start in
+    binary_reads ◌-ℤ◌ (literal 0) (value p) (flipped-fits p) ∙ +ℤ_idl (neg_ℤ (pos c.args.value))
     ∙ sym (ap (λ (t : Bool). signed t c.args.value) c.if-negative.true)
 
 pub returns : goal.returns
-returns c = (value c.before).reads ∙ sym (ap (λ (t : Bool). signed t c.args.value) c.if-negative.false)
+returns c =
+    let p = (goal.at.returns c).Start in
+    (value p).reads ∙ sym (ap (λ (t : Bool). signed t c.args.value) c.if-negative.false)

@@ -12,7 +12,7 @@ use Rattle.integers.proofs.Order.{lt_z_true, lt_z_false}
 use Rattle.integers.proofs.Abs.{mag_low}
 use Rattle.integers.proofs.Machine.{Num, num, literal, binary, binary_need, binary_reads, unsigned_need, range_fits, test_of}
 use borrow.Author.Rules.{rules}
-use Rattle.field_writing.proofs.magnitude.Goals.{Start, Then-number-lt0}
+use Rattle.field_writing.proofs.magnitude.Goals.{Then-number-lt0}
 use Rattle.field_writing.proofs.magnitude.Goals as goal
 
 -- -(n + 1)
@@ -29,16 +29,12 @@ abs_mag : (z : ℤ) → z <ℤ pos 0 → mag z + 1 ≡ nat_abs z
 abs_mag (pos n) h = omega linear
 abs_mag (negsuc n) h = omega arith
 
-module _ (c : Start) where
-  abbrev number : Num w32
-  number = num c.args.number c.ranges.number
-
 module _ (c : Then-number-lt0) where
   abbrev z : ℤ
   z = c.args.number
 
   negative : z <ℤ pos 0
-  negative = lt_z_true z (pos 0) (test_of lt_z (number c.before) (literal 0) c.if-number-lt0.true)
+  negative = lt_z_true z (pos 0) (test_of lt_z (num z c.ranges.number) (literal 0) c.if-number-lt0.true)
 
   more-fits : SFits w32 (z +ℤ pos 1)
   more-fits =
@@ -46,7 +42,7 @@ module _ (c : Then-number-lt0) where
       (omega (linear, negative, (var z ⊕ var (pos 1)).tie))
 
   abbrev more : Num w32
-  more = binary ◌+ℤ◌ (number c.before) (literal 1) more-fits
+  more = binary ◌+ℤ◌ (num z c.ranges.number) (literal 1) more-fits
 
   flipped-fits : SFits w32 (flipped z)
   flipped-fits = subst (λ (x : ℤ). SFits w32 x) (sym (flipped-is z negative)) (record { sfits = c.ranges.number.sfits })
@@ -56,22 +52,31 @@ module _ (c : Then-number-lt0) where
   rest-is = binary_reads ◌-ℤ◌ (literal 0) more flipped-fits ∙ flipped-is z negative
 
 pub overflow_add-result : goal.overflow_add-result
-overflow_add-result c = binary_need ◌+ℤ◌ (number c.before) (literal 1) (more-fits c)
+overflow_add-result c =
+    let p = (goal.at.overflow_add-result c).Then-number-lt0 in
+    binary_need ◌+ℤ◌ (num c.args.number c.ranges.number) (literal 1) (more-fits p)
 
 pub overflow_sub-result : goal.overflow_sub-result
-overflow_sub-result c = binary_need ◌-ℤ◌ (literal 0) (more c) (flipped-fits c)
+overflow_sub-result c =
+    let p = (goal.at.overflow_sub-result c).Then-number-lt0 in
+    binary_need ◌-ℤ◌ (literal 0) (more p) (flipped-fits p)
 
 pub overflow_cast-result : goal.overflow_cast-result
-overflow_cast-result c = subst (λ (x : ℤ). T (non_neg x) × Fits w32 (nat_abs x)) (sym (rest-is c)) (tt, record { fits = omega (arith, c.ranges.number.sfits) })
+overflow_cast-result c =
+    let p = (goal.at.overflow_cast-result c).Then-number-lt0 in
+    subst (λ (x : ℤ). T (non_neg x) × Fits w32 (nat_abs x)) (sym (rest-is p)) (tt, record { fits = omega (arith, c.ranges.number.sfits) })
 
 pub overflow_add-result-then-number-lt0 : goal.overflow_add-result-then-number-lt0
-overflow_add-result-then-number-lt0 c = record { fits = omega (arith, ap nat_abs (rest-is c), c.ranges.number.sfits) }
+overflow_add-result-then-number-lt0 c =
+    let p = (goal.at.overflow_add-result-then-number-lt0 c).Then-number-lt0 in
+    record { fits = omega (arith, ap nat_abs (rest-is p), c.ranges.number.sfits) }
 
 pub returns-then-number-lt0 : goal.returns-then-number-lt0
-returns-then-number-lt0 c = ap (λ (x : ℤ). nat_abs x + 1) (rest-is c) ∙ abs_mag (z c) (negative c)
+returns-then-number-lt0 c =
+    let p = (goal.at.returns-then-number-lt0 c).Then-number-lt0 in
+    ap (λ (x : ℤ). nat_abs x + 1) (rest-is p) ∙ abs_mag (z p) (negative p)
 
 pub overflow_cast-result-2 : goal.overflow_cast-result-2
 overflow_cast-result-2 c =
-    let entry = c.before in
-    unsigned_need (number entry) (lt_z_false entry.args.number (pos 0) (test_of lt_z (number entry) (literal 0) c.if-number-lt0.false))
-    (omega (arith, nat_abs-le entry.args.number entry.ranges.number.sfits))
+    unsigned_need (num c.args.number c.ranges.number) (lt_z_false c.args.number (pos 0) (test_of lt_z (num c.args.number c.ranges.number) (literal 0) c.if-number-lt0.false))
+    (omega (arith, nat_abs-le c.args.number c.ranges.number.sfits))

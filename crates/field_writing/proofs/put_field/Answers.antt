@@ -55,26 +55,24 @@ module _ (before : List ℕ) (at : ℕ) (number : ℤ) {size : ℕ} (e : size �
       ∙ ap₂ (λ (k d : ℕ). sets before at (front k ++ (digit d ∷ []))) none all
 
 pub bounds-out-at-then-size-lt10 : goal.bounds-out-at-then-size-lt10
-bounds-out-at-then-size-lt10 c = simp length-set (omega (arith, c.put_blanks.auto.0))
+bounds-out-at-then-size-lt10 c = simp length-set (omega (arith, c.put_blanks.auto.out))
 
 pub returns-then-size-lt10 : goal.returns-then-size-lt10
 returns-then-size-lt10 c =
-    let start = c.before.before.before.before.before.before.before.before in
-    stored_short start.args.out.now start.args.at (to_z w32 (of_z w32 start.args.number))
+    stored_short c.args.out.now c.args.at (to_z w32 (of_z w32 c.args.number))
     c.magnitude-size.ensures
     c.put_blanks.ensures c.column.ensures c.if-size-lt10.true
-    ∙ ap (λ (z : ℤ). sets start.args.out.now start.args.at (field z)) (to_z-of_z start.ranges.number)
+    ∙ ap (λ (z : ℤ). sets c.args.out.now c.args.at (field z)) (to_z-of_z c.ranges.number)
 
 pub put_columns-requires : goal.put_columns-requires
 put_columns-requires c = simp length-set (omega arith)
 
 pub shape_of-out : goal.shape_of-out
-shape_of-out c = c.put_columns.auto.0 ∙ simp length-set
+shape_of-out c = c.put_columns.auto.out ∙ simp length-set
 
 pub returns : goal.returns
 returns c =
-    let start = c.before.before.before.before.before.before.before in
     c.put_columns.ensures
-    ∙ stored-field start.args.out.now start.args.at (to_z w32 (of_z w32 start.args.number))
+    ∙ stored-field c.args.out.now c.args.at (to_z w32 (of_z w32 c.args.number))
     c.magnitude-size.ensures
-    ∙ ap (λ (z : ℤ). sets start.args.out.now start.args.at (field z)) (to_z-of_z start.ranges.number)
+    ∙ ap (λ (z : ℤ). sets c.args.out.now c.args.at (field z)) (to_z-of_z c.ranges.number)

@@ -15,69 +15,65 @@ use Rattle.sheet.specs.Lines.{band_letter, band_ranges, band_joint}
 use Rattle.line_reading.specs.Gives.{FieldsGive}
 use Rattle.line_reading.proofs.Fields.{any_fields}
 use Rattle.line_reading.proofs.Line.{room_from, letter_refused, fields_refused, numbers_there, line_ended}
-use Rattle.line_reading.proofs.read_band.Goals.{After-read_fields-middle, Else-not-accepted, Start}
+use Rattle.line_reading.proofs.read_band.Goals.{After-read_fields-middle, Else-not-accepted}
 use Rattle.line_reading.proofs.read_band.Goals as goal
 
 pub returns-then-not-accepted : goal.returns-then-not-accepted
 returns-then-not-accepted c =
-    let s = c.before.before.before.before in
-    letter_refused band_letter band_ranges band_joint (λ l. l) band_size refl s.args.bytes.now s.args.at s.args.slots.now s.args.place c.check_letter-front.ensures
+    letter_refused band_letter band_ranges band_joint (λ l. l) band_size refl c.args.bytes.now c.args.at c.args.slots.now c.args.place c.check_letter-front.ensures
     (sym c.accepted.ensures ∙ c.if-not-accepted.true)
 
 -- ---- the letter accepted
 
 module _ (c : Else-not-accepted) where
-  abbrev start : Start
-  start = c.before.before.before.before
-
   abbrev bytes : List ℕ
-  bytes = start.args.bytes.now
+  bytes = c.args.bytes.now
 
   passed : is_accepted c.check_letter-front.result ≡ true
   passed = sym c.accepted.ensures ∙ c.if-not-accepted.false
 
   -- the line's bytes are there
-  room : start.args.at + line_size band_size ≤ length bytes
-  room = room_from band_letter band_size bytes start.args.at start.requires.0 c.check_letter-front.ensures passed
+  room : c.args.at + line_size band_size ≤ length bytes
+  room = room_from band_letter band_size bytes c.args.at c.requires.0 c.check_letter-front.ensures passed
 
 pub read_fields-middle-requires : goal.read_fields-middle-requires
-read_fields-middle-requires c = (omega (arith, room c.before), (start c.before).requires.1)
+read_fields-middle-requires c =
+    let p = (goal.at.read_fields-middle-requires c).Else-not-accepted in
+    (omega (arith, room p), c.requires.1)
 
 -- ---- the fields read
 
 module _ (c : After-read_fields-middle) where
-  abbrev o : Else-not-accepted
-  o = c.before.before
-
   abbrev after : List ℤ
   after = c.read_fields-middle.new.slots
 
+  began : is_accepted c.check_letter-front.result ≡ true
+  began = sym c.accepted.ensures ∙ c.if-not-accepted.false
+
+  enough : c.args.at + line_size band_size ≤ length c.args.bytes.now
+  enough = room_from band_letter band_size c.args.bytes.now c.args.at c.requires.0 c.check_letter-front.ensures began
+
   -- any number of nine digits is in its range
-  fields : FieldsGive band_ranges (drop ((start o).args.at + 1) (bytes o)) (start o).args.slots.now (start o).args.place c.read_fields-middle.result after
-  fields = any_fields band_size (drop ((start o).args.at + 1) (bytes o)) (omega (arith, room o, length-drop ((start o).args.at + 1) (bytes o))) c.read_fields-middle.ensures
+  fields : FieldsGive band_ranges (drop (c.args.at + 1) c.args.bytes.now) c.args.slots.now c.args.place c.read_fields-middle.result after
+  fields = any_fields band_size (drop (c.args.at + 1) c.args.bytes.now) (omega (arith, enough, length-drop (c.args.at + 1) c.args.bytes.now)) c.read_fields-middle.ensures
 
   -- the numbers stored are the line's
-  there : is_accepted c.read_fields-middle.result ≡ true → take band_size (drop (start o).args.place after) ≡ field_numbers band_size (drop 1 (drop (start o).args.at (bytes o)))
+  there : is_accepted c.read_fields-middle.result ≡ true → take band_size (drop c.args.place after) ≡ field_numbers band_size (drop 1 (drop c.args.at c.args.bytes.now))
   there e =
-      numbers_there band_letter band_ranges band_joint (λ l. l) band_size refl (bytes o) (start o).args.at (start o).args.slots.now (start o).args.place o.check_letter-front.ensures (passed o) fields e band_size refl (start o).requires.1
+      numbers_there band_letter band_ranges band_joint (λ l. l) band_size refl c.args.bytes.now c.args.at c.args.slots.now c.args.place c.check_letter-front.ensures began fields e band_size refl c.requires.1
 
 pub returns-then-not-accepted-2 : goal.returns-then-not-accepted-2
 returns-then-not-accepted-2 c =
-    let f = c.before.before.before in
-    let s = start (o f) in
-    fields_refused band_letter band_ranges band_joint (λ l. l) band_size refl (bytes (o f)) s.args.at s.args.slots.now s.args.place (o f).check_letter-front.ensures (passed (o f)) (fields f)
+    let p = (goal.at.returns-then-not-accepted-2 c).After-read_fields-middle in
+    fields_refused band_letter band_ranges band_joint (λ l. l) band_size refl c.args.bytes.now c.args.at c.args.slots.now c.args.place c.check_letter-front.ensures (began p) (fields p)
     (sym c.accepted-2.ensures ∙ c.if-not-accepted-2.true)
 
 pub check_end-end-requires : goal.check_end-end-requires
-check_end-end-requires c = room (o c.before.before.before.before.before)
+check_end-end-requires c = room (goal.at.check_end-end-requires c).Else-not-accepted
 
 pub returns : goal.returns
 returns c =
-    let n = c.before in
-    let b = n.before in
-    let t = b.before.before in
-    let f = t.before.before.before in
-    let s = start (o f) in
-    let e = sym t.accepted-2.ensures ∙ t.if-not-accepted-2.false in
-    line_ended band_letter band_ranges band_joint (λ l. l) band_size refl (bytes (o f)) s.args.at s.args.slots.now s.args.place (o f).check_letter-front.ensures (passed (o f)) (fields f) e
-    (c.first_of.ensures ∙ ap₂ first_of (b.check_band_at-joint.ensures ∙ ap band_joint (there f e)) n.check_end-end.ensures)
+    let p = (goal.at.returns c).After-read_fields-middle in
+    let e = sym c.accepted-2.ensures ∙ c.if-not-accepted-2.false in
+    line_ended band_letter band_ranges band_joint (λ l. l) band_size refl c.args.bytes.now c.args.at c.args.slots.now c.args.place c.check_letter-front.ensures (began p) (fields p) e
+    (c.first_of.ensures ∙ ap₂ first_of (c.check_band_at-joint.ensures ∙ ap band_joint (there p e)) c.check_end-end.ensures)

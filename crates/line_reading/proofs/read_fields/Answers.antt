@@ -8,7 +8,7 @@ use lib.IntN.{ℤ}
 use lib.ListN.{length, drop, replicate}
 use mir.Facts.{to_z-of_z}
 use mir.Syntax.{w32}
-use mir.Val.{to_z, of_z}
+use mir.Val.{SFits, to_z, of_z}
 use borrow.Author.Rules.{rules}
 use borrow.Author.Tests.{not-true, not-false}
 use Rattle.rounding.specs.Rounding.{within}
@@ -20,91 +20,76 @@ use Rattle.forms.specs.Line.{field_verdict}
 use Rattle.line_reading.specs.Gives.{FieldsGive}
 use Rattle.line_reading.proofs.Field.{field_badly, field_number, field_tested}
 use Rattle.line_reading.proofs.Fields.{ReadUpTo, none_read_yet, all_read, read_off, read_on}
-use Rattle.line_reading.proofs.read_fields.Goals.{After-in_range_i32, After-read_field-number, Start}
-use Rattle.line_reading.proofs.read_fields.Invariants.{range_of}
+use Rattle.line_reading.proofs.read_fields.Goals.{After-in_range_i32, After-read_field-number}
 use Rattle.line_reading.proofs.read_fields.Goals as goal
 
--- the range's ends are given by their bits
+-- the range as the loop has it: its ends read back from their bits
+abbrev range_of : ℤ → ℤ → ℤ → Bool
+range_of low high = within (to_z w32 (of_z w32 low)) (to_z w32 (of_z w32 high))
 
-module _ (c : Start) where
-  abbrev range : ℤ → Bool
-  range = range_of (of_z w32 c.args.low) (of_z w32 c.args.high)
-
-  -- what the fields give, in the words of the contract
-  in_words : {v : Verdict} {after : List ℤ} → FieldsGive (replicate c.args.count range) (drop c.args.at c.args.bytes.now) c.args.slots.now c.args.place v after
-      → FieldsGive (replicate c.args.count (within c.args.low c.args.high)) (drop c.args.at c.args.bytes.now) c.args.slots.now c.args.place v after
-  in_words {v} {after} s =
-      subst (λ (r : ℤ → Bool). FieldsGive (replicate c.args.count r) (drop c.args.at c.args.bytes.now) c.args.slots.now c.args.place v after)
-      (ap₂ within (to_z-of_z c.ranges.low) (to_z-of_z c.ranges.high)) s
+-- what the fields give, in the words of the contract
+in_words : (low high : ℤ) → SFits w32 low → SFits w32 high → (count : ℕ) (rest : List ℕ) (before : List ℤ) (place : ℕ) (v : Verdict) (after : List ℤ)
+    → FieldsGive (replicate count (range_of low high)) rest before place v after → FieldsGive (replicate count (within low high)) rest before place v after
+in_words low high l h count rest before place v after s =
+    subst (λ (r : ℤ → Bool). FieldsGive (replicate count r) rest before place v after) (ap₂ within (to_z-of_z {w = w32} l) (to_z-of_z {w = w32} h)) s
 
 pub loop-i-init : goal.loop-i-init
-loop-i-init c =
-    let args = c.args in
-    none_read_yet (range c.before) args.count args.bytes.now args.at args.slots.now args.place
+loop-i-init c = none_read_yet (range_of c.args.low c.args.high) c.args.count c.args.bytes.now c.args.at c.args.slots.now c.args.place
 
 -- ---- the ith field read
 
 module _ (c : After-read_field-number) where
-  abbrev start : Start
-  start = c.before.before.before.before
+  abbrev range : ℤ → Bool
+  range = range_of c.args.low c.args.high
 
   abbrev bytes : List ℕ
-  bytes = start.args.bytes.now
-
-  abbrev i : ℕ
-  i = c.loop-i.i
+  bytes = c.args.bytes.now
 
   abbrev here : ℕ
-  here = start.args.at + field_size * i
+  here = c.args.at + field_size * c.loop-i.i
 
-  abbrev number : ℤ
-  number = c.read_field-number.result
-
-  below : i < start.args.count
+  below : c.loop-i.i < c.args.count
   below = omega arith
 
   long : here + field_size ≤ length bytes
-  long = omega (arith, start.requires.0)
+  long = omega (arith, c.requires.0)
 
   -- it is refused
-  refused : {v : Verdict} → field_verdict (range start) (field_at bytes here) ≡ v → is_accepted v ≡ false
-      → FieldsGive (replicate start.args.count (within start.args.low start.args.high)) (drop start.args.at bytes) start.args.slots.now start.args.place v c.loop-i.slots
-  refused e f =
-      in_words start
-      (read_off (range start) start.args.count bytes start.args.at start.args.slots.now start.args.place c.loop-i.invariant below e f)
+  refused : {v : Verdict} → field_verdict range (field_at bytes here) ≡ v → is_accepted v ≡ false
+      → FieldsGive (replicate c.args.count (within c.args.low c.args.high)) (drop c.args.at bytes) c.args.slots.now c.args.place v c.loop-i.slots
+  refused {v} e f =
+      in_words c.args.low c.args.high c.ranges.low c.ranges.high c.args.count (drop c.args.at bytes) c.args.slots.now c.args.place v c.loop-i.slots
+      (read_off range c.args.count bytes c.args.at c.args.slots.now c.args.place c.loop-i.invariant below e f)
 
 pub returns-then-number-eq-NO_NUMBER : goal.returns-then-number-eq-NO_NUMBER
 returns-then-number-eq-NO_NUMBER c =
-    let o = c.before in
-    refused o (field_badly (range (start o)) (bytes o) (here o) (long o) (number o) o.read_field-number.type_inv o.read_field-number.ensures c.if-number-eq-NO_NUMBER.true) refl
+    let p = (goal.at.returns-then-number-eq-NO_NUMBER c).After-read_field-number in
+    refused p (field_badly (range p) (bytes p) (here p) (long p) c.read_field-number.result c.read_field-number.type_inv c.read_field-number.ensures c.if-number-eq-NO_NUMBER.true) refl
 
 -- ---- its number tested
 
 module _ (c : After-in_range_i32) where
-  abbrev o : After-read_field-number
-  o = c.before.before
-
-  tested : (t : Bool) → c.in_range_i32.result ≡ t → field_verdict (range (start o)) (field_at (bytes o) (here o)) ≡ unless t Unfit Accepted
+  tested : (t : Bool) → c.in_range_i32.result ≡ t → field_verdict (range_of c.args.low c.args.high) (field_at c.args.bytes.now (c.args.at + field_size * c.loop-i.i)) ≡ unless t Unfit Accepted
   tested t e =
-      field_tested (range (start o)) (bytes o) (here o) (long o) (number o) o.read_field-number.ok o.read_field-number.ensures c.if-number-eq-NO_NUMBER.false t
+      field_tested (range_of c.args.low c.args.high) c.args.bytes.now (c.args.at + field_size * c.loop-i.i) (omega (arith, c.requires.0))
+      c.read_field-number.result c.read_field-number.type_inv c.read_field-number.ensures c.if-number-eq-NO_NUMBER.false t
       (sym c.in_range_i32.ensures ∙ e)
 
 pub returns-then-not-in_range_i32 : goal.returns-then-not-in_range_i32
 returns-then-not-in_range_i32 c =
-    let t = c.before in
-    refused (o t) (tested t false (c.if-not-in_range_i32.true)) refl
+    let p = (goal.at.returns-then-not-in_range_i32 c).After-read_field-number in
+    let q = (goal.at.returns-then-not-in_range_i32 c).After-in_range_i32 in
+    refused p (tested q false c.if-not-in_range_i32.true) refl
 
 pub loop-i-preserved : goal.loop-i-preserved
 loop-i-preserved c =
-    let t = c.before in
-    let f = o t in
-    let s = start f in
-    read_on (range s) s.args.count (bytes f) s.args.at s.args.slots.now s.args.place f.loop-i.invariant (below f)
-    (tested t true (c.if-not-in_range_i32.false))
-    (field_number (range s) (bytes f) (here f) (long f) (number f) f.read_field-number.ok f.read_field-number.ensures t.if-number-eq-NO_NUMBER.false)
+    let p = (goal.at.loop-i-preserved c).After-read_field-number in
+    let q = (goal.at.loop-i-preserved c).After-in_range_i32 in
+    read_on (range p) c.args.count (bytes p) c.args.at c.args.slots.now c.args.place c.loop-i.invariant (below p)
+    (tested q true c.if-not-in_range_i32.false)
+    (field_number (range p) (bytes p) (here p) (long p) c.read_field-number.result c.read_field-number.type_inv c.read_field-number.ensures c.if-number-eq-NO_NUMBER.false)
 
 pub returns : goal.returns
 returns c =
-    let s = c.before.before.before in
-    in_words s
-    (all_read (range s) s.args.count s.args.bytes.now s.args.at s.args.slots.now s.args.place c.loop-i.invariant (omega arith))
+    in_words c.args.low c.args.high c.ranges.low c.ranges.high c.args.count (drop c.args.at c.args.bytes.now) c.args.slots.now c.args.place Accepted c.loop-i.slots
+    (all_read (range_of c.args.low c.args.high) c.args.count c.args.bytes.now c.args.at c.args.slots.now c.args.place c.loop-i.invariant (omega arith))

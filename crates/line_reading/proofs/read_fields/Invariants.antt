@@ -22,15 +22,8 @@ use Rattle.line_reading.proofs.Field.{field_badly, field_number, field_tested}
 use Rattle.line_reading.proofs.Fields.{ReadUpTo, none_read_yet, all_read, read_off, read_on}
 use Rattle.line_reading.proofs.read_fields.Given as goal
 
-abbrev pub range_of : ℕ → ℕ → ℤ → Bool
-
-range_of low high = within (to_z w32 low) (to_z w32 high)
-
-
-
-
 abbrev pub invariant-loop-i : goal.invariant-loop-i
-invariant-loop-i l = ReadUpTo (range_of l.low l.high) l.count l.bytes l.at l.initial.slots l.place l.i l.slots
+invariant-loop-i l = ReadUpTo (within l.low l.high) l.count l.bytes l.at l.initial.slots l.place l.i l.slots
 
 abbrev pub decreases-loop-i : goal.decreases-loop-i
 decreases-loop-i l = l.count - l.i

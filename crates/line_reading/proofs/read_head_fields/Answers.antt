@@ -12,27 +12,19 @@ use Rattle.line_reading.proofs.read_head_fields.Goals as goal
 
 pub returns-then-not-accepted : goal.returns-then-not-accepted
 returns-then-not-accepted c =
-    let f = c.before.before.before in
-    let args = f.args in
-    first_off is_input (is_input ∷ is_flag ∷ []) args.bytes.now args.at f.read_input-first.ensures (sym c.accepted.ensures ∙ c.if-not-accepted.true)
+    let args = c.args in
+    first_off is_input (is_input ∷ is_flag ∷ []) args.bytes.now args.at c.read_input-first.ensures (sym c.accepted.ensures ∙ c.if-not-accepted.true)
 
 pub returns-then-not-accepted-2 : goal.returns-then-not-accepted-2
 returns-then-not-accepted-2 c =
-    let g = c.before.before.before in
-    let o = g.before.before in
-    let f = o.before.before.before in
-    let args = f.args in
-    first_on is_input (is_input ∷ is_flag ∷ []) args.bytes.now args.at f.read_input-first.ensures (sym o.accepted.ensures ∙ o.if-not-accepted.false) (args.at + field_size) refl
-    (first_off is_input (is_flag ∷ []) args.bytes.now (args.at + field_size) g.read_input-second.ensures (sym c.accepted-2.ensures ∙ c.if-not-accepted-2.true))
+    let args = c.args in
+    first_on is_input (is_input ∷ is_flag ∷ []) args.bytes.now args.at c.read_input-first.ensures (sym c.accepted.ensures ∙ c.if-not-accepted.false) (args.at + field_size) refl
+    (first_off is_input (is_flag ∷ []) args.bytes.now (args.at + field_size) c.read_input-second.ensures (sym c.accepted-2.ensures ∙ c.if-not-accepted-2.true))
 
 pub returns : goal.returns
 unfolding is_flag
 returns c =
-    let t = c.before.before.before in
-    let g = t.before.before.before in
-    let o = g.before.before in
-    let f = o.before.before.before in
-    let args = f.args in
-    first_on is_input (is_input ∷ is_flag ∷ []) args.bytes.now args.at f.read_input-first.ensures (sym o.accepted.ensures ∙ o.if-not-accepted.false) (args.at + field_size) refl
-    (first_on is_input (is_flag ∷ []) args.bytes.now (args.at + field_size) g.read_input-second.ensures (sym t.accepted-2.ensures ∙ t.if-not-accepted-2.false) (args.at + 18) (omega arith)
+    let args = c.args in
+    first_on is_input (is_input ∷ is_flag ∷ []) args.bytes.now args.at c.read_input-first.ensures (sym c.accepted.ensures ∙ c.if-not-accepted.false) (args.at + field_size) refl
+    (first_on is_input (is_flag ∷ []) args.bytes.now (args.at + field_size) c.read_input-second.ensures (sym c.accepted-2.ensures ∙ c.if-not-accepted-2.false) (args.at + 18) (omega arith)
     c.read_fields.ensures)

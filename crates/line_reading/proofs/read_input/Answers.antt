@@ -10,30 +10,23 @@ use Rattle.line_reading.proofs.read_input.Goals as goal
 
 pub returns-then-input-eq-NO_NUMBER : goal.returns-then-input-eq-NO_NUMBER
 returns-then-input-eq-NO_NUMBER c =
-    let s = c.before.before.before in
-    refusal (sym (field_badly is_input s.args.bytes.now s.args.at s.requires.0 c.read_field-input.result c.read_field-input.type_inv c.read_field-input.ensures c.if-input-eq-NO_NUMBER.true)) refl refl
+    refusal (sym (field_badly is_input c.args.bytes.now c.args.at c.requires.0 c.read_field-input.result c.read_field-input.type_inv c.read_field-input.ensures c.if-input-eq-NO_NUMBER.true)) refl refl
 
 pub returns-then-not-is_input : goal.returns-then-not-is_input
 returns-then-not-is_input c =
-    let o = c.before in
-    let f = c.before.before.before in
-    let s = c.before.before.before.before.before in
     refusal
-    (sym (field_tested is_input s.args.bytes.now s.args.at s.requires.0 f.read_field-input.result f.read_field-input.type_inv f.read_field-input.ensures o.if-input-eq-NO_NUMBER.false false
-    (sym o.is_input.ensures ∙ c.if-not-is_input.true)))
+    (sym (field_tested is_input c.args.bytes.now c.args.at c.requires.0 c.read_field-input.result c.read_field-input.type_inv c.read_field-input.ensures c.if-input-eq-NO_NUMBER.false false
+    (sym c.is_input.ensures ∙ c.if-not-is_input.true)))
     refl refl
 
 pub returns : goal.returns
 returns c =
-    let o = c.before in
-    let f = c.before.before.before in
-    let s = c.before.before.before.before.before in
     record {
       verdict_is =
-          sym (field_tested is_input s.args.bytes.now s.args.at s.requires.0 f.read_field-input.result f.read_field-input.type_inv f.read_field-input.ensures o.if-input-eq-NO_NUMBER.false true
-          (sym o.is_input.ensures ∙ c.if-not-is_input.false));
-      size_is = length-set s.args.slots.now _ _;
+          sym (field_tested is_input c.args.bytes.now c.args.at c.requires.0 c.read_field-input.result c.read_field-input.type_inv c.read_field-input.ensures c.if-input-eq-NO_NUMBER.false true
+          (sym c.is_input.ensures ∙ c.if-not-is_input.false));
+      size_is = length-set c.args.slots.now _ _;
       numbers_are = λ e.
-          ap (set s.args.slots.now s.args.place)
-          (field_number is_input s.args.bytes.now s.args.at s.requires.0 f.read_field-input.result f.read_field-input.type_inv f.read_field-input.ensures o.if-input-eq-NO_NUMBER.false);
+          ap (set c.args.slots.now c.args.place)
+          (field_number is_input c.args.bytes.now c.args.at c.requires.0 c.read_field-input.result c.read_field-input.type_inv c.read_field-input.ensures c.if-input-eq-NO_NUMBER.false);
     }

@@ -12,17 +12,14 @@ use Rattle.line_reading.proofs.read_remainder.Goals as goal
 
 pub returns-then-not-fifth : goal.returns-then-not-fifth
 returns-then-not-fifth c =
-    let s = c.before.before in
-    fifth_none s.args.fifth (drop s.args.at s.args.bytes.now) s.args.slots.now s.args.place (c.if-not-fifth.true)
+    fifth_none c.args.fifth (drop c.args.at c.args.bytes.now) c.args.slots.now c.args.place (c.if-not-fifth.true)
 
 pub read_fields-requires : goal.read_fields-requires
 read_fields-requires c =
-    let s = c.before.before.before in
-    let one : length (fifth_range s.args.fifth) ≡ 1 = ap (λ (fifth : Bool). length (fifth_range fifth)) (not-false s.args.fifth c.if-not-fifth.false-raw) in
-    (omega (arith, one, s.requires.0), s.requires.1)
+    let one : length (fifth_range c.args.fifth) ≡ 1 = ap (λ (fifth : Bool). length (fifth_range fifth)) (c.if-not-fifth.false) in
+    (omega (arith, one, c.requires.0), c.requires.1)
 
 pub returns : goal.returns
 unfolding is_remainder
 returns c =
-    let s = c.before.before.before.before.before in
-    fifth_read s.args.fifth (drop s.args.at s.args.bytes.now) s.args.slots.now s.args.place (c.if-not-fifth.false) c.read_fields.ensures
+    fifth_read c.args.fifth (drop c.args.at c.args.bytes.now) c.args.slots.now c.args.place (c.if-not-fifth.false) c.read_fields.ensures

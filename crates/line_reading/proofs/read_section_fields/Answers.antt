@@ -7,13 +7,8 @@ use Rattle.line_reading.proofs.read_section_fields.Goals as goal
 
 pub returns-then-not-accepted : goal.returns-then-not-accepted
 returns-then-not-accepted c =
-    let f = c.before.before.before in
-    let s = f.before.before.before in
-    words_refused s.args.fifth s.args.bytes.now s.args.at f.read_fields-first.ensures (sym c.accepted.ensures ∙ c.if-not-accepted.true)
+    words_refused c.args.fifth c.args.bytes.now c.args.at c.read_fields-first.ensures (sym c.accepted.ensures ∙ c.if-not-accepted.true)
 
 pub returns : goal.returns
 returns c =
-    let o = c.before.before.before in
-    let f = o.before.before.before in
-    let s = f.before.before.before in
-    section_read s.args.fifth s.args.bytes.now s.args.at f.read_fields-first.ensures (sym o.accepted.ensures ∙ o.if-not-accepted.false) c.read_remainder.ensures
+    section_read c.args.fifth c.args.bytes.now c.args.at c.read_fields-first.ensures (sym c.accepted.ensures ∙ c.if-not-accepted.false) c.read_remainder.ensures

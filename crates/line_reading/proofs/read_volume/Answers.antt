@@ -12,52 +12,47 @@ use Rattle.forms.specs.Line.{line_size, alone}
 use Rattle.unit.specs.Fit.{is_volume}
 use Rattle.sheet.specs.Lines.{volume_letter, volume_ranges}
 use Rattle.line_reading.proofs.Line.{room_from, letter_refused, fields_refused, line_ended}
-use Rattle.line_reading.proofs.read_volume.Goals.{Else-not-accepted, Start}
+use Rattle.line_reading.proofs.read_volume.Goals.{Else-not-accepted}
 use Rattle.line_reading.proofs.read_volume.Goals as goal
 
 pub returns-then-not-accepted : goal.returns-then-not-accepted
 returns-then-not-accepted c =
-    let s = c.before.before.before.before in
-    letter_refused volume_letter volume_ranges alone (λ l. l) 2 refl s.args.bytes.now s.args.at s.args.slots.now 0 c.check_letter-front.ensures
+    letter_refused volume_letter volume_ranges alone (λ l. l) 2 refl c.args.bytes.now c.args.at c.args.slots.now 0 c.check_letter-front.ensures
     (sym c.accepted.ensures ∙ c.if-not-accepted.true)
 
 -- ---- the letter accepted
 
 module _ (c : Else-not-accepted) where
-  abbrev start : Start
-  start = c.before.before.before.before
-
   abbrev bytes : List ℕ
-  bytes = start.args.bytes.now
+  bytes = c.args.bytes.now
 
   passed : is_accepted c.check_letter-front.result ≡ true
   passed = sym c.accepted.ensures ∙ c.if-not-accepted.false
 
   -- the line's bytes are there
-  room : start.args.at + line_size 2 ≤ length bytes
-  room = room_from volume_letter 2 bytes start.args.at start.requires.0 c.check_letter-front.ensures passed
+  room : c.args.at + line_size 2 ≤ length bytes
+  room = room_from volume_letter 2 bytes c.args.at c.requires.0 c.check_letter-front.ensures passed
 
 pub read_fields-middle-requires : goal.read_fields-middle-requires
-read_fields-middle-requires c = (omega (arith, room c.before), omega (arith, (start c.before).requires.1))
+read_fields-middle-requires c =
+    let p = (goal.at.read_fields-middle-requires c).Else-not-accepted in
+    (omega (arith, room p), omega (arith, c.requires.1))
 
 pub returns-then-not-accepted-2 : goal.returns-then-not-accepted-2
 unfolding is_volume
 returns-then-not-accepted-2 c =
-    let f = c.before.before.before in
-    let o = f.before.before in
-    let s = start o in
-    fields_refused volume_letter volume_ranges alone (λ l. l) 2 refl (bytes o) s.args.at s.args.slots.now 0 o.check_letter-front.ensures (passed o) f.read_fields-middle.ensures
+    let p = (goal.at.returns-then-not-accepted-2 c).Else-not-accepted in
+    fields_refused volume_letter volume_ranges alone (λ l. l) 2 refl (bytes p) c.args.at c.args.slots.now 0 c.check_letter-front.ensures (passed p) c.read_fields-middle.ensures
     (sym c.accepted-2.ensures ∙ c.if-not-accepted-2.true)
 
 pub check_end-requires : goal.check_end-requires
-check_end-requires c = room c.before.before.before.before.before
+check_end-requires c =
+    let p = (goal.at.check_end-requires c).Else-not-accepted in
+    room p
 
 pub returns : goal.returns
 unfolding is_volume
 returns c =
-    let t = c.before in
-    let f = t.before.before.before in
-    let o = f.before.before in
-    let s = start o in
-    line_ended volume_letter volume_ranges alone (λ l. l) 2 refl (bytes o) s.args.at s.args.slots.now 0 o.check_letter-front.ensures (passed o) f.read_fields-middle.ensures
-    (sym t.accepted-2.ensures ∙ t.if-not-accepted-2.false) c.check_end.ensures
+    let p = (goal.at.returns c).Else-not-accepted in
+    line_ended volume_letter volume_ranges alone (λ l. l) 2 refl (bytes p) c.args.at c.args.slots.now 0 c.check_letter-front.ensures (passed p) c.read_fields-middle.ensures
+    (sym c.accepted-2.ensures ∙ c.if-not-accepted-2.false) c.check_end.ensures

@@ -8,13 +8,9 @@ use borrow.Author.Rules.{rules}
 use Rattle.integers.proofs.Machine.{reads_back}
 use Rattle.forms.specs.Line.{line_text}
 use Rattle.sheet.specs.Lines.{band_letter}
-use Rattle.line_writing.proofs.put_band.Goals.{Start}
 use Rattle.line_writing.proofs.put_band.Goals as goal
 
 pub returns : goal.returns
 returns c =
     c.put_line.ensures
-    ∙ (λ i. sets s.args.out.now s.args.at (line_text band_letter (reads_back w32 s.args.band.alpha (omega arith) i ∷ reads_back w32 s.args.band.beta (omega arith) i ∷ reads_back w32 s.args.band.gamma (omega arith) i ∷ [])))
-  where
-    s : Start
-    s = c.before.before.before.before.before.before.before.before.before
+    ∙ (λ i. sets c.args.out.now c.args.at (line_text band_letter (reads_back w32 c.args.band.alpha (omega arith) i ∷ reads_back w32 c.args.band.beta (omega arith) i ∷ reads_back w32 c.args.band.gamma (omega arith) i ∷ [])))

@@ -13,14 +13,14 @@ use Rattle.integers.proofs.Machine.{reads_back}
 use Rattle.lists.specs.Lists.{joined}
 use Rattle.fields.specs.Fields.{field_size, field}
 use Rattle.line_writing.proofs.Runs.{field_put}
-use Rattle.line_writing.proofs.put_fields.Goals.{After-slice_known-in-loop-i-1}
-use Rattle.line_writing.proofs.put_fields.Invariants.{)}
+use Rattle.line_writing.proofs.put_fields.Goals.{In-loop-i}
 use Rattle.line_writing.proofs.put_fields.Goals as goal
 
 pub put_field-requires : goal.put_field-requires
-put_field-requires c = omega (arith, simp length-sets at (ap length c.loop-i.invariant.1)
+put_field-requires c = omega (arith, simp length-sets at (ap length c.loop-i.invariant.1))
+
 -- a turn writes field i
-module _ (c : After-slice_known-in-loop-i-1) where
+module _ (c : In-loop-i) where
   abbrev i : ℕ
   i = c.loop-i.i
 
@@ -30,15 +30,14 @@ module _ (c : After-slice_known-in-loop-i-1) where
   abbrev row : List ℤ
   row = c.args.row.now
 
-  number_is : to_z w32 (of_z w32 (get_or row i (pos 0))) ≡ get_or row i (pos 0)
-  number_is = reads_back w32 (get_or row i (pos 0)) (omega arith)
-
 pub loop-i-preserved : goal.loop-i-preserved
-loop-i-preserved c = (
+loop-i-preserved c =
+    let p = (goal.at.loop-i-preserved c).In-loop-i in
+    (
   search rules,
   c.put_field.ensures
-      ∙ ap₂ (λ (l : List ℕ) (z : ℤ). sets l (at c + field_size * i c) (field z)) c.loop-i.invariant.1 (number_is c)
-      ∙ field_put c.args.out.now (at c) (row c) (i c) (omega arith),
+      ∙ ap₂ (λ (l : List ℕ) (z : ℤ). sets l (at p + field_size * i p) (field z)) c.loop-i.invariant.1 (reads_back w32 (get_or (row p) (i p) (pos 0)) (omega arith))
+      ∙ field_put c.args.out.now (at p) (row p) (i p) (omega arith),
 )
 
 pub shape_of-out : goal.shape_of-out

@@ -15,8 +15,6 @@ use Rattle.fields.specs.Fields.{field_size, field}
 use Rattle.line_writing.proofs.Runs.{field_put}
 use Rattle.line_writing.proofs.put_fields.Given as goal
 
-)
-
 
 abbrev pub invariant-loop-i : goal.invariant-loop-i
 invariant-loop-i l = (l.i ≤ length l.row) × (l.out ≡ sets l.initial.out l.at (joined field (take l.i l.row)))

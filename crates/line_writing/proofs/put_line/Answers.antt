@@ -11,20 +11,20 @@ use Rattle.fields.specs.Fields.{field_size, field}
 use Rattle.forms.specs.Line.{line_feed}
 use Rattle.forms.proofs.Line.{fields_length}
 use Rattle.line_writing.proofs.Runs.{parts_put}
-use Rattle.line_writing.proofs.put_line.Goals.{After-slice_known-2-1, Start}
+use Rattle.line_writing.proofs.put_line.Goals.{After-put_fields}
 use Rattle.line_writing.proofs.put_line.Goals as goal
 
 pub put_fields-requires : goal.put_fields-requires
 put_fields-requires c = simp length-set (omega arith)
 
 pub bounds-out-at-2 : goal.bounds-out-at-2
-bounds-out-at-2 c = omega (arith, simp length-set at c.put_fields.auto.0)
+bounds-out-at-2 c = omega (arith, simp length-set at c.put_fields.auto.out)
 
 pub shape_of-out : goal.shape_of-out
-shape_of-out c = simp length-set (c.put_fields.auto.0 ∙ simp length-set)
+shape_of-out c = simp length-set (c.put_fields.auto.out ∙ simp length-set)
 
 -- the fields end where the line feed stands
-module _ (c : After-slice_known-2-1) where
+module _ (c : After-put_fields) where
   abbrev at : ℕ
   at = c.args.at
 
@@ -36,8 +36,6 @@ module _ (c : After-slice_known-2-1) where
 
 pub returns : goal.returns
 returns c =
-    ap (λ (l : List ℕ). set l (at c + 1 + field_size * length (row c)) line_feed) c.put_fields.ensures
-    ∙ parts_put s.args.out.now (at c) s.args.letter (joined field (row c)) line_feed (at c + 1 + field_size * length (row c)) (fields-end c)
-  where
-    s : Start
-    s = c.before.before.before.before.before
+    let p = (goal.at.returns c).After-put_fields in
+    ap (λ (l : List ℕ). set l (at p + 1 + field_size * length (row p)) line_feed) c.put_fields.ensures
+    ∙ parts_put c.args.out.now (at p) c.args.letter (joined field (row p)) line_feed (at p + 1 + field_size * length (row p)) (fields-end p)

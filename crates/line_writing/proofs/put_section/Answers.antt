@@ -41,43 +41,57 @@ module _ (s : Start) where
 -- ---- the needs
 
 pub overflow_cast-y1 : goal.overflow_cast-y1
-overflow_cast-y1 c = narrow_need c.args.section.y1 (y1-size c.before.before.before)
+overflow_cast-y1 c =
+    let p = (goal.at.overflow_cast-y1 c).Start in
+    narrow_need c.args.section.y1 (y1-size p)
 
 pub overflow_cast-y2 : goal.overflow_cast-y2
-overflow_cast-y2 c = narrow_need c.args.section.y2 (y2-size c.before.before.before.before.before)
+overflow_cast-y2 c =
+    let p = (goal.at.overflow_cast-y2 c).Start in
+    narrow_need c.args.section.y2 (y2-size p)
 
 pub overflow_cast-present : goal.overflow_cast-present
-overflow_cast-present c = narrow_need c.args.section.gain.present (present-size c.before.before.before.before.before.before.before)
+overflow_cast-present c =
+    let p = (goal.at.overflow_cast-present c).Start in
+    narrow_need c.args.section.gain.present (present-size p)
 
 pub overflow_cast-target : goal.overflow_cast-target
-overflow_cast-target c = narrow_need c.args.section.gain.target (target-size c.before.before.before.before.before.before.before.before.before)
+overflow_cast-target c =
+    let p = (goal.at.overflow_cast-target c).Start in
+    narrow_need c.args.section.gain.target (target-size p)
 
 pub overflow_cast-remainder : goal.overflow_cast-remainder
-overflow_cast-remainder c = narrow_need c.args.section.remainder (remainder-small c.before.before.before.before.before.before.before.before.before.before.before)
+overflow_cast-remainder c =
+    let p = (goal.at.overflow_cast-remainder c).Start in
+    narrow_need c.args.section.remainder (remainder-small p)
 
 -- the line has at most five fields
 few : (c : After-section_fields-count) → c.section_fields-count.result ≤ row_size
 few c = omega (arith, c.section_fields-count.ensures, few_fields c.args.fifth)
 
 pub slice_bounds-row-end : goal.slice_bounds-row-end
-slice_bounds-row-end c = few c.before
+slice_bounds-row-end c =
+    let p = (goal.at.slice_bounds-row-end c).After-section_fields-count in
+    few p
 
 pub slice_bounds-put_line-end : goal.slice_bounds-put_line-end
-slice_bounds-put_line-end c = simp length-take (omega (arith, few c.before.before))
+slice_bounds-put_line-end c =
+    let p = (goal.at.slice_bounds-put_line-end c).After-section_fields-count in
+    simp length-take (omega (arith, few p))
 
 pub put_line-requires : goal.put_line-requires
 put_line-requires c = omega (arith, slice_bounds-put_line-end c, c.section_fields-count.ensures, c.requires.0)
 
 pub overflow_add-result : goal.overflow_add-result
-overflow_add-result c = omega (arith, c.section_line.ensures, behind-fits c.before.before.before.before.before.before.before.before.before.before.before.before.before.before.before.before.before.before)
+overflow_add-result c =
+    let p = (goal.at.overflow_add-result c).Start in
+    omega (arith, c.section_line.ensures, behind-fits p)
 
 pub returns : goal.returns
-returns c = (
+returns c =
+    let p = (goal.at.returns c).Start in (
   c.put_line.ensures
-      ∙ (λ i. sets s.args.out.now s.args.at (line_text section_letter (take (c.section_fields-count.ensures i) (narrow_reads s.args.section.y1 (y1-size s) i ∷ narrow_reads s.args.section.y2 (y2-size s) i ∷ narrow_reads s.args.section.gain.present (present-size s) i ∷ narrow_reads s.args.section.gain.target (target-size s) i ∷ narrow_reads s.args.section.remainder (remainder-small s) i ∷ []))))
-      ∙ ap (λ (row : List ℤ). sets s.args.out.now s.args.at (line_text section_letter row)) (row_front s.args.fifth s.args.section),
-  ap (λ (n : ℕ). s.args.at + n) c.section_line.ensures,
+      ∙ (λ i. sets c.args.out.now c.args.at (line_text section_letter (take (c.section_fields-count.ensures i) (narrow_reads c.args.section.y1 (y1-size p) i ∷ narrow_reads c.args.section.y2 (y2-size p) i ∷ narrow_reads c.args.section.gain.present (present-size p) i ∷ narrow_reads c.args.section.gain.target (target-size p) i ∷ narrow_reads c.args.section.remainder (remainder-small p) i ∷ []))))
+      ∙ ap (λ (row : List ℤ). sets c.args.out.now c.args.at (line_text section_letter row)) (row_front c.args.fifth c.args.section),
+  ap (λ (n : ℕ). c.args.at + n) c.section_line.ensures,
 )
-  where
-    s : Start
-    s = c.before.before.before.before.before.before.before.before.before.before.before.before.before.before.before.before.before.before

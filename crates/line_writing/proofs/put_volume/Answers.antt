@@ -25,15 +25,17 @@ module _ (s : Start) where
 -- ---- the needs
 
 pub overflow_cast-present : goal.overflow_cast-present
-overflow_cast-present c = narrow_need c.args.volume.present (present-size c.before.before.before)
+overflow_cast-present c =
+    let p = (goal.at.overflow_cast-present c).Start in
+    narrow_need c.args.volume.present (present-size p)
 
 pub overflow_cast-target : goal.overflow_cast-target
-overflow_cast-target c = narrow_need c.args.volume.target (target-size c.before.before.before.before.before)
+overflow_cast-target c =
+    let p = (goal.at.overflow_cast-target c).Start in
+    narrow_need c.args.volume.target (target-size p)
 
 pub returns : goal.returns
 returns c =
+    let p = (goal.at.returns c).Start in
     c.put_line.ensures
-    ∙ (λ i. sets s.args.out.now s.args.at (line_text volume_letter (narrow_reads s.args.volume.present (present-size s) i ∷ narrow_reads s.args.volume.target (target-size s) i ∷ [])))
-  where
-    s : Start
-    s = c.before.before.before.before.before.before.before.before.before.before
+    ∙ (λ i. sets c.args.out.now c.args.at (line_text volume_letter (narrow_reads c.args.volume.present (present-size p) i ∷ narrow_reads c.args.volume.target (target-size p) i ∷ [])))

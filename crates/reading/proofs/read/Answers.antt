@@ -7,10 +7,8 @@ use Rattle.reading.proofs.read.Goals as goal
 
 pub returns-then-not-long-bytes : goal.returns-then-not-long-bytes
 returns-then-not-long-bytes c =
-    let s = c.before.before in
-    length-refused side_letters s.args.bytes.now s.args.given (c.if-not-long-bytes.true)
+    length-refused side_letters c.args.bytes.now c.args.given (c.if-not-long-bytes.true)
 
 pub returns : goal.returns
 returns c =
-    let s = c.before.before.before in
-    lines_read side_letters s.args.bytes.now s.args.given (c.if-not-long-bytes.false) c.read_lines.result c.read_lines.ensures
+    lines_read side_letters c.args.bytes.now c.args.given (c.if-not-long-bytes.false) c.read_lines.result c.read_lines.ensures

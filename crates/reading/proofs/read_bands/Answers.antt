@@ -1,5 +1,6 @@
 -- `reading::read_bands` meets its contract. The loop's invariant: the lines below the ith are read, and the numbers stand in the set.
-use mathlib.Core.Path.{refl, sym, ◌∙◌}
+use mathlib.Core.Bool.{not}
+use mathlib.Core.Path.{refl, sym, ◌∙◌, ap}
 use Prim.Native.Nat.{◌+◌, ◌*◌, ◌-◌}
 use native.Mathlib.Omega.{arith}
 use lib.ListN.{length, replicate, get_or-replicate}
@@ -13,25 +14,21 @@ use Rattle.reading.proofs.read_bands.Goals as goal
 
 pub read_band-found-requires : goal.read_band-found-requires
 read_band-found-requires c =
-    let s = c.before.before.before.before in
-    (c.loop-i.invariant.turned.inside, omega (arith, s.requires.1, c.loop-i.invariant.size_is))
+    (c.loop-i.invariant.turned.inside, omega (arith, c.requires.1, c.loop-i.invariant.size_is))
 
 pub shape_of-set-then-not-accepted : goal.shape_of-set-then-not-accepted
 shape_of-set-then-not-accepted c =
-    let o = c.before.before.before in
-    o.read_band-found.ensures.size_is ∙ o.loop-i.invariant.size_is
+    c.read_band-found.ensures.size_is ∙ c.loop-i.invariant.size_is
 
 pub returns-then-not-accepted : goal.returns-then-not-accepted
 returns-then-not-accepted c =
-    let o = c.before.before.before in
-    let l = o.loop-i in
-    rows_refused l.invariant 0 (omega arith) (sym (get_or-replicate band_count l.i band_letter 0 (omega arith))) o.read_band-found.ensures c.accepted.ensures c.if-not-accepted.true-raw
+    let l = c.loop-i in
+    rows_refused l.invariant 0 (omega arith) (sym (get_or-replicate band_count l.i band_letter 0 (omega arith))) c.read_band-found.ensures c.accepted.ensures (ap not c.if-not-accepted.true)
 
 pub loop-i-preserved : goal.loop-i-preserved
 loop-i-preserved c =
-    let o = c.before.before.before in
-    let l = o.loop-i in
-    rows_next l.invariant 0 (omega arith) (sym (get_or-replicate band_count l.i band_letter 0 (omega arith))) o.read_band-found.ensures c.accepted.ensures (band_sound band_letter) refl c.if-not-accepted.false-raw (omega arith)
+    let l = c.loop-i in
+    rows_next l.invariant 0 (omega arith) (sym (get_or-replicate band_count l.i band_letter 0 (omega arith))) c.read_band-found.ensures c.accepted.ensures (band_sound band_letter) refl (ap not c.if-not-accepted.false) (omega arith)
 
 pub returns : goal.returns
 returns c = rows_done c.loop-i.invariant (omega arith)

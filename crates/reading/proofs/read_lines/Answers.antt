@@ -9,38 +9,32 @@ use Rattle.refusals.specs.Numbers.{is_accepted}
 use Rattle.unit.specs.declared.Unit.{Unit}
 use Rattle.sheet.specs.Sheet.{side_letters}
 use Rattle.reading.proofs.Lines.{front_room, front_refused, behind_refused, lines_accepted}
-use Rattle.reading.proofs.read_lines.Goals.{After-read_front-front, Else-not-accepted, Else-not-accepted-2, Start}
+use Rattle.reading.proofs.read_lines.Goals.{Else-not-accepted, Else-not-accepted-2}
 use Rattle.reading.proofs.read_lines.Goals as goal
 
 pub returns-then-not-accepted : goal.returns-then-not-accepted
 returns-then-not-accepted c =
-    let o = c.before.before.before.before in
-    let s = o.before.before.before.before in
-    front_refused s.args.long side_letters s.args.bytes.now s.args.given o.read_front-front.ensures (sym c.accepted.ensures ∙ c.if-not-accepted.true)
+    front_refused c.args.long side_letters c.args.bytes.now c.args.given c.read_front-front.ensures (sym c.accepted.ensures ∙ c.if-not-accepted.true)
 
 -- ---- past the V line and the C lines
 
 module _ (c : Else-not-accepted) where
-  abbrev front : After-read_front-front
-  front = c.before.before.before.before
-
-  abbrev start : Start
-  start = front.before.before.before.before
-
   abbrev bytes : List ℕ
-  bytes = start.args.bytes.now
+  bytes = c.args.bytes.now
 
   abbrev long : Bool
-  long = start.args.long
+  long = c.args.long
 
   abbrev given : Unit
-  given = start.args.given
+  given = c.args.given
 
-  passed : is_accepted front.read_front-front.result ≡ true
+  passed : is_accepted c.read_front-front.result ≡ true
   passed = sym c.accepted.ensures ∙ c.if-not-accepted.false
 
 pub read_rest-rest-requires : goal.read_rest-rest-requires
-read_rest-rest-requires c = front_room (bytes c) (ap is_accepted (sym (front c).read_front-front.ensures.verdict_is) ∙ passed c)
+read_rest-rest-requires c =
+    let p = (goal.at.read_rest-rest-requires c).Else-not-accepted in
+    front_room (bytes p) (ap is_accepted (sym c.read_front-front.ensures.verdict_is) ∙ passed p)
 
 -- past the sides and the end of the bytes
 module _ (c : Else-not-accepted-2) where
@@ -49,11 +43,11 @@ module _ (c : Else-not-accepted-2) where
 
 pub returns-then-not-accepted-2 : goal.returns-then-not-accepted-2
 returns-then-not-accepted-2 c =
-    let f = c.before.before.before in
-    behind_refused (long f) side_letters (bytes f) (given f) (front f).read_front-front.ensures (passed f) c.read_rest-rest.ensures (sym c.accepted-2.ensures ∙ c.if-not-accepted-2.true)
+    let p = (goal.at.returns-then-not-accepted-2 c).Else-not-accepted in
+    behind_refused (long p) side_letters (bytes p) (given p) c.read_front-front.ensures (passed p) c.read_rest-rest.ensures (sym c.accepted-2.ensures ∙ c.if-not-accepted-2.true)
 
 pub returns : goal.returns
 returns c =
-    let g = c.before.before.before.before in
-    let f = g.before.before.before in
-    lines_accepted (long f) side_letters (bytes f) (given f) (front f).read_front-front.ensures (passed f) g.read_rest-rest.ensures (passed-rest g) c.unit_of-unit.ensures
+    let p = (goal.at.returns c).Else-not-accepted in
+    let p1 = (goal.at.returns c).Else-not-accepted-2 in
+    lines_accepted (long p) side_letters (bytes p) (given p) c.read_front-front.ensures (passed p) c.read_rest-rest.ensures (passed-rest p1) c.unit_of-unit.ensures

@@ -8,13 +8,8 @@ use Rattle.reading.proofs.read_rest.Goals as goal
 
 pub returns-then-not-accepted : goal.returns-then-not-accepted
 returns-then-not-accepted c =
-    let o = c.before.before in
-    let s = o.before.before.before in
-    rest-refused s.args.long side_letters s.args.bytes.now s.args.at o.read_sides-sides.ensures (sym c.accepted.ensures ∙ c.if-not-accepted.true)
+    rest-refused c.args.long side_letters c.args.bytes.now c.args.at c.read_sides-sides.ensures (sym c.accepted.ensures ∙ c.if-not-accepted.true)
 
 pub returns : goal.returns
 returns c =
-    let f = c.before.before in
-    let o = f.before.before in
-    let s = o.before.before.before in
-    rest_read s.args.long side_letters s.args.bytes.now s.args.at o.read_sides-sides.ensures (sym f.accepted.ensures ∙ f.if-not-accepted.false) c.check_taken-verdict.ensures
+    rest_read c.args.long side_letters c.args.bytes.now c.args.at c.read_sides-sides.ensures (sym c.accepted.ensures ∙ c.if-not-accepted.false) c.check_taken-verdict.ensures

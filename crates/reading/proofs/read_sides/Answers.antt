@@ -10,27 +10,21 @@ use Rattle.reading.proofs.read_sides.Goals as goal
 
 pub loop-i-init : goal.loop-i-init
 loop-i-init c =
-    let s = c.before.before.before in
-    sides_begin s.args.long s.args.letters.now s.args.bytes.now s.args.at (sym s.requires.1) s.requires.0
+    sides_begin c.args.long c.args.letters.now c.args.bytes.now c.args.at (sym c.requires.1) c.requires.0
 
 pub returns-then-not-accepted : goal.returns-then-not-accepted
 returns-then-not-accepted c =
-    let o = c.before.before in
-    let l = o.loop-i in
-    let s = o.before.before.before.before.before.before.before in
-    sides-refused s.args.long s.args.letters.now s.args.bytes.now s.args.at l.invariant (omega (arith, s.requires.1)) refl o.read_side-found.ensures (sym c.accepted.ensures ∙ c.if-not-accepted.true)
+    let l = c.loop-i in
+    sides-refused c.args.long c.args.letters.now c.args.bytes.now c.args.at l.invariant (omega (arith, c.requires.1)) refl c.read_side-found.ensures (sym c.accepted.ensures ∙ c.if-not-accepted.true)
 
 pub loop-i-preserved : goal.loop-i-preserved
 loop-i-preserved c =
-    let o = c.before.before.before in
-    let l = o.loop-i in
-    let s = o.before.before.before.before.before.before.before in
-    sides-next s.args.long s.args.letters.now s.args.bytes.now s.args.at l.invariant (omega (arith, s.requires.1)) refl o.read_side-found.ensures (sym c.accepted.ensures ∙ c.if-not-accepted.false)
+    let l = c.loop-i in
+    sides-next c.args.long c.args.letters.now c.args.bytes.now c.args.at l.invariant (omega (arith, c.requires.1)) refl c.read_side-found.ensures (sym c.accepted.ensures ∙ c.if-not-accepted.false)
 
 pub returns : goal.returns
 returns c =
-    let s = c.before.before.before.before.before in
-    sides_done s.args.long s.args.letters.now s.args.bytes.now s.args.at c.loop-i.invariant (omega (arith, s.requires.1))
+    sides_done c.args.long c.args.letters.now c.args.bytes.now c.args.at c.loop-i.invariant (omega (arith, c.requires.1))
 
 pub read_side-found-requires : goal.read_side-found-requires
 read_side-found-requires c =

@@ -1,6 +1,6 @@
 -- `side_reading::read_sections` meets its contract. The loop's invariant: the lines below the ith are read, and the numbers stand in the row.
 use mathlib.Core.Path.{refl, sym, ap, ◌∙◌}
-use mathlib.Core.Bool.{true, false, ◌&&◌}
+use mathlib.Core.Bool.{true, false, ◌&&◌, not}
 use Prim.Native.Nat.{ℕ, ◌+◌, ◌-◌, ◌^◌, ◌<◌}
 use native.Mathlib.Omega.{arith}
 use lib.ListN.{length}
@@ -17,18 +17,16 @@ use Rattle.side_reading.proofs.read_sections.Goals as goal
 
 pub read_section-found-requires : goal.read_section-found-requires
 read_section-found-requires c =
-    let s = c.before.before.before.before in
     let l = c.loop-i in
-    (l.invariant.turned.inside, omega (arith, s.requires.1, l.invariant.size_is))
+    (l.invariant.turned.inside, omega (arith, c.requires.1, l.invariant.size_is))
 
 pub shape_of-rows-then-not-accepted : goal.shape_of-rows-then-not-accepted
 shape_of-rows-then-not-accepted c = c.read_section-found.ensures.size_is ∙ c.loop-i.invariant.size_is
 
 pub returns-then-not-accepted : goal.returns-then-not-accepted
 returns-then-not-accepted c =
-    let s = c.before.before.before.before.before.before.before.before in
     let l = c.loop-i in
-    rows_refused l.invariant false (omega arith) (sym (kind_at s.args.long l.i (omega arith))) c.read_section-found.ensures c.accepted.ensures c.if-not-accepted.true-raw
+    rows_refused l.invariant false (omega arith) (sym (kind_at c.args.long l.i (omega arith))) c.read_section-found.ensures c.accepted.ensures (ap not c.if-not-accepted.true)
 
 -- the place behind a line is a number of a place
 module _ (s : Start) where
@@ -37,16 +35,15 @@ module _ (s : Start) where
 
 pub overflow_add-next : goal.overflow_add-next
 overflow_add-next c =
-    let s = c.before.before.before.before.before.before.before.before.before in
+    let p = (goal.at.overflow_add-next c).Start in
     let l = c.loop-i in
-    omega (arith, bytes_fit s, l.invariant.turned.inside, c.section_line-next.ensures, few_fields (feeds_back l.i && s.args.long))
+    omega (arith, bytes_fit p, l.invariant.turned.inside, c.section_line-next.ensures, few_fields (feeds_back l.i && c.args.long))
 
 pub loop-i-preserved : goal.loop-i-preserved
 loop-i-preserved c =
-    let s = c.before.before.before.before.before.before.before.before.before in
     let l = c.loop-i in
-    rows_next l.invariant false (omega arith) (sym (kind_at s.args.long l.i (omega arith))) c.read_section-found.ensures c.accepted.ensures
-    (section_sound (feeds_back l.i && s.args.long)) refl c.if-not-accepted.false-raw (ap (λ (n : ℕ). l.next + n) c.section_line-next.ensures)
+    rows_next l.invariant false (omega arith) (sym (kind_at c.args.long l.i (omega arith))) c.read_section-found.ensures c.accepted.ensures
+    (section_sound (feeds_back l.i && c.args.long)) refl (ap not c.if-not-accepted.false) (ap (λ (n : ℕ). l.next + n) c.section_line-next.ensures)
 
 pub returns : goal.returns
 returns c = rows_done c.loop-i.invariant (omega arith)

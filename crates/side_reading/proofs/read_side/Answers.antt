@@ -17,10 +17,9 @@ module _ (s : Start) where
 
 pub overflow_add-next : goal.overflow_add-next
 overflow_add-next c =
-    let s = c.before.before.before.before.before.before.before.before.before.before in
-    omega (arith, behind-fits s, c.side_lines.ensures, few_lines s.args.long)
+    let p = (goal.at.overflow_add-next c).Start in
+    omega (arith, behind-fits p, c.side_lines.ensures, few_lines c.args.long)
 
 pub returns : goal.returns
 returns c =
-    let s = c.before.before.before.before.before.before.before.before.before.before in
-    side_read s.args.long s.args.letter s.args.bytes.now s.args.at c.read_lines-verdict.ensures s.requires c.channel_of-channel.ensures (ap (λ (n : ℕ). s.args.at + n) c.side_lines.ensures)
+    side_read c.args.long c.args.letter c.args.bytes.now c.args.at c.read_lines-verdict.ensures c.requires c.channel_of-channel.ensures (ap (λ (n : ℕ). c.args.at + n) c.side_lines.ensures)

@@ -23,13 +23,14 @@ part b place e =
 
 pub returns : goal.returns
 returns c =
-    let l = c.before.before in
-    (part l.args.file.now l.find-place.result l.find-place.ensures, rw (← l.find-place.ensures))
+    (part c.args.file.now c.find-place.result c.find-place.ensures, rw (← c.find-place.ensures))
 
 pub overflow_add-to : goal.overflow_add-to
 overflow_add-to c =
-    omega (arith, within c.before)
+    let p = (goal.at.overflow_add-to c).After-find-place in
+    omega (arith, within p)
 
 pub slice_bounds-result-end : goal.slice_bounds-result-end
 slice_bounds-result-end c =
-    within c.before
+    let p = (goal.at.slice_bounds-result-end c).After-find-place in
+    within p

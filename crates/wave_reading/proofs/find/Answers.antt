@@ -34,32 +34,20 @@ module _ (b : List ℕ) (place : Located) (e : place ≡ located b) where
 
 pub returns-then-not-accepted : goal.returns-then-not-accepted
 returns-then-not-accepted c =
-    let a = c.before.before in
-    let l = a.before in
-    stop l.args.file.now l.locate-place.result l.locate-place.ensures c.refused.result c.refused.ensures
-    (sym a.accepted.ensures ∙ not-true a.accepted.result c.if-not-accepted.true-raw)
+    stop c.args.file.now c.locate-place.result c.locate-place.ensures c.refused.result c.refused.ensures
+    (sym c.accepted.ensures ∙ c.if-not-accepted.true)
 
 pub bytes_missing-missing-requires : goal.bytes_missing-missing-requires
-bytes_missing-missing-requires c = let l = c.before.before in rw l.locate-place.ensures (located-within l.args.file.now)
+bytes_missing-missing-requires c = rw c.locate-place.ensures (located-within c.args.file.now)
 
 pub returns-then-not-accepted-2 : goal.returns-then-not-accepted-2
 returns-then-not-accepted-2 c =
-    let a = c.before.before in
-    let d = a.before in
-    let m = d.before in
-    let f = m.before in
-    let l = f.before.before in
-    lost l.args.file.now l.locate-place.result l.locate-place.ensures d.check_data-verdict.result m.bytes_missing-missing.result m.bytes_missing-missing.ensures d.check_data-verdict.ensures
-    (sym f.accepted.ensures ∙ not-false f.accepted.result f.if-not-accepted.false-raw) c.refused-then-not-accepted-2.result c.refused-then-not-accepted-2.ensures
-    (sym a.accepted-2.ensures ∙ not-true a.accepted-2.result c.if-not-accepted-2.true-raw)
+    lost c.args.file.now c.locate-place.result c.locate-place.ensures c.check_data-verdict.result c.bytes_missing-missing.result c.bytes_missing-missing.ensures c.check_data-verdict.ensures
+    (sym c.accepted.ensures ∙ c.if-not-accepted.false) c.refused-then-not-accepted-2.result c.refused-then-not-accepted-2.ensures
+    (sym c.accepted-2.ensures ∙ c.if-not-accepted-2.true)
 
 pub returns : goal.returns
 returns c =
-    let a = c.before in
-    let d = a.before in
-    let m = d.before in
-    let f = m.before in
-    let l = f.before.before in
-    kept l.args.file.now l.locate-place.result l.locate-place.ensures d.check_data-verdict.result m.bytes_missing-missing.result m.bytes_missing-missing.ensures d.check_data-verdict.ensures
-    (sym f.accepted.ensures ∙ not-false f.accepted.result f.if-not-accepted.false-raw)
-    (sym a.accepted-2.ensures ∙ not-false a.accepted-2.result c.if-not-accepted-2.false-raw)
+    kept c.args.file.now c.locate-place.result c.locate-place.ensures c.check_data-verdict.result c.bytes_missing-missing.result c.bytes_missing-missing.ensures c.check_data-verdict.ensures
+    (sym c.accepted.ensures ∙ c.if-not-accepted.false)
+    (sym c.accepted-2.ensures ∙ c.if-not-accepted-2.false)

@@ -14,15 +14,13 @@ returns-then-seen c = simp c.if-seen.true
 pub returns-then-name-ne-FORMAT : goal.returns-then-name-ne-FORMAT
 unfolding misfits
 returns-then-name-ne-FORMAT c =
-    let s = c.before.before.before.before in
-    simp (c.if-seen.false, ne_eqb (four_at s.args.file.now s.args.at) format (λ e. c.if-name-ne-FORMAT.true (c.four_at-name.ensures.0 ∙ e)))
+    simp (c.if-seen.false, ne_eqb (four_at c.args.file.now c.args.at) format (λ e. c.if-name-ne-FORMAT.true (c.four_at-name.ensures.0 ∙ e)))
 
 pub returns : goal.returns
 unfolding misfits
 returns c =
-    let s = c.before.before.before.before.before in
     simp (
       c.if-seen.false,
-      eq-eqb (four_at s.args.file.now s.args.at) format (sym c.four_at-name.ensures.0 ∙ c.if-name-ne-FORMAT.false),
+      eq-eqb (four_at c.args.file.now c.args.at) format (sym c.four_at-name.ensures.0 ∙ c.if-name-ne-FORMAT.false),
     )
     (ap not c.format_fits.ensures)

@@ -8,11 +8,11 @@ use Rattle.wave_reading.proofs.locate.Goals as goal
 
 pub returns-then-not-has_heading : goal.returns-then-not-has_heading
 unfolding located
-returns-then-not-has_heading c = simp (← c.has_heading.ensures, not-true c.has_heading.result c.if-not-has_heading.true-raw) c.refused.ensures
+returns-then-not-has_heading c = simp (← c.has_heading.ensures, c.if-not-has_heading.true) c.refused.ensures
 
 pub walk-requires : goal.walk-requires
-walk-requires c = heading_long c.args.front.now (sym c.has_heading.ensures ∙ not-false c.has_heading.result c.if-not-has_heading.false-raw)
+walk-requires c = heading_long c.args.front.now (sym c.has_heading.ensures ∙ c.if-not-has_heading.false)
 
 pub returns : goal.returns
 unfolding located
-returns c = simp (← c.has_heading.ensures, not-false c.has_heading.result c.if-not-has_heading.false-raw) c.walk.ensures
+returns c = simp (← c.has_heading.ensures, c.if-not-has_heading.false) c.walk.ensures

@@ -1,5 +1,5 @@
 -- `wave_reading::walk` meets its contract: what the chunks from here on give is what those from the first on give. The measure is the count of
--- bytes ahead.
+-- bytes ac.
 use mathlib.Core.Path.{◌≡◌, refl, sym, ap, ap₂, ◌∙◌}
 use mathlib.Core.Bool.{Bool, true, false, ◌||◌}
 use mathlib.Core.List.{List}
@@ -12,22 +12,19 @@ use lib.ListN.{length}
 use Rattle.wave.specs.Chunks.{four_at, format, data_name}
 use Rattle.wave_reading.specs.Walk.{chunks, next_at, data_from, misfits}
 use Rattle.wave_reading.proofs.Steps.{walk_over, walk_data, walk_misfit, walk_next}
-use Rattle.wave_reading.proofs.walk.Goals.{After-four_at-size, At-loop-at}
+use Rattle.wave_reading.proofs.walk.Goals.{After-four_at-size}
 use Rattle.wave_reading.proofs.walk.Goals as goal
 
--- at the head of a turn there is a chunk
+-- in a turn there is a chunk
 module _ (c : After-four_at-size) where
-  abbrev head : At-loop-at
-  head = c.before.before.before
-
   abbrev b : List ℕ
-  b = head.args.file.now
+  b = c.args.file.now
 
   abbrev at : ℕ
-  at = head.loop-at.at
+  at = c.loop-at.at
 
   abbrev seen : Bool
-  seen = head.loop-at.seen
+  seen = c.loop-at.seen
 
   there : at + 8 ≤ length b
   there = omega arith
@@ -40,42 +37,40 @@ module _ (c : After-four_at-size) where
 
   -- another chunk, that is no misfit, is passed returns
   passed : (c.four_at-name.result ≡ data_name → ⊥) → misfits b at seen ≡ false → chunks (length b) b (next_at b at) (seen || eqb (four_at b at) format) ≡ chunks (length b) b 12 false
-  passed f k = sym (walk_next b at seen there (other-here f) k) ∙ head.loop-at.invariant.1
+  passed f k = sym (walk_next b at seen there (other-here f) k) ∙ c.loop-at.invariant.1
 
 pub loop-at-init : goal.loop-at-init
 loop-at-init c = (search rules, refl)
 
 pub returns-then-name-eq-DATA : goal.returns-then-name-eq-DATA
 returns-then-name-eq-DATA c =
-    let h = c.before.before in
+    let p = (goal.at.returns-then-name-eq-DATA c).After-four_at-size in
     c.data_from.ensures
-    ∙ ap (λ (n : ℕ). data_from (at h + 8) n (seen h)) h.four_at-size.ensures.0
-    ∙ sym (walk_data (b h) (at h) (seen h) (there h) (data-here h c.if-name-eq-DATA.true))
-    ∙ (head h).loop-at.invariant.1
+    ∙ ap (λ (n : ℕ). data_from (at p + 8) n (seen p)) c.four_at-size.ensures.0
+    ∙ sym (walk_data (b p) (at p) (seen p) (there p) (data-here p c.if-name-eq-DATA.true))
+    ∙ c.loop-at.invariant.1
 
 pub returns-then-is_misfit : goal.returns-then-is_misfit
 returns-then-is_misfit c =
-    let m = c.before.before in
-    let h = m.before.before in
+    let p = (goal.at.returns-then-is_misfit c).After-four_at-size in
     c.refused.ensures
-    ∙ sym (walk_misfit (b h) (at h) (seen h) (there h) (other-here h m.if-name-eq-DATA.false) (sym m.is_misfit.ensures ∙ c.if-is_misfit.true))
-    ∙ (head h).loop-at.invariant.1
+    ∙ sym (walk_misfit (b p) (at p) (seen p) (there p) (other-here p c.if-name-eq-DATA.false) (sym c.is_misfit.ensures ∙ c.if-is_misfit.true))
+    ∙ c.loop-at.invariant.1
 
 pub returns-then-file-at : goal.returns-then-file-at
 returns-then-file-at c =
-    let m = c.before.before.before in
-    let h = m.before.before in
+    let p = (goal.at.returns-then-file-at c).After-four_at-size in
     c.refused-then-file-at.ensures
-    ∙ sym (walk_over (b h) (next_at (b h) (at h)) (seen h || eqb (four_at (b h) (at h)) format) (omega (arith, h.four_at-size.ensures.0, there h)))
-    ∙ passed h m.if-name-eq-DATA.false (sym m.is_misfit.ensures ∙ c.if-is_misfit.false)
+    ∙ sym (walk_over (b p) (next_at (b p) (at p)) (seen p || eqb (four_at (b p) (at p)) format) (omega (arith, c.four_at-size.ensures.0, there p)))
+    ∙ passed p c.if-name-eq-DATA.false (sym c.is_misfit.ensures ∙ c.if-is_misfit.false)
 
 pub loop-at-preserved : goal.loop-at-preserved
 loop-at-preserved c =
-    let m = c.before.before.before in
-    let h = m.before.before in (
+    let p = (goal.at.loop-at-preserved c).After-four_at-size in
+    (
       search rules,
-      ap₂ (chunks (length (b h)) (b h)) (omega (arith, h.four_at-size.ensures.0)) (c.either-seen.ensures ∙ ap (λ (n : ℕ). seen h || eqb n format) h.four_at-name.ensures.0)
-          ∙ passed h m.if-name-eq-DATA.false (sym m.is_misfit.ensures ∙ c.if-is_misfit.false),
+      ap₂ (chunks (length (b p)) (b p)) (omega (arith, c.four_at-size.ensures.0)) (c.either-seen.ensures ∙ ap (λ (n : ℕ). seen p || eqb n format) c.four_at-name.ensures.0)
+          ∙ passed p c.if-name-eq-DATA.false (sym c.is_misfit.ensures ∙ c.if-is_misfit.false),
     )
 
 pub returns : goal.returns

@@ -7,7 +7,6 @@ use Rattle.unit.proofs.Fitness.{fit_of_test}
 use Rattle.sheet.specs.Sheet.{side_letters}
 use Rattle.writing.proofs.Typed.{unit_typed}
 use Rattle.writing.proofs.Filled.{short_filled, unfit_filled, sheet_filled}
-use Rattle.writing.proofs.fill.Goals.{Start}
 use Rattle.writing.proofs.fill.Goals as goal
 
 pub returns-then-out-lt-SHEET_SIZE : goal.returns-then-out-lt-SHEET_SIZE
@@ -25,7 +24,4 @@ put_sheet-requires c = (
 
 pub returns : goal.returns
 returns c =
-    sheet_filled side_letters s.args.unit s.args.out.now (omega arith) c.is_fit.ensures (c.if-not-is_fit.false) (unit_typed s.args.unit _ s.well_formed.0) c.put_sheet.ensures
-  where
-    s : Start
-    s = c.before.before.before.before.before.before.before.before
+    sheet_filled side_letters c.args.unit c.args.out.now (omega arith) c.is_fit.ensures (c.if-not-is_fit.false) (unit_typed c.args.unit _ c.well_formed.0) c.put_sheet.ensures

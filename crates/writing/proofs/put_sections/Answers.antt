@@ -18,25 +18,23 @@ use Rattle.writing.proofs.put_sections.Goals as goal
 
 pub put_section-next-requires : goal.put_section-next-requires
 put_section-next-requires c =
-    let s = c.before.before.before.before.before in
     let l = c.loop-i in
-    let whole = sections_length true s.args.sections (omega arith) in (
+    let whole = sections_length true c.args.sections (omega arith) in (
       omega (
         arith,
-        onward_room l.invariant false cleared_band_section (omega arith) (omega arith) (long_kind_at l.i (omega arith)) {room = length s.args.out.now} (omega (arith, s.requires.0, whole)),
-        section_length (feeds_back l.i) (get_or s.args.sections l.i cleared_band_section),
+        onward_room l.invariant false cleared_band_section (omega arith) (omega arith) (long_kind_at l.i (omega arith)) {room = length c.args.out.now} (omega (arith, c.requires.0, whole)),
+        section_length (feeds_back l.i) (get_or c.args.sections l.i cleared_band_section),
         onward_size l.invariant,
       ),
-      each_get_d SectionFit s.args.sections cleared_band_section s.requires.1 l.i (omega arith),
+      each_get_d SectionFit c.args.sections cleared_band_section c.requires.1 l.i (omega arith),
     )
 
 pub loop-i-preserved : goal.loop-i-preserved
 loop-i-preserved c =
-    let s = c.before.before.before.before.before.before.before.before in
     let l = c.loop-i in
     let found = c.put_section-next in
     onward_next l.invariant false cleared_band_section (omega arith) (omega arith) (long_kind_at l.i (omega arith)) found.ensures.0
-    (omega (arith, found.ensures.1, section_length (feeds_back l.i) (get_or s.args.sections l.i cleared_band_section)))
+    (omega (arith, found.ensures.1, section_length (feeds_back l.i) (get_or c.args.sections l.i cleared_band_section)))
 
 pub shape_of-out : goal.shape_of-out
 shape_of-out c = onward_size c.loop-i.invariant

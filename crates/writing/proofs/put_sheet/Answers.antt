@@ -12,21 +12,17 @@ use Rattle.sheet.proofs.Sizes.{bands_length}
 use Rattle.sheet.specs.Lines.{volume_letter, volume_ranges, volume_row, volume_form}
 use Rattle.sheet.specs.Sheet.{side_letters, bands_form, front_form, sides_form, front_size, sheet_of}
 use Rattle.writing.proofs.Typed.{unit_typed}
-use Rattle.writing.proofs.put_sheet.Goals.{Start}
 use Rattle.writing.proofs.put_sheet.Goals as goal
 
 pub returns : goal.returns
 unfolding sheet_of
 returns c =
-    sets_behind s.args.out.now (front_form.text (u.volume, u.bands)) ((sides_form true side_letters).text u.channels) 0 front_size (omega (arith, length-append (volume_form.text u.volume) (bands_form.text u.bands), volume-long, bands_length u.bands (unit_typed u _ s.well_formed.1.0).bands))
-    (sets_behind s.args.out.now (volume_form.text u.volume) (bands_form.text u.bands) 0 (line_size (length volume_ranges)) (omega (arith, volume-long)) c.put_volume.ensures c.put_bands.ensures)
+    sets_behind c.args.out.now (front_form.text (u.volume, u.bands)) ((sides_form true side_letters).text u.channels) 0 front_size (omega (arith, length-append (volume_form.text u.volume) (bands_form.text u.bands), volume-long, bands_length u.bands (unit_typed u _ c.well_formed.1.0).bands))
+    (sets_behind c.args.out.now (volume_form.text u.volume) (bands_form.text u.bands) 0 (line_size (length volume_ranges)) (omega (arith, volume-long)) c.put_volume.ensures c.put_bands.ensures)
     c.put_sides.ensures
   where
-    s : Start
-    s = c.before.before.before.before.before.before.before.before.before.before.before.before.before.before.before.before.before
-
     u : Unit
-    u = s.args.unit
+    u = c.args.unit
 
     volume-long : length (volume_form.text u.volume) ≡ line_size (length volume_ranges)
     volume-long = text_length volume_letter (volume_row u.volume)

@@ -32,19 +32,23 @@ module _ (s : Start) where
   flag_small = flag-size s.args.channel.flag s.requires.1.flag
 
 pub overflow_cast-x1 : goal.overflow_cast-x1
-overflow_cast-x1 c = narrow_need c.args.channel.x1 (x1-size c.before.before.before)
+overflow_cast-x1 c =
+    let p = (goal.at.overflow_cast-x1 c).Start in
+    narrow_need c.args.channel.x1 (x1-size p)
 
 pub overflow_cast-x2 : goal.overflow_cast-x2
-overflow_cast-x2 c = narrow_need c.args.channel.x2 (x2-size c.before.before.before.before.before)
+overflow_cast-x2 c =
+    let p = (goal.at.overflow_cast-x2 c).Start in
+    narrow_need c.args.channel.x2 (x2-size p)
 
 pub overflow_cast-flag : goal.overflow_cast-flag
-overflow_cast-flag c = narrow_need c.args.channel.flag (flag_small c.before.before.before.before.before.before.before)
+overflow_cast-flag c =
+    let p = (goal.at.overflow_cast-flag c).Start in
+    narrow_need c.args.channel.flag (flag_small p)
 
 pub returns : goal.returns
-returns c = (
-  sets_behind s.args.out.now ((head_form s.args.letter).text (head_row s.args.channel)) ((sections_form true).text s.args.channel.sections) s.args.at (s.args.at + line_size (length head_ranges)) (omega (arith, text_length s.args.letter (head_row s.args.channel))) (c.put_head.ensures ∙ (λ i. sets s.args.out.now s.args.at ((head_form s.args.letter).text (narrow_reads s.args.channel.x1 (x1-size s) i ∷ narrow_reads s.args.channel.x2 (x2-size s) i ∷ narrow_reads s.args.channel.flag (flag_small s) i ∷ [])))) c.put_sections.ensures,
+returns c =
+    let p = (goal.at.returns c).Start in (
+  sets_behind c.args.out.now ((head_form c.args.letter).text (head_row c.args.channel)) ((sections_form true).text c.args.channel.sections) c.args.at (c.args.at + line_size (length head_ranges)) (omega (arith, text_length c.args.letter (head_row c.args.channel))) (c.put_head.ensures ∙ (λ i. sets c.args.out.now c.args.at ((head_form c.args.letter).text (narrow_reads c.args.channel.x1 (x1-size p) i ∷ narrow_reads c.args.channel.x2 (x2-size p) i ∷ narrow_reads c.args.channel.flag (flag_small p) i ∷ [])))) c.put_sections.ensures,
   refl,
 )
-  where
-    s : Start
-    s = c.before.before.before.before.before.before.before.before.before.before.before.before.before.before.before.before

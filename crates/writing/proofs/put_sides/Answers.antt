@@ -14,7 +14,6 @@ use Rattle.forms.proofs.Texts.{Onward, onward_begin, onward_size, onward_next, o
 use Rattle.sheet.proofs.Sizes.{side_length}
 use Rattle.sheet.specs.Sheet.{side_form, side_size}
 use Rattle.writing.proofs.Typed.{channels_typed}
-use Rattle.writing.proofs.put_sides.Goals.{At-loop-i, Start}
 use Rattle.writing.proofs.put_sides.Goals as goal
 
 pub loop-i-init : goal.loop-i-init
@@ -23,26 +22,17 @@ loop-i-init c = (omega arith, onward_begin refl)
 pub put_side-next-requires : goal.put_side-next-requires
 put_side-next-requires c = (
   omega (arith, c.loop-i.invariant.0, onward_size c.loop-i.invariant.1),
-  each_get_d ChannelFit s.args.channels zero_channel s.requires.2 c.loop-i.i (omega arith),
+  each_get_d ChannelFit c.args.channels zero_channel c.requires.2 c.loop-i.i (omega arith),
 )
-  where
-    s : Start
-    s = c.before.before.before.before.before.before.before
 
 pub loop-i-preserved : goal.loop-i-preserved
 loop-i-preserved c = (
-  omega (arith, c.put_side-next.ensures.1, turn.loop-i.invariant.0),
-  onward_next turn.loop-i.invariant.1 0 zero_channel (omega arith) (omega arith) refl c.put_side-next.ensures.0 (omega (arith, c.put_side-next.ensures.1, side_length true (get_or s.args.letters.now turn.loop-i.i 0) (get_or s.args.channels turn.loop-i.i zero_channel) ten)),
+  omega (arith, c.put_side-next.ensures.1, c.loop-i.invariant.0),
+  onward_next c.loop-i.invariant.1 0 zero_channel (omega arith) (omega arith) refl c.put_side-next.ensures.0 (omega (arith, c.put_side-next.ensures.1, side_length true (get_or c.args.letters.now c.loop-i.i 0) (get_or c.args.channels c.loop-i.i zero_channel) ten)),
 )
   where
-    s : Start
-    s = c.before.before.before.before.before.before.before.before.before.before
-
-    turn : At-loop-i
-    turn = c.before.before.before.before.before.before.before
-
-    ten : TenSections (get_or s.args.channels turn.loop-i.i zero_channel)
-    ten = each_get_d TenSections s.args.channels zero_channel (channels_typed s.args.channels _ s.well_formed.1.1.1.0) turn.loop-i.i (omega arith)
+    ten : TenSections (get_or c.args.channels c.loop-i.i zero_channel)
+    ten = each_get_d TenSections c.args.channels zero_channel (channels_typed c.args.channels _ c.well_formed.1.1.1.0) c.loop-i.i (omega arith)
 
 pub shape_of-out : goal.shape_of-out
 shape_of-out c = onward_size c.loop-i.invariant.1

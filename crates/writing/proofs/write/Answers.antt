@@ -27,7 +27,11 @@ module _ (c : After-fill-count) where
   part = part_filled side_letters unit out c.fill-count.ensures.0 c.fill-count.ensures.1 (omega arith)
 
 pub slice_bounds-result-end : goal.slice_bounds-result-end
-slice_bounds-result-end c = simp length-take (omega (arith, (part c.before.before.before).0))
+slice_bounds-result-end c =
+    let p = (goal.at.slice_bounds-result-end c).After-fill-count in
+    simp length-take (omega (arith, (part p).0))
 
 pub returns : goal.returns
-returns c = ((part c.before.before.before).1, refl)
+returns c =
+    let p = (goal.at.returns c).After-fill-count in
+    ((part p).1, refl)

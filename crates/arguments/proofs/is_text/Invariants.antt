@@ -1,0 +1,19 @@
+-- `arguments::is_text` meets its contract: as long as each byte passed is equal, the bytes left decide.
+use mathlib.Core.Path.{◌≡◌, refl, sym, ◌∙◌}
+use mathlib.Core.Bool.{◌&&◌}
+use mathlib.Core.List.{List}
+use Prim.Native.Nat.{ℕ, ◌+◌, ◌-◌, ◌≤◌}
+use native.Mathlib.Omega.{arith}
+use lib.Dec.{eqb}
+use lib.ListN.{length, drop, get_or}
+use borrow.Author.Rules.{rules}
+use borrow.Author.Tests.{eq-eqb, ne_eqb}
+use Rattle.fields.specs.Fields.{same_bytes}
+use Rattle.arguments.proofs.Same.{another_length, same_next, same_done}
+use Rattle.arguments.proofs.is_text.Given as goal
+
+abbrev pub invariant-loop-i : goal.invariant-loop-i
+invariant-loop-i l = (l.i ≤ length l.text) × (length l.text ≡ length l.wanted) × (same_bytes l.text l.wanted ≡ same_bytes (drop l.i l.text) (drop l.i l.wanted))
+
+abbrev pub decreases-loop-i : goal.decreases-loop-i
+decreases-loop-i l = length l.text - l.i

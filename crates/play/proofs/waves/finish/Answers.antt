@@ -1,0 +1,18 @@
+-- `waves::finish` is safe: a sheet is saved, and said is, what was decided.
+use mathlib.Core.Path.{sym, ap, ◌∙◌}
+use borrow.Author.Rules.{rules}
+use Rattle.wave_reading.specs.declared.Located.{Located}
+use Rattle.decisions.specs.declared.PassEnd.{PassEnd}
+use Rattle.decisions.specs.Decisions.{wave_ending_of}
+use Rattle.play.proofs.WaveData.{can_save}
+use Rattle.play.proofs.waves.finish.Goals as goal
+
+pub save-requires : goal.save-requires
+save-requires c =
+    can_save c.args.begun c.args.front.now c.args.place c.args.stream c.requires
+    (sym (ap (λ (e : PassEnd). e.is_saved) c.wave_ending-ending.ensures) ∙ c.if-ending.true)
+
+pub answer-requires : goal.answer-requires
+answer-requires c =
+    ap (λ (e : PassEnd). e.verdict) c.wave_ending-ending.ensures
+    ∙ ap (λ (p : Located). (wave_ending_of c.args.stream.is_lost p c.args.stream.left).verdict) c.requires.place_is
