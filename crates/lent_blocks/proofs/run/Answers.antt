@@ -38,7 +38,7 @@ module _ (z : lts.Start tie.the-claims reads.Pre reads.Post) where
 
 module _ (c : lts.After-pair_floats_at tie.the-claims reads.Pre reads.Post) where
   abbrev s : lts.Start tie.the-claims reads.Pre reads.Post
-  s = c.before.before.before.before.before.before.before.before
+  s = c.before.before.before.before.before
 
   abbrev level : FloatLevel
   level = c.volume_floats_at-volume.result
@@ -61,7 +61,7 @@ module _ (c : lts.After-pair_floats_at tie.the-claims reads.Pre reads.Post) wher
       }
 
 pub frames-level-requires : goal.frames-level-requires
-frames-level-requires c = frames_asks (unit_of (l (s c.before.before.before))) (input (s c.before.before.before)) (room (s c.before.before.before)) (accepts (s c.before.before.before)) (level c.before.before.before) (bands c.before.before.before) (pair c.before.before.before) (packed c.before.before.before)
+frames-level-requires c = frames_asks (unit_of (l (s c.before.before.before.before))) (input (s c.before.before.before.before)) (room (s c.before.before.before.before)) (accepts (s c.before.before.before.before)) (level c.before.before.before.before) (bands c.before.before.before.before) (pair c.before.before.before.before) (packed c.before.before.before.before)
 
 module _ (c : lts.After-frames tie.the-claims reads.Pre reads.Post) where
   abbrev p : lts.After-pair_floats_at tie.the-claims reads.Pre reads.Post
@@ -92,7 +92,7 @@ store-requires c =
     }
   where
     f : lts.After-frames tie.the-claims reads.Pre reads.Post
-    f = c.before.before.before.before.before
+    f = c.before.before.before.before.before.before
 
 pub returns : goal.returns
 returns c =
@@ -102,4 +102,4 @@ returns c =
     }
   where
     f : lts.After-frames tie.the-claims reads.Pre reads.Post
-    f = c.before.before.before.before.before.before
+    f = c.before.before.before.before.before.before.before
