@@ -1,6 +1,7 @@
 // Playing a block of frames through the unit. A frame is four bytes: left then right, low byte first.
 // Where a sample goes: from `play` to `run`, which holds the unit as floats, and to `frames::frames`.
 #![tactic(auto)]
+
 ghost use Rattle.std.specs.Prelude.{◌≡◌, true, length};
 ghost use Rattle.refusals.specs.Numbers.{is_accepted};
 ghost use Rattle.unit.specs.Sizes.{channel_count};

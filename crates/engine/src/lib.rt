@@ -2,6 +2,7 @@
 // differences are exact; what is rounded and limited is said at each function. specs/Layout.antt is where each number stands.
 // The sides of a pair are neighbours, and one function serves both: the compiler works them together.
 #![tactic(auto)]
+
 ghost use Rattle.std.specs.Prelude.{◌≡◌, ◌+◌, ◌-◌, ◌<◌, length};
 ghost use Rattle.rounding.specs.Rounding.{nearest};
 ghost use Rattle.floats.specs.Whole.{whole_of};

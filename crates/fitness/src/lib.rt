@@ -1,5 +1,6 @@
 // Whether a unit is fit: each of its numbers is one that the strip sheet can carry.
 #![tactic(auto)]
+
 ghost use Rattle.std.specs.Prelude.{◌≡◌, drop};
 ghost use Rattle.lists.specs.Lists.{every};
 ghost use Rattle.words.specs.Words.{is_word};

@@ -3,6 +3,7 @@
 // Where a sample goes: `read_words` takes it from the bytes, `mix_words` hands it to the engine, and what is heard goes back through `put_sounds`: three
 // passes over 64 frames of a pair.
 #![tactic(auto)]
+
 ghost use Rattle.std.specs.Prelude.{◌≡◌, ◌+◌, ◌<◌, min, length, ◌≤ℤ◌};
 ghost use Rattle.unit.specs.Frame.{sample_low, sample_high};
 ghost use Rattle.floats.specs.Whole.{float};

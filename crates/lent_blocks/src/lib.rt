@@ -1,6 +1,7 @@
 // Playing a block of frames through the unit of 138 lent numbers: they are tested and packed where they stand, and those of the unit after the block
 // are stored in their places.
 #![tactic(auto)]
+
 ghost use Rattle.std.specs.Prelude.{◌≡◌};
 ghost use Rattle.unit.specs.Sizes.{channel_count};
 ghost use Rattle.blocks.specs.Block.{block_verdict};

@@ -1,5 +1,6 @@
 // Whether the unit of 138 lent numbers is fit, tested in 32 bits where the numbers stand.
 #![tactic(auto)]
+
 ghost use Rattle.std.specs.Prelude.{◌≡◌, ◌+◌, ◌*◌, ◌≤◌, length, take, drop};
 ghost use Rattle.lists.specs.Lists.{every};
 ghost use Rattle.words.specs.Words.{is_word};

@@ -1,5 +1,6 @@
 // Level orders on the 138 lent numbers of a unit: the targets that an order names are stored in their places, and nothing else is.
 #![tactic(auto)]
+
 ghost use Rattle.std.specs.Prelude.{◌≡◌, true, cond, ◌<◌, length, set};
 ghost use Rattle.bands.specs.Bands.{band_count};
 ghost use Rattle.unit.specs.Sizes.{channel_count};

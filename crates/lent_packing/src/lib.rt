@@ -2,6 +2,7 @@
 // library, has their order. The numbers of a channel's sections stand one behind the other in both orders, and so do the coefficients of all
 // bands.
 #![tactic(auto)]
+
 ghost use Rattle.std.specs.Prelude.{◌≡◌, drop};
 ghost use Rattle.words.specs.Words.{word_size};
 ghost use Rattle.floats.specs.Whole.{whole_of};

@@ -1,6 +1,7 @@
 // The unit as 138 numbers of 32 bits, in the order of the C library: the volume and its target; A, B, G of each band; then of the
 // left and of the right channel x1, x2, flag, and y1, y2, gain, target and remainder of each section.
 #![tactic(auto)]
+
 ghost use Rattle.std.specs.Prelude.{◌≡◌, ◌*◌, ◌+◌, ◌<◌, ◌≤◌, pos, length, get_or, drop};
 ghost use Rattle.lists.specs.Lists.{Each, joined};
 ghost use Rattle.bands.specs.Bands.{band_size, band_count};

@@ -1,5 +1,6 @@
 // Level orders: the desk sets the targets of gains and of the volume.
 #![tactic(auto)]
+
 ghost use Rattle.std.specs.Prelude.{◌≡◌, true, cond, ◌||◌, ◌<◌, eqb};
 ghost use Rattle.lists.specs.Lists.{changed};
 ghost use Rattle.bands.specs.Bands.{band_count};

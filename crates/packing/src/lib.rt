@@ -1,5 +1,6 @@
 // The unit's bands, channels and levels as the floats that the engine works on, and back.
 #![tactic(auto)]
+
 ghost use Rattle.std.specs.Prelude.{◌≡◌, ◌+◌, ◌≤◌, ◌<◌, nat_abs, length};
 ghost use Rattle.words.specs.Words.{word_size};
 ghost use Rattle.floats.specs.Whole.{float, whole_of};

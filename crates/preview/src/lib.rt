@@ -4,6 +4,7 @@
 //     remainder = S less 2^22 times the rounded number, ahead of saturation: whole too, so exact
 // Its results and remainders are the integer section's. A call that is refused leaves both buffers unchanged.
 #![tactic(auto)]
+
 ghost use Rattle.std.specs.Prelude.{◌≡◌, true, length};
 ghost use Rattle.rounding.specs.Rounding.{limit};
 ghost use Rattle.words.specs.Words.{word_low, word_high};

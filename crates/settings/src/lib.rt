@@ -1,5 +1,6 @@
 // What a level order asks: a place and a level. Which are refused, and the target that an accepted level stands for.
 #![tactic(auto)]
+
 ghost use Rattle.std.specs.Prelude.{◌≡◌, true, leb};
 ghost use Rattle.refusals.specs.Numbers.{is_accepted, unless};
 ghost use Rattle.floats.specs.Value.{is_factor};

@@ -1,5 +1,6 @@
 // The strip sheet's lines: letters, fields, and how many bytes they have. docs/SPECIFICATION.md, The strip sheet.
 #![tactic(auto)]
+
 ghost use Rattle.std.specs.Prelude.{◌≡◌, length};
 ghost use Rattle.forms.specs.Line.{line_size};
 ghost use Rattle.sheet.specs.Lines.{section_ranges};

@@ -1,5 +1,6 @@
 // RIFF/WAVE files: the sizes and names of their parts, and numbers in their bytes, low byte first.
 #![tactic(auto)]
+
 ghost use Rattle.std.specs.Prelude.{◌≡◌, ◌+◌, ◌≤◌, ◌<◌, length};
 ghost use Rattle.wave.specs.Chunks.{four_at, two_at, four as fourOf, two as twoOf, number_end, byte_of};
 

@@ -1,5 +1,6 @@
 // Words: whole numbers of 24 bits, signed. docs/SPECIFICATION.md, Words and the section.
 #![tactic(auto)]
+
 ghost use Rattle.std.specs.Prelude.{◌≡◌};
 ghost use Rattle.words.specs.Words.{is_word};
 

@@ -1,9 +1,7 @@
 -- `blocks::check_block` meets its contract: the unit first, then the lengths.
 use mathlib.Core.Path.{sym, ◌∙◌}
-use borrow.Author.Tests.{not-true, not-false}
 use Rattle.unit.specs.Sizes.{channel_count}
 use Rattle.blocks.proofs.Block.{unfit_first, fit_first}
-use borrow.Author.Rules.{rules}
 use Rattle.blocks.proofs.check_block.Goals as goal
 
 pub returns-then-not-is_fit : goal.returns-then-not-is_fit

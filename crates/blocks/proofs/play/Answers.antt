@@ -4,7 +4,6 @@ use mathlib.Core.Bool.{true, false}
 use mathlib.Core.List.{List, ◌++◌}
 use Prim.Native.Nat.{ℕ}
 use lib.ListN.{length, drop}
-use borrow.Author.Rules.{rules}
 use Rattle.refusals.proofs.Laws.{passed}
 use Rattle.refusals.specs.Numbers.{is_accepted}
 use Rattle.refusals.specs.declared.Verdict.{Verdict}

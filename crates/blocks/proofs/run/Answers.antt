@@ -5,7 +5,6 @@ use Prim.Native.Nat.{ℕ}
 use native.Mathlib.Omega.{arith}
 use lib.ListN.{length, get_or}
 use lib.Ieee.{Float}
-use borrow.Author.Rules.{rules}
 use Rattle.lists.proofs.Tabulate.{tabulate_all, each_get_d}
 use Rattle.unit.specs.declared.Unit.{Unit}
 use Rattle.unit.specs.Fit.{ChannelFit, Fit}

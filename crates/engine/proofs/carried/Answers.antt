@@ -2,7 +2,6 @@
 use mathlib.Core.Path.{sym, ap, ◌∙◌}
 use mathlib.Core.Bool.{Bool}
 use lib.Ieee.{of_bits, of_int}
-use borrow.Author.Rules.{rules}
 use Rattle.floats.specs.Whole.{whole_of}
 use Rattle.engine.specs.Frame.{carried_by}
 use Rattle.engine.proofs.carried.Goals as goal

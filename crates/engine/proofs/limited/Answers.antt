@@ -1,6 +1,5 @@
 -- `engine::limited` meets its contract: the two choices.
 use mathlib.Core.Path.{ap, ◌∙◌}
-use borrow.Author.Rules.{rules}
 use Rattle.engine.specs.Frame.{greater}
 use Rattle.engine.proofs.limited.Goals as goal
 

@@ -9,7 +9,6 @@ use lib.Ieee.{Float, binary64, prec, of_bits, of_int, mul, in_signed, to_signed}
 use lib.Ieee.Casts.{to_signed_in}
 use mir.Syntax.{w64}
 use mir.Facts.{to_z-of_z}
-use borrow.Author.Rules.{rules}
 use Rattle.integers.proofs.Parts.{linear}
 use Rattle.integers.proofs.Abs.{abs_le}
 use Rattle.integers.proofs.Machine.{product_sized}

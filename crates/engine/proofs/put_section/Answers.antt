@@ -5,7 +5,6 @@ use Prim.Native.Nat.{◌+◌}
 use native.Mathlib.Omega.{arith}
 use lib.ListN.{set, length-set}
 use lib.Ieee.{Float}
-use borrow.Author.Rules.{rules}
 use Rattle.engine.specs.Layout.{put_section}
 use Rattle.engine.proofs.put_section.Goals.{Start}
 use Rattle.engine.proofs.put_section.Goals as goal

@@ -1,6 +1,5 @@
 -- `engine::put_sides` meets its contract: two stores.
 use mathlib.Core.Path.{refl}
-use borrow.Author.Rules.{rules}
 use Rattle.engine.specs.Layout.{put_sides}
 use Rattle.engine.proofs.put_sides.Goals as goal
 

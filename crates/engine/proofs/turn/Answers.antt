@@ -8,7 +8,6 @@ use lib.Dec.{lit≤}
 use lib.IntN.{ℤ, pos, nat_abs, ◌+ℤ◌, ◌*ℤ◌}
 use lib.Signed.{le_z_yes}
 use lib.Ieee.{Float, binary64, prec, of_bits, of_int, add, sub, mul}
-use borrow.Author.Rules.{rules}
 use Rattle.integers.proofs.Machine.{product_sized}
 use Rattle.rounding.specs.Rounding.{nearest, limit}
 use Rattle.rounding.proofs.Nearest.{nearest-size}

@@ -1,14 +1,10 @@
 -- `engine::turn_bands` meets its contract. The loop's invariant: the bands from `from` to below b have had their turns.
 use mathlib.Core.Path.{◌≡◌, refl, sym, ap, ◌∙◌, subst}
-use mathlib.Core.List.{List}
-use Prim.Native.Nat.{ℕ, zero, suc, ◌+◌, ◌-◌, ◌≤◌, ◌<◌}
+use Prim.Native.Nat.{ℕ, suc, ◌+◌, ◌-◌, ◌<◌}
 use native.Mathlib.Omega.{arith}
 use lib.ListN.{length}
-use lib.Ieee.{Float}
 use Rattle.unit.specs.Frame.{feeds_back}
-use Rattle.engine.specs.declared.Sides.{Sides}
 use Rattle.engine.specs.Frame.{tallies_after, pair_after, TurnPairAsks, Between, between, after_turns}
-use Rattle.engine.proofs.Store.{section_length}
 use Rattle.engine.proofs.turn_bands.Goals.{After-loop-b, In-loop-b, Start}
 use Rattle.engine.proofs.turn_bands.Invariants.{length-after, Reached}
 use Rattle.engine.proofs.turn_bands.Goals as goal

@@ -1,13 +1,11 @@
 -- `engine::turn_bands` meets its contract. The loop's invariant: the bands from `from` to below b have had their turns.
-use mathlib.Core.Path.{◌≡◌, refl, sym, ap, ◌∙◌, subst}
+use mathlib.Core.Path.{◌≡◌, refl}
 use mathlib.Core.List.{List}
-use Prim.Native.Nat.{ℕ, zero, suc, ◌+◌, ◌-◌, ◌≤◌, ◌<◌}
-use native.Mathlib.Omega.{arith}
+use Prim.Native.Nat.{ℕ, zero, suc, ◌+◌, ◌-◌, ◌≤◌}
 use lib.ListN.{length}
 use lib.Ieee.{Float}
-use Rattle.unit.specs.Frame.{feeds_back}
 use Rattle.engine.specs.declared.Sides.{Sides}
-use Rattle.engine.specs.Frame.{tallies_after, pair_after, TurnPairAsks, Between, between, after_turns}
+use Rattle.engine.specs.Frame.{Between, between, after_turns}
 use Rattle.engine.proofs.Store.{section_length}
 use Rattle.engine.proofs.turn_bands.Given as goal
 
@@ -23,9 +21,6 @@ module _ (bands : List Float) (d : Sides) (from : ℕ) (s : Between) where
     pub most : from + turns ≤ to
     pub place : b ≡ from + turns
     pub is : m ≡ after_turns bands d from turns s
-
-
-
 
 abbrev pub invariant-loop-b : goal.invariant-loop-b
 invariant-loop-b l = Reached l.bands l.d l.from (between l.initial.pair l.initial.tallies) l.to l.b (between l.pair l.tallies)

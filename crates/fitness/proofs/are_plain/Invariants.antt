@@ -1,11 +1,8 @@
 -- `fitness::are_plain` meets its contract. The loop's invariant: the test of the sections from the first that does not feed back on is that of
 -- the sections from i on.
 use Prim.Native.Nat.{◌-◌}
-use native.Mathlib.Omega.{arith}
-use borrow.Author.Rules.{rules}
-use Rattle.lists.proofs.Loops.{EveryFrom, every_begin, every_fails, every-passes, every_done}
+use Rattle.lists.proofs.Loops.{EveryFrom}
 use Rattle.bands.specs.Bands.{band_count}
-use Rattle.unit.specs.Cleared.{cleared_band_section}
 use Rattle.unit.specs.Frame.{feedback_count}
 use Rattle.unit.specs.Fit.{is_plain}
 use Rattle.fitness.proofs.are_plain.Given as goal

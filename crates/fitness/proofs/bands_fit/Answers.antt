@@ -1,13 +1,9 @@
 -- `fitness::bands_fit` meets its contract. The loop's invariant: the test of every band is that of the bands from i on.
 use mathlib.Core.Path.{ap, ◌∙◌}
-use Prim.Native.Nat.{◌-◌}
 use native.Mathlib.Omega.{arith}
-use borrow.Author.Rules.{rules}
-use Rattle.lists.proofs.Loops.{EveryFrom, every_begin, every_fails, every-passes, every_done}
+use Rattle.lists.proofs.Loops.{every_begin, every_fails, every-passes, every_done}
 use Rattle.refusals.specs.Numbers.{is_accepted}
-use Rattle.bands.specs.Bands.{band_count}
 use Rattle.unit.proofs.PastEnd.{zero_band}
-use Rattle.unit.specs.Fit.{band_fits}
 use Rattle.fitness.proofs.bands_fit.Goals as goal
 
 pub returns-then-not-accepted : goal.returns-then-not-accepted

@@ -6,7 +6,6 @@ use Rattle.integers.proofs.Machine.{test_back}
 use Rattle.integers.proofs.Order.{and_fails, and_passes}
 use Rattle.rounding.specs.Rounding.{within}
 use Rattle.unit.specs.Fit.{is_input, is_flag}
-use borrow.Author.Rules.{rules}
 use Rattle.fitness.proofs.channel_fits.Goals as goal
 
 pub returns-then-not-input_fits : goal.returns-then-not-input_fits

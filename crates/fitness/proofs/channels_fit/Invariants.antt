@@ -1,10 +1,7 @@
 -- `fitness::channels_fit` meets its contract. The loop's invariant: the test of every channel is that of the channels from i on.
 use Prim.Native.Nat.{◌-◌}
-use native.Mathlib.Omega.{arith}
-use borrow.Author.Rules.{rules}
-use Rattle.lists.proofs.Loops.{EveryFrom, every_begin, every_fails, every-passes, every_done}
+use Rattle.lists.proofs.Loops.{EveryFrom}
 use Rattle.unit.specs.Sizes.{channel_count}
-use Rattle.unit.proofs.PastEnd.{zero_channel}
 use Rattle.unit.specs.Fit.{channel_fits}
 use Rattle.fitness.proofs.channels_fit.Given as goal
 

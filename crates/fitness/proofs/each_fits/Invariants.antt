@@ -1,10 +1,7 @@
 -- `fitness::each_fits` meets its contract. The loop's invariant: the test of every section is that of the sections from i on.
 use Prim.Native.Nat.{◌-◌}
-use native.Mathlib.Omega.{arith}
-use borrow.Author.Rules.{rules}
-use Rattle.lists.proofs.Loops.{EveryFrom, every_begin, every_fails, every-passes, every_done}
+use Rattle.lists.proofs.Loops.{EveryFrom}
 use Rattle.bands.specs.Bands.{band_count}
-use Rattle.unit.specs.Cleared.{cleared_band_section}
 use Rattle.unit.specs.Fit.{section_fits}
 use Rattle.fitness.proofs.each_fits.Given as goal
 

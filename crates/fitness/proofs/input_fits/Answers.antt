@@ -3,8 +3,6 @@ use mathlib.Core.Path.{◌≡◌, sym, ap, ◌∙◌}
 use Prim.Native.Nat.{◌≤◌}
 use lib.IntN.{ℤ, nat_abs}
 use mir.Facts.{to_z-of_z}
-use borrow.Author.Rules.{rules}
-use borrow.Author.Tests.{not-false}
 use Rattle.integers.proofs.Order.{and_fails}
 use Rattle.words.specs.Words.{word_size, is_word}
 use Rattle.words.proofs.Laws.{word_size_lem, narrow_need, narrow_reads}

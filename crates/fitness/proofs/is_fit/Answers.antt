@@ -1,7 +1,6 @@
 -- `fitness::is_fit` meets its contract: its three tests are those of the definition, in that order.
 use Rattle.integers.proofs.Order.{and_fails, and_passes}
 use Rattle.unit.specs.Fit.{unit_fits}
-use borrow.Author.Rules.{rules}
 use Rattle.fitness.proofs.is_fit.Goals as goal
 
 pub returns-then-not-volume_fits : goal.returns-then-not-volume_fits

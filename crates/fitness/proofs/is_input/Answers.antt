@@ -3,7 +3,6 @@ use mathlib.Core.Path.{◌≡◌, refl, ap, ◌∙◌}
 use lib.IntN.{ℤ, pos}
 use lib.Signed.{le_z}
 use mir.Facts.{to_z-of_z}
-use borrow.Author.Rules.{rules}
 use Rattle.integers.proofs.Order.{and_fails, and_passes}
 use Rattle.rounding.proofs.Rest.{multiple_need, rest_need, rest_reads}
 use Rattle.words.specs.Words.{is_word}

@@ -5,7 +5,6 @@ use mir.Syntax.{w64}
 use Rattle.integers.proofs.Machine.{test_back}
 use Rattle.rounding.specs.Rounding.{within}
 use Rattle.unit.specs.Fit.{is_plain}
-use borrow.Author.Rules.{rules}
 use Rattle.fitness.proofs.is_plain.Goals as goal
 
 pub returns : goal.returns

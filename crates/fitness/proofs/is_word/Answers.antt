@@ -2,7 +2,6 @@
 use mathlib.Core.Path.{ap, ◌∙◌}
 use mir.Facts.{to_z-of_z}
 use Rattle.words.specs.Words.{is_word}
-use borrow.Author.Rules.{rules}
 use Rattle.fitness.proofs.is_word.Goals as goal
 
 pub returns : goal.returns

@@ -8,7 +8,6 @@ use Rattle.rounding.specs.Rounding.{within}
 use Rattle.words.specs.Words.{is_word}
 use Rattle.unit.specs.Sizes.{remainder_size}
 use Rattle.unit.specs.Fit.{is_remainder}
-use borrow.Author.Rules.{rules}
 use Rattle.fitness.proofs.section_fits.Goals as goal
 
 pub returns-then-not-is_word : goal.returns-then-not-is_word

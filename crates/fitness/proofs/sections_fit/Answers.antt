@@ -1,7 +1,5 @@
 -- `fitness::sections_fit` meets its contract: its two tests are those of the definition, in that order.
-use mathlib.Core.Path.{◌≡◌}
 use Rattle.integers.proofs.Order.{and_fails, and_passes}
-use borrow.Author.Rules.{rules}
 use Rattle.fitness.proofs.sections_fit.Goals as goal
 
 pub returns-then-not-each_fits : goal.returns-then-not-each_fits

@@ -7,7 +7,6 @@ use Rattle.integers.proofs.Order.{and_fails, and_passes}
 use Rattle.rounding.specs.Rounding.{within}
 use Rattle.words.specs.Words.{word_high}
 use Rattle.unit.specs.Fit.{is_volume}
-use borrow.Author.Rules.{rules}
 use Rattle.fitness.proofs.volume_fits.Goals as goal
 
 pub returns-then-not-in_range : goal.returns-then-not-in_range

@@ -6,7 +6,6 @@ use lib.IntN.{ℤ}
 use lib.Ieee.{Float, binary32, binary64, of_bits, of_int, to_signed, in_signed, fits, is_nan}
 use lib.Ieee.Fits.{fits_widens, and_i}
 use denote.Floats.{passes}
-use borrow.Author.Rules.{rules}
 use lib.Ieee.Casts.{to_signed_in}
 use mir.Syntax.{w64}
 use mir.Val.{to_z, of_z}

@@ -2,7 +2,6 @@
 use mathlib.Core.Path.{sym, ap, ◌∙◌}
 use mathlib.Core.Bool.{Bool, ◌&&◌}
 use lib.Ieee.{of_bits}
-use borrow.Author.Rules.{rules}
 use Rattle.floats.specs.Value.{is_factor, band_lowest}
 use Rattle.floats.proofs.Range.{volume_tests}
 use Rattle.floats.proofs.is_volume_factor.Goals as goal

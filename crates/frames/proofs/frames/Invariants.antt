@@ -1,16 +1,6 @@
 -- `frames::frames` meets its contract: pair after pair (proofs/Pairs.antt).
-use mathlib.Core.Path.{sym, ap, ◌∙◌, subst}
-use mathlib.Core.List.{List}
-use Prim.Native.Nat.{ℕ, ◌+◌, ◌-◌, ◌*◌, ◌≤◌, ◌<◌}
-use native.Mathlib.Numerals.{add-one}
-use native.Mathlib.Omega.{arith}
-use lib.ListN.{length}
-use lib.Ieee.{Float}
-use borrow.Rule.Slice.PartMut.{put_mid}
-use Rattle.engine.specs.Layout.{pair_floats}
-use Rattle.frames.specs.Run.{FramesGives}
-use Rattle.frames.proofs.Pairs.{Paired, paired_begins, sides-length, pair_asks, paired_next, paired_ends}
-use Rattle.frames.proofs.Sound.{pairs_length}
+use Prim.Native.Nat.{◌-◌}
+use Rattle.frames.proofs.Pairs.{Paired}
 use Rattle.frames.proofs.frames.Given as goal
 
 abbrev pub invariant-loop-p : goal.invariant-loop-p

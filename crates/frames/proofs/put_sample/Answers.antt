@@ -11,7 +11,6 @@ use Rattle.integers.proofs.Parts.{linear, var, ◌⊕◌}
 use Rattle.integers.proofs.Abs.{abs_le}
 use Rattle.integers.proofs.Machine.{Num, num, literal, binary, binary_need, unsigned_need, range_fits}
 use Rattle.frames.specs.Bytes.{bits_of}
-use borrow.Author.Rules.{rules}
 use Rattle.frames.proofs.put_sample.Goals.{Start}
 use Rattle.frames.proofs.put_sample.Goals as goal
 

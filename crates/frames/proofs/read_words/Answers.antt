@@ -1,17 +1,13 @@
 -- `frames::read_words` meets its contract: frame by frame two words are stored.
 use mathlib.Core.Path.{◌≡◌, sym, ◌∙◌, subst}
 use mathlib.Core.List.{List}
-use Prim.Native.Nat.{ℕ, suc, ◌+◌, ◌-◌, ◌*◌, ◌≤◌, ◌<◌}
+use Prim.Native.Nat.{ℕ, suc, ◌+◌, ◌*◌, ◌≤◌, ◌<◌}
 use native.Mathlib.Numerals.{add-one}
 use native.Mathlib.Omega.{arith}
 use lib.ListN.{length}
 use lib.Ieee.{Float}
-use Rattle.floats.specs.Whole.{float}
 use Rattle.engine.specs.declared.Sides.{Sides}
-use Rattle.engine.specs.Layout.{sides_at}
 use Rattle.engine.proofs.Store.{sides-length}
-use Rattle.frames.specs.Column.{column_word}
-use Rattle.frames.specs.Run.{pass_words}
 use Rattle.frames.proofs.Words.{words_more}
 use Rattle.frames.proofs.read_words.Goals.{After-loop-k, In-loop-k, Start}
 use Rattle.frames.proofs.read_words.Invariants.{words_of, Reading}

@@ -5,7 +5,6 @@ use native.Mathlib.Nat.{le_trans}
 use lib.Dec.{T, lit≤}
 use lib.IntN.{ℤ, pos, nat_abs, ◌*ℤ◌}
 use lib.Ieee.{binary64, in_float}
-use borrow.Author.Rules.{rules}
 use mir.Syntax.{w64}
 use mir.Val.{SFits, to_z, of_z}
 use Rattle.integers.proofs.Machine.{Num, num, literal, below-fits, binary, binary_need}

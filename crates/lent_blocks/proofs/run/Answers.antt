@@ -5,7 +5,6 @@ use Prim.Native.Nat.{ℕ}
 use lib.IntN.{ℤ}
 use lib.ListN.{length, drop}
 use lib.Ieee.{Float}
-use borrow.Author.Rules.{rules}
 use Rattle.unit.specs.Fit.{Fit}
 use Rattle.engine.specs.declared.FloatLevel.{FloatLevel}
 use Rattle.frames.specs.Run.{unit_in}

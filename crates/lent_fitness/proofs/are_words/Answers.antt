@@ -1,18 +1,17 @@
 -- `lent_fitness::are_words` meets its contract. The loop's invariant: what is found so far is the test of the first i numbers.
 use mathlib.Core.Path.{◌≡◌, sym, ap, ◌∙◌}
 use mathlib.Core.List.{List}
-use Prim.Native.Nat.{ℕ, ◌+◌, ◌*◌, ◌-◌, ◌≤◌}
+use Prim.Native.Nat.{ℕ, ◌+◌, ◌*◌, ◌≤◌}
 use native.Mathlib.Omega.{arith}
 use lib.IntN.{ℤ, pos}
-use lib.ListN.{length, get_or, take, drop, length-drop}
+use lib.ListN.{length, get_or, drop, length-drop}
 use lib.Seq.{get_or-take, get_or-drop, length-take-le}
 use mir.Syntax.{w32}
 use Rattle.integers.proofs.Machine.{test_back}
-use Rattle.lists.proofs.Loops.{EveryFound, found_begin, found-next, found_done}
+use Rattle.lists.proofs.Loops.{found_begin, found-next, found_done}
 use Rattle.words.specs.Words.{is_word}
 use Rattle.bands.specs.Bands.{band_count}
 use Rattle.numbers.specs.Layout.{section_size}
-use borrow.Author.Rules.{rules}
 use Rattle.lent_fitness.proofs.are_words.Invariants.{tested}
 use Rattle.lent_fitness.proofs.are_words.Goals as goal
 

@@ -8,8 +8,7 @@ use mir.Syntax.{w32}
 use Rattle.integers.proofs.Machine.{test_back}
 use Rattle.lists.proofs.Parts.{behind}
 use Rattle.unit.specs.Fit.{is_input, is_flag}
-use Rattle.lent_fitness.proofs.Laws.{in_row, sections_fit_lem}
-use borrow.Author.Rules.{rules}
+use Rattle.lent_fitness.proofs.Laws.{in_row}
 use Rattle.lent_fitness.proofs.channel_fits.Goals as goal
 
 pub returns : goal.returns

@@ -12,7 +12,6 @@ use Rattle.lists.specs.Lists.{every}
 use Rattle.unit.specs.Cleared.{bands_of}
 use Rattle.unit.specs.Fit.{band_fits, unit_fits}
 use Rattle.numbers.specs.Layout.{bands_place, unit_of}
-use borrow.Author.Rules.{rules}
 use Rattle.lent_fitness.proofs.is_fit.Goals.{After-bands_fit}
 use Rattle.lent_fitness.proofs.is_fit.Goals as goal
 

@@ -14,7 +14,6 @@ use Rattle.unit.specs.Frame.{feedback_count}
 use Rattle.unit.specs.Fit.{is_remainder, is_plain}
 use Rattle.numbers.specs.Layout.{head_size, section_size, channel_of}
 use Rattle.lent_fitness.proofs.Laws.{remainder_fits, sections_fit_lem}
-use borrow.Author.Rules.{rules}
 use Rattle.lent_fitness.proofs.sections_fit.Goals.{After-remainders_fit-plain, Start}
 use Rattle.lent_fitness.proofs.sections_fit.Goals as goal
 

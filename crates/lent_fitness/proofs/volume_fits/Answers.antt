@@ -10,7 +10,6 @@ use Rattle.rounding.specs.Rounding.{within}
 use Rattle.words.specs.Words.{word_high}
 use Rattle.unit.specs.Fit.{is_volume}
 use Rattle.numbers.specs.Layout.{unit_of}
-use borrow.Author.Rules.{rules}
 use Rattle.lent_fitness.proofs.volume_fits.Goals as goal
 
 pub returns : goal.returns

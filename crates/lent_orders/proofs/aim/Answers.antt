@@ -12,7 +12,6 @@ use Rattle.unit.specs.Sizes.{channel_count}
 use Rattle.settings.proofs.Laws.{place-below}
 use Rattle.lent_orders.specs.Places.{volume_target}
 use Rattle.lent_orders.proofs.Aimed.{named, named_size, numbers_named, numbers_volume}
-use borrow.Author.Rules.{rules}
 use Rattle.lent_orders.proofs.aim.Goals.{After-aim_named, Else-band-eq-VOLUME_BAND, Start}
 use Rattle.lent_orders.proofs.aim.Goals as goal
 

@@ -7,14 +7,12 @@ use lib.Dec.{eqb}
 use lib.ListN.{set}
 use mir.Syntax.{w32}
 use mir.Facts.{to_z-of_z}
-use borrow.Author.Tests.{not-true, not-false}
 use Rattle.refusals.proofs.Laws.{passed, failed}
 use Rattle.unit.specs.Sizes.{channel_count}
 use Rattle.settings.specs.Settings.{both_sides, names}
 use Rattle.settings.proofs.Laws.{own_side}
 use Rattle.numbers.specs.Layout.{head_size, section_size, channel_size, left_place}
 use Rattle.lent_orders.specs.Places.{target_place}
-use borrow.Author.Rules.{rules}
 use Rattle.lent_orders.proofs.aim_named.Goals as goal
 
 -- the side names the channel just where it is both sides or the channel's own

@@ -4,7 +4,6 @@ use mathlib.Core.Bool.{true}
 use mathlib.Core.List.{List}
 use Prim.Native.Nat.{◌≤◌}
 use lib.IntN.{ℤ, nat_abs}
-use borrow.Author.Tests.{not-true, not-false}
 use Rattle.words.specs.Words.{word_size, is_word}
 use Rattle.words.proofs.Laws.{word_size_lem, narrow_need, narrow_reads}
 use Rattle.refusals.specs.Numbers.{is_accepted}

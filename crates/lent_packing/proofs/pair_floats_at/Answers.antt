@@ -3,7 +3,6 @@ use mathlib.Core.Path.{refl}
 use lib.Dec.{lit≤}
 use lib.ListN.{replicate}
 use lib.Ieee.{binary64, of_bits}
-use borrow.Author.Rules.{rules}
 use Rattle.engine.specs.Layout.{pair_floats}
 use Rattle.engine.proofs.Read.{zeros_whole}
 use Rattle.lent_packing.proofs.Channels.{channels_given}

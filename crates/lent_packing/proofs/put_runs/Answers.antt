@@ -1,14 +1,13 @@
 -- `lent_packing::put_runs` meets its contract. The loop's invariant: k numbers of each side are stored.
 use mathlib.Core.Path.{◌≡◌, sym, ap, ◌∙◌, subst}
 use mathlib.Core.List.{List}
-use Prim.Native.Nat.{ℕ, ◌+◌, ◌*◌, ◌-◌, ◌^◌, ◌≤◌}
+use Prim.Native.Nat.{ℕ, ◌+◌, ◌*◌, ◌^◌}
 use native.Mathlib.Nat.{le_trans}
 use native.Mathlib.Omega.{arith}
 use lib.Dec.{lit≤}
 use lib.IntN.{ℤ}
 use lib.Ieee.{Float}
 use lib.Signed.{nat_abs-le}
-use borrow.Author.Rules.{rules}
 use mir.Syntax.{w32}
 use Rattle.integers.proofs.Machine.{reads_back}
 use Rattle.engine.specs.declared.Sides.{Sides}

@@ -4,7 +4,6 @@ use Prim.Native.Nat.{ℕ, ◌<◌}
 use native.Mathlib.Omega.{arith}
 use lib.Dec.{lit≤}
 use lib.ListN.{length-set}
-use borrow.Author.Rules.{rules}
 use mir.Syntax.{w32}
 use Rattle.integers.proofs.Machine.{reads_back}
 use Rattle.words.specs.Words.{word_size}

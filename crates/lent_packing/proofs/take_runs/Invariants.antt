@@ -1,13 +1,6 @@
 -- `lent_packing::take_runs` meets its contract. The loop's invariant: k numbers of each side are stored.
-use mathlib.Core.Path.{◌≡◌, ◌∙◌, subst}
-use Prim.Native.Nat.{ℕ, ◌+◌, ◌*◌, ◌-◌, ◌≤◌}
-use native.Mathlib.Omega.{arith}
-use borrow.Author.Rules.{rules}
-use mir.Syntax.{w32}
-use Rattle.integers.proofs.Machine.{reads_back}
-use Rattle.engine.specs.Layout.{side_count}
+use Prim.Native.Nat.{◌-◌, ◌≤◌}
 use Rattle.lent_packing.specs.Runs.{TakeRunsGives}
-use Rattle.lent_packing.proofs.Runs.{take_begin, take_more}
 use Rattle.lent_packing.proofs.take_runs.Given as goal
 
 abbrev pub invariant-loop-k : goal.invariant-loop-k

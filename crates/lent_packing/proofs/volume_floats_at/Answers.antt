@@ -6,7 +6,6 @@ use lib.ListN.{get_or}
 use mir.Syntax.{w32}
 use mir.Val.{to_z, of_z}
 use mir.Facts.{to_z-of_z}
-use borrow.Author.Rules.{rules}
 use Rattle.floats.specs.Whole.{float}
 use Rattle.numbers.specs.Layout.{unit_of}
 use Rattle.lent_packing.proofs.volume_floats_at.Goals as goal

@@ -6,7 +6,6 @@ use borrow.Author.Tests.{eq-eqb, ne_eqb}
 use Rattle.bands.specs.Bands.{set_size}
 use Rattle.unit.specs.Fit.{bands_verdict}
 use Rattle.loading.specs.Loading.{set_verdict}
-use borrow.Author.Rules.{rules}
 use Rattle.loading.proofs.check_set.Goals as goal
 
 pub returns-then-set-ne-SET_SIZE : goal.returns-then-set-ne-SET_SIZE

@@ -2,7 +2,6 @@
 use mathlib.Core.Path.{ap, ◌∙◌}
 use Rattle.unit.specs.Sizes.{channel_count}
 use Rattle.unit.specs.Cleared.{cleared_unit, bands_of}
-use borrow.Author.Rules.{rules}
 use Rattle.loading.proofs.house_unit.Goals as goal
 
 pub returns : goal.returns

@@ -3,7 +3,6 @@ use mathlib.Core.Path.{◌≡◌, sym, ap, ◌∙◌}
 use mathlib.Core.Bool.{true}
 use mathlib.Core.List.{List}
 use lib.IntN.{ℤ}
-use borrow.Author.Tests.{not-true, not-false}
 use Rattle.refusals.specs.Numbers.{is_accepted}
 use Rattle.refusals.specs.declared.Verdict.TheVariants.{Accepted}
 use Rattle.unit.specs.Sizes.{channel_count}
@@ -11,7 +10,6 @@ use Rattle.unit.specs.Cleared.{cleared_unit}
 use Rattle.loading.specs.Loading.{set_verdict, cleared_with}
 use Rattle.loading.proofs.Laws.{accepted_set, loaded_accepted, loaded-refused}
 use native.Mathlib.Omega.{arith}
-use borrow.Author.Rules.{rules}
 use Rattle.loading.proofs.load.Goals.{After-accepted, Else-not-accepted}
 use Rattle.loading.proofs.load.Goals as goal
 

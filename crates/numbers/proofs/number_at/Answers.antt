@@ -5,7 +5,6 @@ use lib.ListN.{get_or}
 use mir.Syntax.{w32}
 use mir.Val.{SFits}
 use Rattle.integers.proofs.Machine.{widened, widen_need}
-use borrow.Author.Rules.{rules}
 use Rattle.numbers.proofs.number_at.Goals.{After-result-1}
 use Rattle.numbers.proofs.number_at.Goals as goal
 

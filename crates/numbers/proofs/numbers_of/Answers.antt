@@ -1,7 +1,6 @@
 -- `numbers::numbers_of` meets its contract: the volume, the bands and the channels are stored one behind the other.
 use Rattle.numbers.specs.Layout.{numbers_of}
 use Rattle.numbers.proofs.Put.{put_then, put_all}
-use borrow.Author.Rules.{rules}
 use Rattle.numbers.proofs.numbers_of.Goals as goal
 
 pub returns : goal.returns

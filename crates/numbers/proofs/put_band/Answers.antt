@@ -3,7 +3,6 @@ use native.Mathlib.Omega.{arith}
 use mir.Syntax.{w32}
 use Rattle.integers.proofs.Machine.{reads_back}
 use Rattle.numbers.proofs.Put.{put_three_lem}
-use borrow.Author.Rules.{rules}
 use Rattle.numbers.proofs.put_band.Goals.{After-struct_told-3-1, Start}
 use Rattle.numbers.proofs.put_band.Goals as goal
 

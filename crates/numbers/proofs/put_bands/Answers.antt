@@ -1,12 +1,9 @@
 -- `numbers::put_bands` meets its contract. The loop's invariant: the first b bands are stored.
-use Prim.Native.Nat.{◌+◌, ◌*◌, ◌-◌, ◌≤◌}
+use Prim.Native.Nat.{◌+◌, ◌*◌}
 use native.Mathlib.Omega.{arith}
-use lib.ListN.{take}
 use borrow.Author.Rules.{rules}
-use Rattle.lists.specs.Lists.{joined}
-use Rattle.bands.specs.Bands.{band_count}
 use Rattle.unit.proofs.PastEnd.{zero_band}
-use Rattle.numbers.specs.Layout.{bands_place, left_place, band_numbers, PutGives}
+use Rattle.numbers.specs.Layout.{bands_place, left_place, band_numbers}
 use Rattle.numbers.proofs.Put.{put_none, put_entry, put_entries}
 use Rattle.numbers.proofs.put_bands.Goals as goal
 

@@ -13,7 +13,6 @@ use Rattle.bands.specs.Bands.{band_count}
 use Rattle.unit.proofs.Ranges.{input_size, flag-size}
 use Rattle.numbers.specs.Layout.{head_size, section_size, channel_size, channel_numbers, PutGives}
 use Rattle.numbers.proofs.Put.{put_three_lem, put_then}
-use borrow.Author.Rules.{rules}
 use Rattle.numbers.proofs.put_channel.Goals.{After-sections-1, Start}
 use Rattle.numbers.proofs.put_channel.Goals as goal
 

@@ -10,7 +10,6 @@ use Rattle.unit.specs.Fit.{ChannelFit}
 use Rattle.unit.proofs.PastEnd.{zero_channel}
 use Rattle.numbers.specs.Layout.{unit_size, left_place, channel_numbers, PutGives}
 use Rattle.numbers.proofs.Put.{put_then}
-use borrow.Author.Rules.{rules}
 use Rattle.numbers.proofs.put_channels.Goals as goal
 
 pub put_channel-requires : goal.put_channel-requires

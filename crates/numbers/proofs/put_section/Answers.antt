@@ -7,7 +7,6 @@ use Rattle.words.proofs.Laws.{word_size_lem, narrow_need, narrow_reads}
 use Rattle.unit.specs.Fit.{SectionFit}
 use Rattle.unit.proofs.Ranges.{remainder-size}
 use Rattle.numbers.proofs.Put.{put_five}
-use borrow.Author.Rules.{rules}
 use Rattle.numbers.proofs.put_section.Goals.{After-struct_told-5-1, Start}
 use Rattle.numbers.proofs.put_section.Goals as goal
 

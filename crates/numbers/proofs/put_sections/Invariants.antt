@@ -1,17 +1,9 @@
 -- `numbers::put_sections` meets its contract. The loop's invariant: the first b sections are stored.
-use Prim.Native.Nat.{ℕ, ◌+◌, ◌*◌, ◌-◌, ◌≤◌}
-use native.Mathlib.Omega.{arith}
+use Prim.Native.Nat.{◌+◌, ◌*◌, ◌-◌, ◌≤◌}
 use lib.ListN.{take}
-use mathlib.Core.Path.{◌≡◌, subst}
-use mathlib.Core.List.{[]}
 use Rattle.bands.specs.Bands.{band_count}
-use Rattle.unit.specs.Fit.{SectionFit}
-use borrow.Author.Rules.{rules}
-use Rattle.lists.proofs.Tabulate.{each_get_d}
 use Rattle.lists.specs.Lists.{joined}
-use Rattle.unit.specs.Cleared.{cleared_band_section}
 use Rattle.numbers.specs.Layout.{section_size, section_numbers, PutGives}
-use Rattle.numbers.proofs.Put.{put_none, put_entry, put_entries}
 use Rattle.numbers.proofs.put_sections.Given as goal
 
 abbrev pub invariant-loop-b : goal.invariant-loop-b

@@ -6,7 +6,6 @@ use Rattle.words.specs.Words.{word_size}
 use Rattle.words.proofs.Laws.{narrow_need, narrow_reads}
 use Rattle.unit.proofs.Ranges.{volume_size}
 use Rattle.numbers.proofs.Put.{put_two}
-use borrow.Author.Rules.{rules}
 use Rattle.numbers.proofs.put_volume.Goals.{After-struct_told-2-1, Start}
 use Rattle.numbers.proofs.put_volume.Goals as goal
 

@@ -7,7 +7,6 @@ use lib.IntN.{ℤ, pos}
 use mir.Syntax.{w64}
 use mir.Facts.{to_z-of_z}
 use Rattle.numbers.specs.Layout.{head_size, section_size, place}
-use borrow.Author.Rules.{rules}
 use Rattle.lists.proofs.Parts.{behind}
 use Rattle.numbers.proofs.section_at.Goals as goal
 

@@ -1,12 +1,7 @@
 -- `numbers::sections_of` meets its contract. The loop's invariant: the sections below b are those of the numbers.
 use mathlib.Core.Path.{refl}
-use Prim.Native.Nat.{◌-◌}
-use lib.ListN.{drop}
 use native.Mathlib.Omega.{arith}
-use borrow.Author.Rules.{rules}
-use Rattle.lists.proofs.Loops.{Tabulated, tabulated_begin, tabulated_next, tabulated_done}
-use Rattle.bands.specs.Bands.{band_count}
-use Rattle.numbers.specs.Layout.{section_at}
+use Rattle.lists.proofs.Loops.{tabulated_begin, tabulated_next, tabulated_done}
 use Rattle.numbers.proofs.sections_of.Goals as goal
 
 pub loop-b-init : goal.loop-b-init

@@ -10,7 +10,6 @@ use mir.Syntax.{w64}
 use mir.Facts.{to_z-of_z}
 use Rattle.unit.specs.Cleared.{bands_of}
 use Rattle.numbers.specs.Layout.{bands_place, unit_of}
-use borrow.Author.Rules.{rules}
 use Rattle.numbers.proofs.unit_of.Goals as goal
 
 pub returns : goal.returns

@@ -9,7 +9,6 @@ use Rattle.integers.proofs.Machine.{reads_back}
 use Rattle.lists.specs.Lists.{changed}
 use Rattle.unit.specs.declared.Channel.{Channel}
 use Rattle.orders.specs.Orders.{aimed_section}
-use borrow.Author.Rules.{rules}
 use Rattle.orders.proofs.aim_channel.Goals.{Start}
 use Rattle.orders.proofs.aim_channel.Goals as goal
 

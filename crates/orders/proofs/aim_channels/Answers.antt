@@ -11,7 +11,6 @@ use Rattle.lists.proofs.Tabulate.{tabulate_all}
 use Rattle.unit.proofs.PastEnd.{zero_channel}
 use Rattle.settings.specs.Settings.{names}
 use Rattle.orders.specs.Orders.{aimed_channel}
-use borrow.Author.Rules.{rules}
 use Rattle.orders.proofs.aim_channels.Goals.{Start}
 use Rattle.orders.proofs.aim_channels.Goals as goal
 

@@ -11,7 +11,6 @@ use Rattle.refusals.proofs.Laws.{passed}
 use Rattle.unit.specs.declared.Channel.{Channel}
 use Rattle.settings.specs.Settings.{both_sides}
 use Rattle.orders.specs.Orders.{aimed_channel}
-use borrow.Author.Rules.{rules}
 use Rattle.orders.proofs.aim_named.Goals.{Start}
 use Rattle.orders.proofs.aim_named.Goals as goal
 

@@ -12,7 +12,6 @@ use Rattle.levels.specs.Levels.{aimed}
 use Rattle.unit.specs.Cleared.{cleared_band_section}
 use Rattle.unit.specs.declared.BandSection.{BandSection}
 use Rattle.orders.specs.Orders.{aimed_section}
-use borrow.Author.Rules.{rules}
 use Rattle.orders.proofs.aim_sections.Goals.{After-struct_told-1, Start}
 use Rattle.orders.proofs.aim_sections.Goals as goal
 

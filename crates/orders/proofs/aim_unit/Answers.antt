@@ -9,7 +9,6 @@ use Rattle.refusals.proofs.Laws.{passed, failed}
 use Rattle.settings.specs.Settings.{volume_band}
 use Rattle.settings.proofs.Laws.{place-below}
 use Rattle.orders.specs.Orders.{aimed_volume, aimed_band, aimed_unit}
-use borrow.Author.Rules.{rules}
 use Rattle.orders.proofs.aim_unit.Goals.{Start}
 use Rattle.orders.proofs.aim_unit.Goals as goal
 

@@ -4,7 +4,6 @@ use mathlib.Core.Bool.{true}
 use lib.IntN.{ℤ}
 use mir.Syntax.{w64}
 use mir.Facts.{to_z-of_z}
-use borrow.Author.Tests.{not-true, not-false}
 use Rattle.refusals.specs.Numbers.{is_accepted}
 use Rattle.refusals.specs.declared.Verdict.{Verdict}
 use Rattle.unit.specs.Fit.{unit_fits}
@@ -13,7 +12,6 @@ use Rattle.settings.specs.Settings.{order_arguments, target_of}
 use Rattle.settings.proofs.Laws.{place_accepted, level_accepted}
 use Rattle.orders.specs.Orders.{aimed_unit}
 use Rattle.orders.proofs.Laws.{ordered_unfit, ordered-refused, ordered_accepted}
-use borrow.Author.Rules.{rules}
 use Rattle.orders.proofs.order.Goals.{After-accepted, Else-not-accepted, Start}
 use Rattle.orders.proofs.order.Goals as goal
 

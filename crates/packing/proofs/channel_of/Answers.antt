@@ -1,17 +1,15 @@
 -- `packing::channel_of` meets its contract. The loop's invariant: the sections below b are those of the side.
 use mathlib.Core.Path.{refl, sym, ap, ◌∙◌, subst}
-use Prim.Native.Nat.{ℕ, ◌-◌, ◌<◌}
+use Prim.Native.Nat.{ℕ, ◌<◌}
 use native.Mathlib.Omega.{arith}
 use lib.IntN.{ℤ}
-use borrow.Author.Rules.{rules}
 use mir.Syntax.{w64}
 use Rattle.integers.proofs.Machine.{reads_back}
-use Rattle.lists.proofs.Loops.{Tabulated, tabulated_begin, tabulated_next, tabulated_done}
-use Rattle.bands.specs.Bands.{band_count}
+use Rattle.lists.proofs.Loops.{tabulated_begin, tabulated_next, tabulated_done}
 use Rattle.floats.specs.Whole.{whole_of}
 use Rattle.engine.specs.Floats.{float_at, band_section_in}
-use Rattle.engine.specs.Layout.{side_count, section_at_side}
-use Rattle.packing.specs.Packing.{pair_side, SectionOfAsks}
+use Rattle.engine.specs.Layout.{side_count}
+use Rattle.packing.specs.Packing.{SectionOfAsks}
 use Rattle.packing.proofs.Sides.{places, section_asks, section_is, x1_carries, x2_carries, flag_carries}
 use Rattle.packing.proofs.channel_of.Goals.{Start}
 use Rattle.packing.proofs.channel_of.Goals as goal

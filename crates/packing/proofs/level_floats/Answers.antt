@@ -1,7 +1,6 @@
 -- `packing::level_floats` meets its contract.
 use mathlib.Core.Path.{ap, ◌∙◌}
 use native.Mathlib.Omega.{arith}
-use borrow.Author.Rules.{rules}
 use mir.Syntax.{w64}
 use Rattle.integers.proofs.Machine.{reads_back}
 use Rattle.levels.specs.declared.Level.{Level}

@@ -6,7 +6,6 @@ use native.Mathlib.Nat.{le_trans}
 use lib.Dec.{lit≤}
 use lib.IntN.{ℤ, nat_abs}
 use lib.Ieee.{Float}
-use borrow.Author.Rules.{rules}
 use mir.Syntax.{w64}
 use mir.Val.{to_z, of_z}
 use mir.Facts.{to_z-of_z}

@@ -1,13 +1,12 @@
 -- `packing::put_sections` meets its contract. The loop's invariant: the sections below b are stored.
 use mathlib.Core.Path.{◌≡◌, refl, sym, ap, ap₂, ◌∙◌, subst}
 use mathlib.Core.List.{List}
-use Prim.Native.Nat.{ℕ, ◌+◌, ◌*◌, ◌-◌}
+use Prim.Native.Nat.{ℕ, ◌+◌, ◌*◌}
 use native.Mathlib.Omega.{arith}
 use lib.ListN.{length, get_or}
 use lib.Ieee.{Float}
 use borrow.Author.Rules.{rules}
 use Rattle.lists.proofs.Tabulate.{each_get_d}
-use Rattle.bands.specs.Bands.{band_count}
 use Rattle.unit.specs.Cleared.{cleared_band_section}
 use Rattle.unit.specs.Fit.{SectionFit}
 use Rattle.engine.specs.declared.FloatSection.{FloatSection}

@@ -3,7 +3,6 @@ use mathlib.Core.Path.{ap, ◌∙◌}
 use mathlib.Core.List.{List}
 use Prim.Native.Nat.{◌+◌}
 use lib.Ieee.{Float}
-use borrow.Author.Rules.{rules}
 use Rattle.engine.specs.Layout.{put_sides}
 use Rattle.packing.specs.Packing.{put_three}
 use Rattle.packing.proofs.put_three.Goals.{Start}

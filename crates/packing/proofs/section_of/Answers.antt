@@ -1,7 +1,6 @@
 -- `packing::section_of` meets its contract.
 use mathlib.Core.Path.{◌∙◌}
 use native.Mathlib.Omega.{arith}
-use borrow.Author.Rules.{rules}
 use mir.Syntax.{w64}
 use Rattle.integers.proofs.Machine.{reads_back}
 use Rattle.packing.proofs.section_of.Goals as goal

@@ -3,7 +3,7 @@
 use mathlib.Core.Path.{◌≡◌, refl, sym, ap, ap₂, ◌∙◌, subst}
 use mathlib.Core.Bool.{true}
 use mathlib.Core.List.{List, [], ◌∷◌, ◌++◌, map, append-nil}
-use Prim.Native.Nat.{ℕ, suc, ◌≤◌, ◌<◌, ◌-◌}
+use Prim.Native.Nat.{ℕ, suc, ◌<◌}
 use native.Mathlib.Omega.{arith}
 use native.Mathlib.Numerals.{add-one}
 use lib.Dec.{T}
@@ -24,7 +24,6 @@ use Rattle.section.specs.declared.Section.{Section}
 use Rattle.section.specs.declared.Stepped.{Stepped}
 use Rattle.section.specs.Step.{cleared_section, stepped, answers_over, result_of, remainder_of}
 use Rattle.section.proofs.Ready.{HoldsWords, cleared_ready, ready_stays}
-use Rattle.preview.specs.declared.Preview.{Preview}
 use Rattle.preview.specs.declared.PreviewStep.{PreviewStep}
 use Rattle.preview.specs.Preview.{are_words, filled_front, buffers_of}
 use Rattle.preview.specs.Carried.{carried, carried_step, section_in, StepAsks}

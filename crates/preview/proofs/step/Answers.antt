@@ -5,7 +5,6 @@ use native.Mathlib.Nat.{le_trans}
 use lib.Dec.{lit≤}
 use lib.IntN.{ℤ, pos, nat_abs}
 use lib.Ieee.{Float, binary64, prec, of_bits, of_int}
-use borrow.Author.Rules.{rules}
 use mir.Syntax.{w32}
 use mir.Val.{to_z, of_z}
 use mir.Facts.{to_z-of_z}

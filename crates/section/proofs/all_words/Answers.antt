@@ -1,6 +1,5 @@
 -- `section::all_words` meets its contract: its five tests are those of the definition, in that order.
 use native.Mathlib.Omega.{arith}
-use borrow.Author.Rules.{rules}
 use mir.Syntax.{w32}
 use Rattle.integers.proofs.Machine.{test_back}
 use Rattle.integers.proofs.Order.{and_fails, and_passes}

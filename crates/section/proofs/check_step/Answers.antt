@@ -1,8 +1,6 @@
 -- `section::check_step` meets its contract: the band's verdict first, then that of the words.
 use mathlib.Core.Path.{◌≡◌, sym, ap, ◌∙◌}
 use mathlib.Core.Bool.{true}
-use borrow.Author.Rules.{rules}
-use borrow.Author.Tests.{not-true, not-false}
 use mir.Facts.{to_z-of_z}
 use Rattle.refusals.specs.Numbers.{is_accepted}
 use Rattle.bands.specs.Bands.{band_verdict}

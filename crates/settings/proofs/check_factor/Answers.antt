@@ -1,10 +1,8 @@
 -- `settings::check_factor` meets its contract: its two tests are those of the definition, in that order.
 use mathlib.Core.Path.{◌≡◌, sym, ◌∙◌}
 use mathlib.Core.Bool.{true}
-use borrow.Author.Tests.{not-true, not-false}
 use Rattle.floats.specs.Value.{is_finite, in_range}
 use Rattle.settings.specs.Settings.{lowest, level_verdict}
-use borrow.Author.Rules.{rules}
 use Rattle.settings.proofs.check_factor.Goals.{After-is_factor, Start}
 use Rattle.settings.proofs.check_factor.Goals as goal
 

@@ -1,7 +1,5 @@
 -- `settings::check_order` meets its contract: the place first, then the level.
 use mathlib.Core.Path.{sym, ◌∙◌}
-use borrow.Author.Tests.{not-true, not-false}
-use borrow.Author.Rules.{rules}
 use Rattle.settings.proofs.check_order.Goals as goal
 
 pub returns-then-not-is_place : goal.returns-then-not-is_place

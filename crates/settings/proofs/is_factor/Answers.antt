@@ -6,7 +6,6 @@ use borrow.Author.Tests.{eq-eqb, ne_eqb}
 use Rattle.refusals.proofs.Laws.{passed, failed}
 use Rattle.floats.specs.Value.{is_factor, band_lowest, volume_lowest}
 use Rattle.settings.specs.Settings.{volume_band}
-use borrow.Author.Rules.{rules}
 use Rattle.settings.proofs.is_factor.Goals as goal
 
 pub returns-then-band-eq-VOLUME_BAND : goal.returns-then-band-eq-VOLUME_BAND

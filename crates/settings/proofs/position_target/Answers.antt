@@ -7,7 +7,6 @@ use lib.Dec.{lit≤, eqb, leb}
 use lib.IntN.{ℤ, pos, nat_abs, ◌-ℤ◌, ◌*ℤ◌}
 use mir.Syntax.{w64}
 use mir.Facts.{to_z_pos}
-use borrow.Author.Rules.{rules}
 use borrow.Author.Tests.{eq-eqb, ne_eqb}
 use Rattle.integers.proofs.Machine.{Bounded, literal, num, difference, product, result, result_need}
 use Rattle.refusals.proofs.Laws.{passed, failed}

@@ -1,6 +1,5 @@
 -- `unit::cleared` meets its contract, by that of a cleared channel.
 use lib.ListN.{replicate}
-use borrow.Author.Rules.{rules}
 use Rattle.unit.specs.Sizes.{channel_count}
 use Rattle.unit.specs.Cleared.{cleared_level}
 use Rattle.unit.proofs.cleared.Goals as goal

@@ -1,5 +1,4 @@
 -- `wave::four_at` meets its contract: the four bytes lie within the file.
-use borrow.Author.Rules.{rules}
 use Rattle.wave.specs.Chunks.{four_at}
 use Rattle.wave.proofs.four_at.Goals as goal
 

@@ -1,5 +1,4 @@
 -- `wave::two_at` meets its contract: the two bytes lie within the file.
-use borrow.Author.Rules.{rules}
 use Rattle.wave.specs.Chunks.{two_at}
 use Rattle.wave.proofs.two_at.Goals as goal
 

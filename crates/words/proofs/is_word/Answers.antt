@@ -1,7 +1,6 @@
 -- `words::is_word` meets its contract, by that of the test of a range.
 use mathlib.Core.Path.{ap, ◌∙◌}
 use mir.Facts.{to_z-of_z}
-use borrow.Author.Rules.{rules}
 use Rattle.words.specs.Words.{is_word}
 use Rattle.words.proofs.is_word.Goals as goal
 

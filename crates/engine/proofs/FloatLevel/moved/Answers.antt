@@ -7,7 +7,6 @@ use lib.Dec.{lit≤}
 use lib.IntN.{ℤ, pos, neg_ℤ, nat_abs, ◌-ℤ◌, +ℤ_idl}
 use lib.Signed.{◌≤ℤ◌}
 use lib.Ieee.{Float, binary64, of_bits, of_int, sub, add}
-use borrow.Author.Rules.{rules}
 use Rattle.integers.proofs.Machine.{difference_sized}
 use Rattle.integers.proofs.Parts.{linear, var, ⊝◌}
 use Rattle.integers.proofs.Abs.{abs_neg, abs_le}
