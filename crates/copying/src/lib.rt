@@ -1,5 +1,6 @@
 // Copying bytes.
 #![tactic(auto)]
+
 ghost use Rattle.std.specs.Prelude.{◌≡◌, ◌++◌, ◌≤◌, length, drop};
 
 // Puts bytes at the front of a buffer; what stands behind them there stays.

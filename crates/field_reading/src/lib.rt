@@ -1,5 +1,6 @@
 // Reading a field of the strip sheet: the number in nine columns.
 #![tactic(auto)]
+
 ghost use Rattle.std.specs.Prelude.{◌≡◌, ◌+◌, ◌*◌, ◌≤◌, ◌<◌, eqb, length};
 ghost use Rattle.std.proofs.Math.Seq.{slice};
 ghost use Rattle.integers.specs.Signed.{signed};

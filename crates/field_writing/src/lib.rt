@@ -1,5 +1,6 @@
 // Writing a field of the strip sheet: a number in nine columns.
 #![tactic(auto)]
+
 ghost use Rattle.std.specs.Prelude.{◌≡◌, ◌+◌, ◌≤◌, nat_abs, length, replicate};
 ghost use Rattle.std.proofs.lemmas.List.Edits.{sets};
 ghost use Rattle.fields.specs.Fields.{field_size, last_column, blank, column as columnOf, columns, field};

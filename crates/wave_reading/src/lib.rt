@@ -1,5 +1,6 @@
 // Reading a wave file: its chunks are walked over up to the data, which is handed back as a part of the file.
 #![tactic(auto)]
+
 ghost use Rattle.std.specs.Prelude.{◌≡◌, false, ◌||◌, ◌+◌, ◌-◌, ◌≤◌, length};
 ghost use Rattle.wave.specs.Chunks.{chunk_heading, file_heading, format_size};
 ghost use Rattle.wave_reading.specs.Walk.{has_heading, says_format, format_fits, misfits, data_from, chunks, refused as refusedBy, located};

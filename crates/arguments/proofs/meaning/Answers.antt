@@ -2,7 +2,6 @@
 use mathlib.Core.Path.{sym, ◌∙◌}
 use mathlib.Core.List.{List}
 use Prim.Native.Nat.{ℕ}
-use borrow.Author.Rules.{rules}
 use Rattle.refusals.proofs.Laws.{passed, failed}
 use Rattle.fields.specs.Fields.{same_bytes}
 use Rattle.arguments.specs.Meaning.{mute, mute_text, argument_number, meaning_of}

@@ -5,7 +5,6 @@ use Prim.Native.Nat.{ℕ, ◌≤◌}
 use mathlib.Core.List.{List}
 use native.Mathlib.Omega.{arith}
 use borrow.Author.Tests.{lt-ltb, le-ltb}
-use borrow.Author.Rules.{rules}
 use Rattle.fields.specs.Fields.{same_bytes}
 use Rattle.arguments.specs.declared.Request.TheVariants.{Help, Version, Other}
 use Rattle.arguments.specs.Meaning.{help_text, version_text, request_of}

@@ -8,7 +8,6 @@ use native.Mathlib.Omega.{arith}
 use lib.Dec.{eqb}
 use lib.ListN.{length, get_or}
 use lib.Seq.{slice}
-use borrow.Author.Rules.{rules}
 use Rattle.fields.specs.Fields.{last_column}
 use Rattle.field_reading.specs.Scan.{blanks_of}
 use Rattle.field_reading.proofs.Blanks.{word_from, blank_word, last_word}

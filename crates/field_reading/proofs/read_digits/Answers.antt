@@ -13,7 +13,6 @@ use lib.Seq.{slice, slice-cons, slice_empty}
 use mir.Syntax.{w32}
 use Rattle.integers.proofs.Machine.{reads_back}
 use borrow.Author.Rules.{rules}
-use borrow.Author.Tests.{not-true, not-false}
 use Rattle.integers.specs.Signed.{signed}
 use Rattle.fields.specs.Fields.{is_digit, digit_in, value_from}
 use Rattle.fields.proofs.Bytes.{digit_in_yes, digit_low, digit_high}
@@ -126,8 +125,7 @@ overflow_add-value c =
 pub loop-i-preserved : goal.loop-i-preserved
 loop-i-preserved c =
     let p = (goal.at.loop-i-preserved c).In-loop-i in
-    let p1 = (goal.at.loop-i-preserved c).Else-not-is_digit in
-    (
+    let p1 = (goal.at.loop-i-preserved c).Else-not-is_digit in (
       search rules,
       search rules,
       longer (from p) c.loop-i.i (value p) (byte p - 48) c.loop-i.invariant.0

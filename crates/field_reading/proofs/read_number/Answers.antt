@@ -2,7 +2,6 @@
 use mathlib.Core.Path.{sym, ◌∙◌}
 use native.Mathlib.Omega.{arith}
 use mir.Syntax.{w32}
-use borrow.Author.Rules.{rules}
 use Rattle.integers.proofs.Machine.{reads_back}
 use Rattle.field_reading.proofs.Places.{read_zero, read_number}
 use Rattle.field_reading.proofs.read_number.Goals as goal

@@ -1,11 +1,8 @@
 -- `field_reading::skip_blanks` meets its contract. The loop's invariant: blanks up to i, so that the first other place is also the first from i on.
-use mathlib.Core.Path.{◌≡◌, refl}
+use mathlib.Core.Path.{◌≡◌}
 use Prim.Native.Nat.{◌+◌, ◌-◌, ◌≤◌}
-use native.Mathlib.Omega.{arith}
 use lib.Seq.{slice}
-use borrow.Author.Rules.{rules}
 use Rattle.field_reading.specs.Scan.{blanks_of}
-use Rattle.field_reading.proofs.Blanks.{one_more, no_more, none_left}
 use Rattle.field_reading.proofs.skip_blanks.Given as goal
 
 abbrev pub invariant-loop-i : goal.invariant-loop-i

@@ -8,7 +8,6 @@ use mir.Facts.{to_z_pos}
 use mir.Val.{SFits}
 use Rattle.integers.proofs.Machine.{Num, literal, binary_need, binary_reads, below-fits, difference_sized}
 use Rattle.integers.specs.Signed.{signed}
-use borrow.Author.Rules.{rules}
 use Rattle.field_reading.proofs.with_sign.Goals.{Start}
 use Rattle.field_reading.proofs.with_sign.Goals as goal
 

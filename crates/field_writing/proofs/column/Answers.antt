@@ -1,6 +1,5 @@
 -- `field_writing::column` meets its contract.
 use borrow.Author.Tests.{eq-eqb, ne_eqb}
-use borrow.Author.Rules.{rules}
 use mathlib.Core.Path.{sym}
 use Rattle.fields.specs.Fields.{column}
 use Rattle.field_writing.proofs.column.Goals as goal

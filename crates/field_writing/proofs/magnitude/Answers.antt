@@ -11,7 +11,6 @@ use Rattle.integers.proofs.Parts.{linear, var, ◌⊕◌, ◌⊖◌}
 use Rattle.integers.proofs.Order.{lt_z_true, lt_z_false}
 use Rattle.integers.proofs.Abs.{mag_low}
 use Rattle.integers.proofs.Machine.{Num, num, literal, binary, binary_need, binary_reads, unsigned_need, range_fits, test_of}
-use borrow.Author.Rules.{rules}
 use Rattle.field_writing.proofs.magnitude.Goals.{Then-number-lt0}
 use Rattle.field_writing.proofs.magnitude.Goals as goal
 

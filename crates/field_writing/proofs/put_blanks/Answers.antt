@@ -1,9 +1,9 @@
 -- `field_writing::put_blanks` meets its contract. The loop's invariant: i blanks are stored.
 use mathlib.Core.List.{List, [], ◌∷◌}
 use mathlib.Core.Path.{◌≡◌, refl, sym, ap, ◌∙◌}
-use Prim.Native.Nat.{ℕ, ◌+◌, ◌-◌, ◌≤◌}
+use Prim.Native.Nat.{ℕ, ◌+◌}
 use native.Mathlib.Omega.{arith}
-use lib.ListN.{length, set, replicate, length-set, length-replicate, replicate-append-replicate}
+use lib.ListN.{set, replicate, length-set, length-replicate, replicate-append-replicate}
 use lib.Seq.{sets}
 use borrow.Author.Rules.{rules}
 use Rattle.lists.proofs.Stores.{sets_append}

@@ -1,12 +1,8 @@
 -- `field_writing::put_blanks` meets its contract. The loop's invariant: i blanks are stored.
-use mathlib.Core.List.{List, [], ◌∷◌}
-use mathlib.Core.Path.{◌≡◌, refl, sym, ap, ◌∙◌}
-use Prim.Native.Nat.{ℕ, ◌+◌, ◌-◌, ◌≤◌}
-use native.Mathlib.Omega.{arith}
-use lib.ListN.{length, set, replicate, length-set, length-replicate, replicate-append-replicate}
+use mathlib.Core.Path.{◌≡◌}
+use Prim.Native.Nat.{◌-◌, ◌≤◌}
+use lib.ListN.{length, replicate}
 use lib.Seq.{sets}
-use borrow.Author.Rules.{rules}
-use Rattle.lists.proofs.Stores.{sets_append}
 use Rattle.fields.specs.Fields.{blank}
 use Rattle.field_writing.specs.Front.{front_columns}
 use Rattle.field_writing.proofs.put_blanks.Given as goal

@@ -11,7 +11,6 @@ use lib.Seq.{sets}
 use mir.Facts.{to_z-of_z}
 use mir.Syntax.{w32}
 use mir.Val.{to_z, of_z}
-use borrow.Author.Rules.{rules}
 use Rattle.lists.proofs.Stores.{sets_append, sets_snoc}
 use Rattle.fields.specs.Fields.{last_column, blank, digit, column, owed_still, columns, field}
 use Rattle.fields.proofs.Columns.{columns-length}

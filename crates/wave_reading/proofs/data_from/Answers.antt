@@ -1,5 +1,4 @@
 -- `wave_reading::data_from` meets its contract.
-use borrow.Author.Rules.{rules}
 use Rattle.wave_reading.proofs.data_from.Goals as goal
 
 pub returns-then-seen : goal.returns-then-seen

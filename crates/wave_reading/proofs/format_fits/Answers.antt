@@ -2,7 +2,6 @@
 use mathlib.Core.Bool.{and-false}
 use native.Mathlib.Omega.{arith}
 use borrow.Author.Tests.{lt-leb, le-leb}
-use borrow.Author.Rules.{rules}
 use lib.ListN.{length}
 use Rattle.wave_reading.specs.Walk.{format_fits, size_at, end_at}
 use Rattle.wave_reading.proofs.format_fits.Goals as goal

@@ -1,6 +1,5 @@
 -- `wave_reading::has_heading` meets its contract.
 use borrow.Author.Tests.{lt-leb, le-leb}
-use borrow.Author.Rules.{rules}
 use Rattle.wave_reading.specs.Walk.{has_heading}
 use Rattle.wave_reading.proofs.has_heading.Goals as goal
 

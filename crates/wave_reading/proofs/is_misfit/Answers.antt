@@ -2,7 +2,6 @@
 use mathlib.Core.Path.{sym, ap, ◌∙◌}
 use mathlib.Core.Bool.{not}
 use borrow.Author.Tests.{eq-eqb, ne_eqb}
-use borrow.Author.Rules.{rules}
 use Rattle.wave.specs.Chunks.{four_at, format}
 use Rattle.wave_reading.specs.Walk.{misfits}
 use Rattle.wave_reading.proofs.is_misfit.Goals as goal

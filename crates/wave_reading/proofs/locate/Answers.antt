@@ -1,7 +1,5 @@
 -- `wave_reading::locate` meets its contract.
 use mathlib.Core.Path.{sym, ◌∙◌}
-use borrow.Author.Tests.{not-true, not-false}
-use borrow.Author.Rules.{rules}
 use Rattle.wave_reading.specs.Walk.{located}
 use Rattle.wave_reading.proofs.Inside.{heading_long}
 use Rattle.wave_reading.proofs.locate.Goals as goal

@@ -1,5 +1,4 @@
 -- `wave_reading::says_format` meets its contract: six numbers are read and compared.
-use borrow.Author.Rules.{rules}
 use Rattle.wave_reading.specs.Walk.{says_format}
 use Rattle.wave_reading.proofs.says_format.Goals as goal
 

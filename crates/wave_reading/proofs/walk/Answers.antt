@@ -3,7 +3,7 @@
 use mathlib.Core.Path.{◌≡◌, refl, sym, ap, ap₂, ◌∙◌}
 use mathlib.Core.Bool.{Bool, true, false, ◌||◌}
 use mathlib.Core.List.{List}
-use Prim.Native.Nat.{ℕ, ◌+◌, ◌≤◌, ◌-◌}
+use Prim.Native.Nat.{ℕ, ◌+◌, ◌≤◌}
 use native.Mathlib.Omega.{arith}
 use borrow.Author.Tests.{eq-eqb, ne_eqb}
 use borrow.Author.Rules.{rules}
@@ -66,8 +66,7 @@ returns-then-file-at c =
 
 pub loop-at-preserved : goal.loop-at-preserved
 loop-at-preserved c =
-    let p = (goal.at.loop-at-preserved c).After-four_at-size in
-    (
+    let p = (goal.at.loop-at-preserved c).After-four_at-size in (
       search rules,
       ap₂ (chunks (length (b p)) (b p)) (omega (arith, c.four_at-size.ensures.0)) (c.either-seen.ensures ∙ ap (λ (n : ℕ). seen p || eqb n format) c.four_at-name.ensures.0)
           ∙ passed p c.if-name-eq-DATA.false (sym c.is_misfit.ensures ∙ c.if-is_misfit.false),

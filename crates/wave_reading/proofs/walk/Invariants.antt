@@ -1,17 +1,10 @@
 -- `wave_reading::walk` meets its contract: what the chunks from here on give is what those from the first on give. The measure is the count of
 -- bytes ahead.
-use mathlib.Core.Path.{◌≡◌, refl, sym, ap, ap₂, ◌∙◌}
-use mathlib.Core.Bool.{Bool, true, false, ◌||◌}
-use mathlib.Core.List.{List}
-use Prim.Native.Nat.{ℕ, ◌+◌, ◌≤◌, ◌-◌}
-use native.Mathlib.Omega.{arith}
-use borrow.Author.Tests.{eq-eqb, ne_eqb}
-use borrow.Author.Rules.{rules}
-use lib.Dec.{eqb}
+use mathlib.Core.Path.{◌≡◌}
+use mathlib.Core.Bool.{false}
+use Prim.Native.Nat.{◌≤◌, ◌-◌}
 use lib.ListN.{length}
-use Rattle.wave.specs.Chunks.{four_at, format, data_name}
-use Rattle.wave_reading.specs.Walk.{chunks, next_at, data_from, misfits}
-use Rattle.wave_reading.proofs.Steps.{walk_over, walk_data, walk_misfit, walk_next}
+use Rattle.wave_reading.specs.Walk.{chunks}
 use Rattle.wave_reading.proofs.walk.Given as goal
 
 abbrev pub invariant-loop-at : goal.invariant-loop-at

@@ -1,5 +1,4 @@
 -- `wave_writing::heading` meets its contract: the bytes of both sizes stand in their places of the plain heading.
-use borrow.Author.Rules.{rules}
 use Rattle.wave_writing.specs.Writing.{heading}
 use Rattle.wave_writing.proofs.heading.Goals as goal
 

@@ -1,5 +1,5 @@
 -- `wave_writing::write` meets its contract: the heading is copied to the front of the buffer, and the frames behind it.
-use Rattle.std.proofs.Common.{◌≡◌, sym, ap, ◌∙◌, ℕ, ◌+◌, ◌≤◌, true, false, List, length, take, drop, ◌++◌, arith}
+use Rattle.std.proofs.Common.{◌≡◌, sym, ap, ◌∙◌, ℕ, ◌+◌, true, List, length, drop, ◌++◌}
 use Rattle.refusals.specs.Numbers.{is_accepted}
 use Rattle.wave_writing.specs.Writing.{size_verdict}
 use Rattle.wave_writing.proofs.Buffer.{size_fits, size-refused, room_refused, accepted, written_is, length-heading, assembled}
