@@ -1,6 +1,7 @@
 // Reading a line of the strip sheet into lent slots. Each routine stops at the first refusal; the slots of a refused line then hold nothing of
 // use.
 #![tactic(auto)]
+
 ghost use Rattle.std.specs.Prelude.{◌≡◌, true, ◌+◌, ◌*◌, ◌≤◌, length, take, drop, replicate};
 ghost use Rattle.rounding.specs.Rounding.{within};
 ghost use Rattle.refusals.specs.Numbers.{first_of};

@@ -1,5 +1,6 @@
 // Level orders as a list of numbers, three for each: which lists are orders, and all of them given to a unit in turn.
 #![tactic(auto)]
+
 ghost use Rattle.std.specs.Prelude.{◌≡◌, ◌+◌, ◌≤◌, length, get_or};
 ghost use Rattle.unit.specs.Sizes.{channel_count};
 ghost use Rattle.orders.specs.Orders.{ordered};

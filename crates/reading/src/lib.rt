@@ -1,6 +1,7 @@
 // Reading the strip sheet: the unit that it carries, or the first refusal, with the given unit as it was.
 // A routine that reads a part of the sheet stops at the first refusal; what it gives besides the verdict is then of no use.
 #![tactic(auto)]
+
 ghost use Rattle.std.specs.Prelude.{◌≡◌, cond, ◌≤◌, length, drop};
 ghost use Rattle.lists.specs.Lists.{joined};
 ghost use Rattle.refusals.specs.Numbers.{is_accepted};

@@ -1,6 +1,7 @@
 // Reading a side of the strip sheet from a running place: the head and ten S lines, into slots of their own, and the channel that they carry.
 // A routine stops at the first refusal; what it gives besides the verdict is then of no use.
 #![tactic(auto)]
+
 ghost use Rattle.std.specs.Prelude.{◌≡◌, true, ◌+◌, ◌*◌, ◌≤◌, ◌<◌, length, drop};
 ghost use Rattle.lists.specs.Lists.{joined};
 ghost use Rattle.bands.specs.Bands.{band_count};

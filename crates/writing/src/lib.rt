@@ -1,6 +1,7 @@
 // Writing the strip sheet: 33 lines, 1,200 bytes.
 // `fill` promises every byte of the lent buffer. `write` hands back the part that it filled, and stands on `fill`.
 #![tactic(auto)]
+
 ghost use Rattle.std.specs.Prelude.{◌≡◌, true, ◌+◌, ◌*◌, ◌≤◌, length};
 ghost use Rattle.std.proofs.lemmas.List.Edits.{sets};
 ghost use Rattle.lists.specs.Lists.{Each};

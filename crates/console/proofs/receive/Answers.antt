@@ -1,5 +1,5 @@
 -- `console::receive` meets its contract: what is read stands behind the held bytes.
-use Rattle.std.proofs.Common.{◌≡◌, refl, sym, ◌∙◌, ℕ, ◌≤◌, length, arith}
+use Rattle.std.proofs.Common.{refl, arith}
 use borrow.Author.Tests.{ltb-true}
 use Rattle.console.proofs.Pieces.{read_into}
 use Rattle.console.proofs.receive.Goals as goal

@@ -1,7 +1,6 @@
 -- `line_reading::check_end` meets its contract: one test.
 use mathlib.Core.Path.{sym}
 use mathlib.Core.Bool.{true, false}
-use borrow.Author.Rules.{rules}
 use borrow.Author.Tests.{eq-eqb, ne_eqb}
 use Rattle.forms.specs.Line.{line_feed}
 use Rattle.line_reading.proofs.Line.{end_tested}

@@ -1,7 +1,6 @@
 -- `line_reading::check_letter` meets its contract: the room, then the letter.
 use mathlib.Core.Path.{sym}
 use native.Mathlib.Omega.{arith}
-use borrow.Author.Rules.{rules}
 use Rattle.line_reading.proofs.Line.{letter_short, letter_wrong, letter_right}
 use Rattle.line_reading.proofs.check_letter.Goals as goal
 

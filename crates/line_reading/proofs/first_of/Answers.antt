@@ -1,7 +1,5 @@
 -- `line_reading::first_of` meets its contract: one test.
 use mathlib.Core.Path.{sym, ◌∙◌}
-use borrow.Author.Rules.{rules}
-use borrow.Author.Tests.{not-true, not-false}
 use Rattle.refusals.proofs.Laws.{first_accepted, first_refused}
 use Rattle.line_reading.proofs.first_of.Goals as goal
 

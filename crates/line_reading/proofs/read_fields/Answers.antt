@@ -2,15 +2,13 @@
 use mathlib.Core.Path.{◌≡◌, refl, sym, ap₂, subst, ◌∙◌}
 use mathlib.Core.Bool.{Bool, true, false}
 use mathlib.Core.List.{List}
-use Prim.Native.Nat.{ℕ, ◌+◌, ◌*◌, ◌-◌, ◌≤◌, ◌<◌}
+use Prim.Native.Nat.{ℕ, ◌+◌, ◌*◌, ◌≤◌, ◌<◌}
 use native.Mathlib.Omega.{arith}
 use lib.IntN.{ℤ}
 use lib.ListN.{length, drop, replicate}
 use mir.Facts.{to_z-of_z}
 use mir.Syntax.{w32}
 use mir.Val.{SFits, to_z, of_z}
-use borrow.Author.Rules.{rules}
-use borrow.Author.Tests.{not-true, not-false}
 use Rattle.rounding.specs.Rounding.{within}
 use Rattle.refusals.specs.Numbers.{is_accepted, unless}
 use Rattle.refusals.specs.declared.Verdict.{Verdict}
@@ -19,7 +17,7 @@ use Rattle.fields.specs.Fields.{field_size, field_at}
 use Rattle.forms.specs.Line.{field_verdict}
 use Rattle.line_reading.specs.Gives.{FieldsGive}
 use Rattle.line_reading.proofs.Field.{field_badly, field_number, field_tested}
-use Rattle.line_reading.proofs.Fields.{ReadUpTo, none_read_yet, all_read, read_off, read_on}
+use Rattle.line_reading.proofs.Fields.{none_read_yet, all_read, read_off, read_on}
 use Rattle.line_reading.proofs.read_fields.Goals.{After-in_range_i32, After-read_field-number}
 use Rattle.line_reading.proofs.read_fields.Goals as goal
 

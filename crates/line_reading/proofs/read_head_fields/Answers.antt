@@ -3,8 +3,6 @@ use mathlib.Core.Path.{refl, sym, ◌∙◌}
 use mathlib.Core.List.{[], ◌∷◌}
 use Prim.Native.Nat.{◌+◌}
 use native.Mathlib.Omega.{arith}
-use borrow.Author.Rules.{rules}
-use borrow.Author.Tests.{not-true, not-false}
 use Rattle.unit.specs.Fit.{is_input, is_flag}
 use Rattle.fields.specs.Fields.{field_size}
 use Rattle.line_reading.proofs.Field.{first_off, first_on}

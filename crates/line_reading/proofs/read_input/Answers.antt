@@ -2,8 +2,6 @@
 use mathlib.Core.Path.{refl, sym, ap, ◌∙◌}
 use mathlib.Core.Bool.{true, false}
 use lib.ListN.{set, length-set}
-use borrow.Author.Rules.{rules}
-use borrow.Author.Tests.{not-true, not-false}
 use Rattle.unit.specs.Fit.{is_input}
 use Rattle.line_reading.proofs.Field.{refusal, field_badly, field_number, field_tested}
 use Rattle.line_reading.proofs.read_input.Goals as goal

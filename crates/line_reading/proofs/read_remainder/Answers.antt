@@ -3,8 +3,6 @@ use mathlib.Core.Path.{◌≡◌, ap}
 use mathlib.Core.Bool.{Bool}
 use native.Mathlib.Omega.{arith}
 use lib.ListN.{length, drop}
-use borrow.Author.Rules.{rules}
-use borrow.Author.Tests.{not-true, not-false}
 use Rattle.unit.specs.Fit.{is_remainder}
 use Rattle.sheet.specs.Lines.{fifth_range}
 use Rattle.line_reading.proofs.Section.{fifth_none, fifth_read}

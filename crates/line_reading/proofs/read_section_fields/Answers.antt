@@ -1,7 +1,5 @@
 -- `line_reading::read_section_fields` meets its contract: four words, and behind accepted ones the remainder.
 use mathlib.Core.Path.{sym, ◌∙◌}
-use borrow.Author.Rules.{rules}
-use borrow.Author.Tests.{not-true, not-false}
 use Rattle.line_reading.proofs.Section.{words_refused, section_read}
 use Rattle.line_reading.proofs.read_section_fields.Goals as goal
 

@@ -4,7 +4,6 @@ use mathlib.Core.List.{[], ◌∷◌}
 use native.Mathlib.Omega.{arith}
 use lib.Seq.{sets}
 use mir.Syntax.{w32}
-use borrow.Author.Rules.{rules}
 use Rattle.integers.proofs.Machine.{reads_back}
 use Rattle.forms.specs.Line.{line_text}
 use Rattle.sheet.specs.Lines.{band_letter}

@@ -1,13 +1,12 @@
 -- `line_writing::put_fields` meets its contract. The loop's invariant: the first i fields are written.
-use mathlib.Core.Path.{◌≡◌, ap, ap₂, ◌∙◌}
+use mathlib.Core.Path.{ap, ap₂, ◌∙◌}
 use mathlib.Core.List.{List}
-use Prim.Native.Nat.{ℕ, ◌+◌, ◌*◌, ◌-◌, ◌≤◌}
+use Prim.Native.Nat.{ℕ, ◌+◌, ◌*◌}
 use native.Mathlib.Omega.{arith}
 use lib.IntN.{ℤ, pos}
-use lib.ListN.{length, get_or, take}
+use lib.ListN.{length, get_or}
 use lib.Seq.{sets, take_all, length-sets}
 use mir.Syntax.{w32}
-use mir.Val.{to_z, of_z}
 use borrow.Author.Rules.{rules}
 use Rattle.integers.proofs.Machine.{reads_back}
 use Rattle.lists.specs.Lists.{joined}
@@ -32,13 +31,12 @@ module _ (c : In-loop-i) where
 
 pub loop-i-preserved : goal.loop-i-preserved
 loop-i-preserved c =
-    let p = (goal.at.loop-i-preserved c).In-loop-i in
-    (
-  search rules,
-  c.put_field.ensures
-      ∙ ap₂ (λ (l : List ℕ) (z : ℤ). sets l (at p + field_size * i p) (field z)) c.loop-i.invariant.1 (reads_back w32 (get_or (row p) (i p) (pos 0)) (omega arith))
-      ∙ field_put c.args.out.now (at p) (row p) (i p) (omega arith),
-)
+    let p = (goal.at.loop-i-preserved c).In-loop-i in (
+      search rules,
+      c.put_field.ensures
+          ∙ ap₂ (λ (l : List ℕ) (z : ℤ). sets l (at p + field_size * i p) (field z)) c.loop-i.invariant.1 (reads_back w32 (get_or (row p) (i p) (pos 0)) (omega arith))
+          ∙ field_put c.args.out.now (at p) (row p) (i p) (omega arith),
+    )
 
 pub shape_of-out : goal.shape_of-out
 shape_of-out c = ap length c.loop-i.invariant.1 ∙ simp length-sets

@@ -3,7 +3,6 @@ use mathlib.Core.Path.{◌∙◌}
 use mathlib.Core.List.{[], ◌∷◌}
 use lib.Seq.{sets}
 use mir.Facts.{to_z-of_z}
-use borrow.Author.Rules.{rules}
 use Rattle.forms.specs.Line.{line_text}
 use Rattle.line_writing.proofs.put_head.Goals as goal
 

@@ -5,7 +5,6 @@ use Prim.Native.Nat.{ℕ, ◌+◌, ◌*◌}
 use native.Mathlib.Omega.{arith}
 use lib.IntN.{ℤ}
 use lib.ListN.{length, set, length-set}
-use borrow.Author.Rules.{rules}
 use Rattle.lists.specs.Lists.{joined}
 use Rattle.fields.specs.Fields.{field_size, field}
 use Rattle.forms.specs.Line.{line_feed}

@@ -6,7 +6,6 @@ use native.Mathlib.Omega.{arith}
 use lib.IntN.{ℤ, nat_abs}
 use lib.ListN.{length, take, length-take}
 use lib.Seq.{sets}
-use borrow.Author.Rules.{rules}
 use Rattle.words.specs.Words.{word_size}
 use Rattle.words.proofs.Laws.{word_size_lem, narrow_need, narrow_reads}
 use Rattle.unit.proofs.Ranges.{remainder-size}
@@ -90,8 +89,8 @@ overflow_add-result c =
 pub returns : goal.returns
 returns c =
     let p = (goal.at.returns c).Start in (
-  c.put_line.ensures
-      ∙ (λ i. sets c.args.out.now c.args.at (line_text section_letter (take (c.section_fields-count.ensures i) (narrow_reads c.args.section.y1 (y1-size p) i ∷ narrow_reads c.args.section.y2 (y2-size p) i ∷ narrow_reads c.args.section.gain.present (present-size p) i ∷ narrow_reads c.args.section.gain.target (target-size p) i ∷ narrow_reads c.args.section.remainder (remainder-small p) i ∷ []))))
-      ∙ ap (λ (row : List ℤ). sets c.args.out.now c.args.at (line_text section_letter row)) (row_front c.args.fifth c.args.section),
-  ap (λ (n : ℕ). c.args.at + n) c.section_line.ensures,
-)
+      c.put_line.ensures
+          ∙ (λ i. sets c.args.out.now c.args.at (line_text section_letter (take (c.section_fields-count.ensures i) (narrow_reads c.args.section.y1 (y1-size p) i ∷ narrow_reads c.args.section.y2 (y2-size p) i ∷ narrow_reads c.args.section.gain.present (present-size p) i ∷ narrow_reads c.args.section.gain.target (target-size p) i ∷ narrow_reads c.args.section.remainder (remainder-small p) i ∷ []))))
+          ∙ ap (λ (row : List ℤ). sets c.args.out.now c.args.at (line_text section_letter row)) (row_front c.args.fifth c.args.section),
+      ap (λ (n : ℕ). c.args.at + n) c.section_line.ensures,
+    )

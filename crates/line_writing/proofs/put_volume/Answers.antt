@@ -4,7 +4,6 @@ use mathlib.Core.List.{[], ◌∷◌}
 use Prim.Native.Nat.{◌≤◌}
 use lib.IntN.{nat_abs}
 use lib.Seq.{sets}
-use borrow.Author.Rules.{rules}
 use Rattle.words.specs.Words.{word_size}
 use Rattle.words.proofs.Laws.{narrow_need, narrow_reads}
 use Rattle.unit.proofs.Ranges.{volume_size}

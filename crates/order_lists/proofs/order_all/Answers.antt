@@ -2,13 +2,11 @@
 use mathlib.Core.Path.{◌≡◌, refl, sym, ap, ◌∙◌}
 use mathlib.Core.Bool.{Bool, true, false}
 use mathlib.Core.List.{List, ◌∷◌}
-use Prim.Native.Nat.{ℕ, ◌+◌, ◌-◌, ◌≤◌}
+use Prim.Native.Nat.{ℕ, ◌+◌}
 use native.Mathlib.Omega.{arith}
-use lib.ListN.{length, drop, get_or, length-drop}
+use lib.ListN.{drop, get_or, length-drop}
 use borrow.Author.Rules.{rules}
-use borrow.Author.Tests.{not-true, not-false}
 use Rattle.refusals.specs.Numbers.{is_accepted}
-use Rattle.refusals.specs.declared.Verdict.TheVariants.{Accepted}
 use Rattle.refusals.proofs.Laws.{accepted_only}
 use Rattle.orders.specs.declared.Ordered.{Ordered}
 use Rattle.order_lists.specs.declared.DeskOrder.{DeskOrder}
@@ -58,12 +56,11 @@ returns-then-not-accepted c =
 
 pub loop-at-preserved : goal.loop-at-preserved
 loop-at-preserved c =
-    let p = (goal.at.loop-at-preserved c).After-accepted in
-    (
-  omega arith,
-  accepted_only c.order_at-ordered.result.verdict (sym c.accepted.ensures ∙ c.if-not-accepted.false),
-  goes_on p (c.if-not-accepted.false),
-)
+    let p = (goal.at.loop-at-preserved c).After-accepted in (
+      omega arith,
+      accepted_only c.order_at-ordered.result.verdict (sym c.accepted.ensures ∙ c.if-not-accepted.false),
+      goes_on p (c.if-not-accepted.false),
+    )
 
 pub returns : goal.returns
 returns c =

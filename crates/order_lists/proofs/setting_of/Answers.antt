@@ -1,7 +1,6 @@
 -- `order_lists::setting_of` meets its contract, by the test for mute.
 use mathlib.Core.Path.{sym, ap, ◌∙◌}
 use borrow.Author.Tests.{eq-eqb, ne_eqb}
-use borrow.Author.Rules.{rules}
 use Rattle.settings.specs.declared.Setting.TheVariants.{Position}
 use Rattle.arguments.specs.Meaning.{mute}
 use Rattle.order_lists.specs.Lists.{setting_of}

@@ -1,6 +1,4 @@
 -- `reading::read` meets its contract: the length, and then the lines.
-use borrow.Author.Rules.{rules}
-use borrow.Author.Tests.{not-true, not-false}
 use Rattle.sheet.specs.Sheet.{side_letters}
 use Rattle.reading.proofs.Laws.{length-refused, lines_read}
 use Rattle.reading.proofs.read.Goals as goal

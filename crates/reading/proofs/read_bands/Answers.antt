@@ -1,15 +1,13 @@
 -- `reading::read_bands` meets its contract. The loop's invariant: the lines below the ith are read, and the numbers stand in the set.
 use mathlib.Core.Bool.{not}
 use mathlib.Core.Path.{refl, sym, ◌∙◌, ap}
-use Prim.Native.Nat.{◌+◌, ◌*◌, ◌-◌}
 use native.Mathlib.Omega.{arith}
-use lib.ListN.{length, replicate, get_or-replicate}
+use lib.ListN.{get_or-replicate}
 use borrow.Author.Rules.{rules}
-use Rattle.bands.specs.Bands.{band_size, band_count}
-use Rattle.forms.specs.Line.{line_size}
-use Rattle.sheet.specs.Lines.{band_letter, band_ranges, band_row, band_form}
+use Rattle.bands.specs.Bands.{band_count}
+use Rattle.sheet.specs.Lines.{band_letter}
 use Rattle.sheet.proofs.Lines.{band_sound}
-use Rattle.side_reading.proofs.Rows.{RowsRead, rows_begin, rows_done, rows_refused, rows_next}
+use Rattle.side_reading.proofs.Rows.{rows_begin, rows_done, rows_refused, rows_next}
 use Rattle.reading.proofs.read_bands.Goals as goal
 
 pub read_band-found-requires : goal.read_band-found-requires

@@ -1,8 +1,6 @@
 -- `reading::read_front` meets its contract: the V line, and the C lines behind an accepted one.
 use mathlib.Core.Path.{◌≡◌, sym, ◌∙◌}
 use mathlib.Core.Bool.{true}
-use borrow.Author.Rules.{rules}
-use borrow.Author.Tests.{not-true, not-false}
 use Rattle.refusals.specs.Numbers.{is_accepted}
 use Rattle.reading.proofs.Front.{volume_refused, volume_room, bands_read}
 use Rattle.reading.proofs.read_front.Goals.{Else-not-accepted}

@@ -1,7 +1,5 @@
 -- `reading::read_rest` meets its contract: the sides, and the end of the bytes behind accepted ones.
 use mathlib.Core.Path.{sym, ◌∙◌}
-use borrow.Author.Rules.{rules}
-use borrow.Author.Tests.{not-true, not-false}
 use Rattle.sheet.specs.Sheet.{side_letters}
 use Rattle.reading.proofs.Lines.{rest-refused, rest_read}
 use Rattle.reading.proofs.read_rest.Goals as goal

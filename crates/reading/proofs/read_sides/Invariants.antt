@@ -1,11 +1,7 @@
 -- `reading::read_sides` meets its contract. The loop's invariant: the sides below the ith are read, and stand at the front of the channels.
-use mathlib.Core.Path.{refl, sym, ◌∙◌}
 use Prim.Native.Nat.{◌-◌}
-use native.Mathlib.Omega.{arith}
-use borrow.Author.Rules.{rules}
-use borrow.Author.Tests.{not-true, not-false}
 use Rattle.unit.specs.Sizes.{channel_count}
-use Rattle.reading.proofs.Sides.{SidesTurned, sides_begin, sides_done, sides-refused, sides-next}
+use Rattle.reading.proofs.Sides.{SidesTurned}
 use Rattle.reading.proofs.read_sides.Given as goal
 
 abbrev pub invariant-loop-i : goal.invariant-loop-i

@@ -4,7 +4,6 @@ use lib.IntN.{pos}
 use lib.ListN.{get_or}
 use mir.Syntax.{w32, w64}
 use mir.Val.{SFits}
-use borrow.Author.Rules.{rules}
 use Rattle.integers.proofs.Machine.{widened, widen_need}
 use Rattle.side_reading.proofs.number_at.Goals.{After-result-1}
 use Rattle.side_reading.proofs.number_at.Goals as goal

@@ -7,7 +7,6 @@ use lib.IntN.{ℤ, pos}
 use lib.Seq.{get_or-drop}
 use mir.Syntax.{w64}
 use mir.Facts.{to_z-of_z}
-use borrow.Author.Rules.{rules}
 use Rattle.sheet.specs.Lines.{row_at, row_size}
 use Rattle.side_reading.proofs.section_at.Goals as goal
 

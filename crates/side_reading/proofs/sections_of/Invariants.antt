@@ -1,9 +1,6 @@
 -- `side_reading::sections_of` meets its contract. The loop's invariant: the sections below b are those of the row.
-use mathlib.Core.Path.{refl}
 use Prim.Native.Nat.{◌-◌}
-use native.Mathlib.Omega.{arith}
-use borrow.Author.Rules.{rules}
-use Rattle.lists.proofs.Loops.{Tabulated, tabulated_begin, tabulated_next, tabulated_done}
+use Rattle.lists.proofs.Loops.{Tabulated}
 use Rattle.bands.specs.Bands.{band_count}
 use Rattle.side_reading.specs.Side.{section_in_rows}
 use Rattle.side_reading.proofs.sections_of.Given as goal

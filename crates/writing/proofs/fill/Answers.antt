@@ -1,8 +1,6 @@
 -- `writing::fill` meets its contract: nothing is written into a shorter buffer or for an unfit unit, else the sheet.
 use mathlib.Core.Path.{sym, ◌∙◌}
 use native.Mathlib.Omega.{arith}
-use borrow.Author.Rules.{rules}
-use borrow.Author.Tests.{not-true, not-false}
 use Rattle.unit.proofs.Fitness.{fit_of_test}
 use Rattle.sheet.specs.Sheet.{side_letters}
 use Rattle.writing.proofs.Typed.{unit_typed}

@@ -1,14 +1,11 @@
 -- `writing::put_bands` meets its contract. The loop's invariant: laid behind the lines before line i, the lines from line i on make the whole.
-use Prim.Native.Nat.{◌+◌, ◌*◌, ◌-◌}
 use native.Mathlib.Omega.{arith}
-use lib.ListN.{length, get_or, replicate, get_or-replicate}
-use borrow.Author.Rules.{rules}
+use lib.ListN.{get_or, get_or-replicate}
 use Rattle.bands.specs.Bands.{band_count}
 use Rattle.unit.proofs.PastEnd.{zero_band}
-use Rattle.forms.specs.Line.{line_size}
 use Rattle.forms.proofs.Line.{text_length}
-use Rattle.forms.proofs.Texts.{Onward, onward_begin, onward_size, onward_next, onward_done}
-use Rattle.sheet.specs.Lines.{band_letter, band_ranges, band_row, band_form}
+use Rattle.forms.proofs.Texts.{onward_begin, onward_size, onward_next, onward_done}
+use Rattle.sheet.specs.Lines.{band_letter, band_row}
 use Rattle.writing.proofs.put_bands.Goals as goal
 
 pub loop-i-init : goal.loop-i-init

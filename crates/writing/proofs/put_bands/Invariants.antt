@@ -1,14 +1,10 @@
 -- `writing::put_bands` meets its contract. The loop's invariant: laid behind the lines before line i, the lines from line i on make the whole.
 use Prim.Native.Nat.{◌+◌, ◌*◌, ◌-◌}
-use native.Mathlib.Omega.{arith}
-use lib.ListN.{length, get_or, replicate, get_or-replicate}
-use borrow.Author.Rules.{rules}
+use lib.ListN.{length, replicate}
 use Rattle.bands.specs.Bands.{band_count}
-use Rattle.unit.proofs.PastEnd.{zero_band}
 use Rattle.forms.specs.Line.{line_size}
-use Rattle.forms.proofs.Line.{text_length}
-use Rattle.forms.proofs.Texts.{Onward, onward_begin, onward_size, onward_next, onward_done}
-use Rattle.sheet.specs.Lines.{band_letter, band_ranges, band_row, band_form}
+use Rattle.forms.proofs.Texts.{Onward}
+use Rattle.sheet.specs.Lines.{band_letter, band_ranges, band_form}
 use Rattle.writing.proofs.put_bands.Given as goal
 
 abbrev pub invariant-loop-i : goal.invariant-loop-i

@@ -3,7 +3,6 @@ use mathlib.Core.Path.{◌≡◌}
 use mathlib.Core.Bool.{true}
 use native.Mathlib.Omega.{arith}
 use lib.ListN.{length, length-append}
-use borrow.Author.Rules.{rules}
 use Rattle.lists.proofs.Stores.{sets_behind}
 use Rattle.unit.specs.declared.Unit.{Unit}
 use Rattle.forms.specs.Line.{line_size}

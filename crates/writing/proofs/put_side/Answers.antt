@@ -7,7 +7,6 @@ use native.Mathlib.Omega.{arith}
 use lib.IntN.{nat_abs}
 use lib.ListN.{length}
 use lib.Seq.{sets}
-use borrow.Author.Rules.{rules}
 use Rattle.lists.proofs.Stores.{sets_behind}
 use Rattle.words.specs.Words.{word_size}
 use Rattle.words.proofs.Laws.{narrow_need, narrow_reads}
@@ -49,6 +48,6 @@ overflow_cast-flag c =
 pub returns : goal.returns
 returns c =
     let p = (goal.at.returns c).Start in (
-  sets_behind c.args.out.now ((head_form c.args.letter).text (head_row c.args.channel)) ((sections_form true).text c.args.channel.sections) c.args.at (c.args.at + line_size (length head_ranges)) (omega (arith, text_length c.args.letter (head_row c.args.channel))) (c.put_head.ensures ∙ (λ i. sets c.args.out.now c.args.at ((head_form c.args.letter).text (narrow_reads c.args.channel.x1 (x1-size p) i ∷ narrow_reads c.args.channel.x2 (x2-size p) i ∷ narrow_reads c.args.channel.flag (flag_small p) i ∷ [])))) c.put_sections.ensures,
-  refl,
-)
+      sets_behind c.args.out.now ((head_form c.args.letter).text (head_row c.args.channel)) ((sections_form true).text c.args.channel.sections) c.args.at (c.args.at + line_size (length head_ranges)) (omega (arith, text_length c.args.letter (head_row c.args.channel))) (c.put_head.ensures ∙ (λ i. sets c.args.out.now c.args.at ((head_form c.args.letter).text (narrow_reads c.args.channel.x1 (x1-size p) i ∷ narrow_reads c.args.channel.x2 (x2-size p) i ∷ narrow_reads c.args.channel.flag (flag_small p) i ∷ [])))) c.put_sections.ensures,
+      refl,
+    )

@@ -1,18 +1,14 @@
 -- `writing::put_sides` meets its contract. The loop's invariant: laid at the place that is reached, the sides from side i on make the whole.
-use mathlib.Core.Path.{◌≡◌, refl}
+use mathlib.Core.Path.{refl}
 use mathlib.Core.Bool.{true}
-use Prim.Native.Nat.{◌+◌, ◌*◌, ◌-◌}
 use native.Mathlib.Omega.{arith}
 use lib.ListN.{get_or}
-use borrow.Author.Rules.{rules}
 use Rattle.lists.proofs.Tabulate.{each_get_d}
 use Rattle.unit.specs.Fit.{ChannelFit}
 use Rattle.unit.specs.Shaped.{TenSections}
-use Rattle.unit.specs.Sizes.{channel_count}
 use Rattle.unit.proofs.PastEnd.{zero_channel}
-use Rattle.forms.proofs.Texts.{Onward, onward_begin, onward_size, onward_next, onward_done}
+use Rattle.forms.proofs.Texts.{onward_begin, onward_size, onward_next, onward_done}
 use Rattle.sheet.proofs.Sizes.{side_length}
-use Rattle.sheet.specs.Sheet.{side_form, side_size}
 use Rattle.writing.proofs.Typed.{channels_typed}
 use Rattle.writing.proofs.put_sides.Goals as goal
 

@@ -4,7 +4,6 @@ use mathlib.Core.List.{List}
 use Prim.Native.Nat.{ℕ, ◌≤◌}
 use native.Mathlib.Omega.{arith}
 use lib.ListN.{length, take, length-take}
-use borrow.Author.Rules.{rules}
 use Rattle.unit.specs.declared.Unit.{Unit}
 use Rattle.sheet.specs.Sheet.{side_letters}
 use Rattle.writing.specs.Written.{filled_part}
