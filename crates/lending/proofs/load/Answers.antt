@@ -15,5 +15,5 @@ numbers_of-requires c =
 pub returns : goal.returns
 returns c = (
   c.number.ensures ∙ ap (λ (l : Loaded). number_of l.verdict) c.load-answer.ensures,
-  c.Numbers-of.ensures ∙ ap (λ (l : Loaded). numbers_of l.unit) c.load-answer.ensures,
+  c.numbers_of.ensures ∙ ap (λ (l : Loaded). numbers_of l.unit) c.load-answer.ensures,
 )

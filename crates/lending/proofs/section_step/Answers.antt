@@ -87,7 +87,7 @@ module _ (c : After-struct_told-1) where
 pub returns : goal.returns
 returns c = (
   c.answer_of.ensures ∙ ap answer_of answer,
-  numbers-stored c.before.before ∙ ap (λ (r : Stepped). lone_numbers r.section) answer,
+  numbers-stored (goal.at.returns c).After-struct_told-1 ∙ ap (λ (r : Stepped). lone_numbers r.section) answer,
 )
   where
     answer : c.step-answer.result ≡ stepped (lone_section (l c.before.before.before.before.before)) (start c.before.before.before.before.before).args.x

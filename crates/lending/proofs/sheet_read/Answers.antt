@@ -19,4 +19,4 @@ pub returns : goal.returns
 returns c =
     let s = c.before.before.before.before.before.before.before.before in
     sheet_stored s.args.bytes.now s.args.numbers.now c.cleared-given.result c.read-answer.result c.read-answer.ensures (sym c.accepted.ensures ∙ c.if-not-accepted.false)
-    c.number-2.ensures c.Numbers-of.ensures
+    c.number-2.ensures c.numbers_of.ensures

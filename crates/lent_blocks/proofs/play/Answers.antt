@@ -45,7 +45,7 @@ module _ (c : After-accepted) where
   accepted-is = sym (c.accepted.ensures ∙ ap is_accepted c.check_block-verdict.ensures)
 
 pub run-requires : goal.run-requires
-run-requires c = record { size = search rules; accepted = accepted-is c.before.before.before.before.before ∙ c.if-accepted.true }
+run-requires c = record { size = search rules; accepted = accepted-is (goal.at.run-requires c).After-accepted ∙ c.if-accepted.true }
 
 pub returns-then-accepted : goal.returns-then-accepted
 unfolding block_played
@@ -60,10 +60,10 @@ returns-then-accepted c =
     }
   where
     r : After-run
-    r = c.before.before
+    r = (goal.at.returns-then-accepted c).After-run
 
     a : After-accepted
-    a = c.before.before.before.before.before.before.before.before
+    a = (goal.at.returns-then-accepted c).After-accepted
 
     yes : is_accepted (verdict a) ≡ true
     yes = accepted-is a ∙ c.if-accepted.true
@@ -72,10 +72,10 @@ pub returns-else-accepted : goal.returns-else-accepted
 unfolding block_played
 returns-else-accepted c =
     record {
-      verdict_is = verdict-is c.before;
-      numbers_are = failed (is_accepted (verdict c.before)) (numbers_of (block_played channel_count (u c.before) (input c.before) (length (room c.before))).unit) (l c.before) no;
-      output_is = sym (refused-output channel_count (u c.before) (input c.before) (room c.before) no);
+      verdict_is = verdict-is (goal.at.returns-else-accepted c).After-accepted;
+      numbers_are = failed (is_accepted (verdict (goal.at.returns-else-accepted c).After-accepted)) (numbers_of (block_played channel_count (u (goal.at.returns-else-accepted c).After-accepted) (input (goal.at.returns-else-accepted c).After-accepted) (length (room (goal.at.returns-else-accepted c).After-accepted))).unit) (l (goal.at.returns-else-accepted c).After-accepted) no;
+      output_is = sym (refused-output channel_count (u (goal.at.returns-else-accepted c).After-accepted) (input (goal.at.returns-else-accepted c).After-accepted) (room (goal.at.returns-else-accepted c).After-accepted) no);
     }
   where
-    no : is_accepted (verdict c.before) ≡ false
-    no = accepted-is c.before ∙ c.if-accepted.false
+    no : is_accepted (verdict (goal.at.returns-else-accepted c).After-accepted) ≡ false
+    no = accepted-is (goal.at.returns-else-accepted c).After-accepted ∙ c.if-accepted.false

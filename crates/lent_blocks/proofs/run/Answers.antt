@@ -8,12 +8,14 @@ use lib.Ieee.{Float}
 use borrow.Author.Rules.{rules}
 use Rattle.unit.specs.Fit.{Fit}
 use Rattle.engine.specs.declared.FloatLevel.{FloatLevel}
-use Rattle.frames-level.specs.Run.{unit_in}
+use Rattle.frames.specs.Run.{unit_in}
 use Rattle.blocks.proofs.Block.{BlockAccepts, block_accepted}
 use Rattle.blocks.proofs.Packed.{Packed, frames_asks, unit_after_lem, fit_after, volume_after, output_after}
 use Rattle.numbers.specs.Layout.{left_place, right_place, channel_of, numbers_of, unit_of}
 use Rattle.lent_packing.specs.Store.{unit_stored}
-use Rattle.lent_blocks.proofs.run.Goals.{After-frames-level, After-pair_floats_at-pair, Start}
+use Rattle.lent_blocks.proofs.run.Lts as lts
+use Rattle.lent_blocks.proofs.run.Reads as reads
+use Rattle.lent_blocks.proofs.run.Tie as tie
 use Rattle.lent_blocks.proofs.run.Goals as goal
 
 -- the channels of the lent numbers
@@ -21,7 +23,7 @@ channels-are : (l : List ℤ) → channel_of (drop left_place l) ∷ channel_of 
 unfolding unit_of
 channels-are l = refl
 
-module _ (z : Start) where
+module _ (z : lts.Start tie.the-claims reads.Pre reads.Post) where
   abbrev l : List ℤ
   l = z.args.numbers.now
 
@@ -34,9 +36,9 @@ module _ (z : Start) where
   accepts : BlockAccepts 2 (unit_of l) (length input) (length room)
   accepts = block_accepted 2 (unit_of l) (length input) (length room) z.requires.accepted
 
-module _ (c : After-pair_floats_at-pair) where
-  abbrev s : Start
-  s = c.before.before.before.before.before.before.before.before
+module _ (c : lts.After-pair_floats_at tie.the-claims reads.Pre reads.Post) where
+  abbrev s : lts.Start tie.the-claims reads.Pre reads.Post
+  s = c.before.before.before.before.before
 
   abbrev level : FloatLevel
   level = c.volume_floats_at-volume.result
@@ -59,10 +61,10 @@ module _ (c : After-pair_floats_at-pair) where
       }
 
 pub frames-level-requires : goal.frames-level-requires
-frames-level-requires c = frames_asks (unit_of (l (s c.before.before.before))) (input (s c.before.before.before)) (room (s c.before.before.before)) (accepts (s c.before.before.before)) (level c.before.before.before) (bands c.before.before.before) (pair c.before.before.before) (packed c.before.before.before)
+frames-level-requires c = frames_asks (unit_of (l (s c.before.before.before.before))) (input (s c.before.before.before.before)) (room (s c.before.before.before.before)) (accepts (s c.before.before.before.before)) (level c.before.before.before.before) (bands c.before.before.before.before) (pair c.before.before.before.before) (packed c.before.before.before.before)
 
-module _ (c : After-frames-level) where
-  abbrev p : After-pair_floats_at-pair
+module _ (c : lts.After-frames tie.the-claims reads.Pre reads.Post) where
+  abbrev p : lts.After-pair_floats_at tie.the-claims reads.Pre reads.Post
   p = c.before.before.before.before
 
   abbrev after : List Float
@@ -89,8 +91,8 @@ store-requires c =
       second_fit = (fit f).channels.1.0;
     }
   where
-    f : After-frames-level
-    f = c.before.before.before.before.before
+    f : lts.After-frames tie.the-claims reads.Pre reads.Post
+    f = c.before.before.before.before.before.before
 
 pub returns : goal.returns
 returns c =
@@ -99,5 +101,5 @@ returns c =
       bytes = output_after (unit_of (l (s (p f)))) (input (s (p f))) (room (s (p f))) (accepts (s (p f))) (level (p f)) (bands (p f)) (pair (p f)) (packed (p f)) f.frames-level.result (after f) (filled f) f.frames-level.ensures;
     }
   where
-    f : After-frames-level
-    f = c.before.before.before.before.before.before
+    f : lts.After-frames tie.the-claims reads.Pre reads.Post
+    f = c.before.before.before.before.before.before.before

@@ -29,7 +29,7 @@ loop-i-preserved c =
     let start = args.start in
     let size = tested-size l start (omega arith) in
     found-next at.loop-i.invariant (pos 0) (omega arith)
-    (test_back is_word w32 (get_or l (start + at.loop-i.i) (pos 0)) (omega arith) c.is_IsWord.ensures
+    (test_back is_word w32 (get_or l (start + at.loop-i.i) (pos 0)) (omega arith) c.is_word-words.ensures
     ∙ ap is_word (sym (get_or-take (section_size * band_count) (drop start l) at.loop-i.i (pos 0) (omega arith) ∙ get_or-drop start l at.loop-i.i (pos 0))))
 
 pub returns : goal.returns

@@ -21,7 +21,7 @@ use borrow.Author.Rules.{rules}
 use Rattle.lent_fitness.proofs.remainders_fit.Given as goal
 
 abbrev pub invariant-loop-b : goal.invariant-loop-b
-invariant-loop-b l = EveryFound (remainder_within (to_z w32 l.least) (to_z w32 l.most)) (channel_of (drop l.start l.numbers)).sections l.first l.fit l.b
+invariant-loop-b l = EveryFound (remainder_within l.least l.most) (channel_of (drop l.start l.numbers)).sections l.first l.fit l.b
 
 abbrev pub decreases-loop-b : goal.decreases-loop-b
 decreases-loop-b l = band_count - l.b

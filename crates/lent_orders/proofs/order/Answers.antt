@@ -26,7 +26,7 @@ use Rattle.lent_orders.proofs.order.Goals as goal
 -- the answer of the definition, and what it tells
 module _ (c : After-is_fit) where
   abbrev s : Start
-  s = c.before.before
+  s = c.before
 
   abbrev l : List ℤ
   l = s.args.numbers.now

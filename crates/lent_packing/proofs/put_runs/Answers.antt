@@ -33,7 +33,7 @@ loop-k-preserved c = (
 )
   where
     s : Start
-    s = c.before.before.before.before.before.before.before.before.before.before
+    s = c.before.before.before.before.before.before.before.before.before.before.before
 
     k : ℕ
     k = c.loop-k.k

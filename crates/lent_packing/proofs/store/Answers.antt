@@ -25,17 +25,17 @@ take_runs-requires c =
       apart = lit≤ tt;
       inside = lit≤ tt;
       room = omega (arith, c.requires.size);
-      carries = λ j u v. all-carry c.before.before.before.before j (omega arith);
+      carries = λ j u v. all-carry c.before.before.before.before.before j (omega arith);
     }
 
 pub take_runs-requires-2 : goal.take_runs-requires-2
 take_runs-requires-2 c =
     record {
-      size = c.Take-runs.ensures.size;
+      size = c.take_runs.ensures.size;
       apart = lit≤ tt;
       inside = lit≤ tt;
       room = omega (arith, c.requires.size);
-      carries = λ j u v. all-carry c.before.before.before.before.before.before j (omega arith);
+      carries = λ j u v. all-carry c.before.before.before.before.before.before.before j (omega arith);
     }
 
 pub returns : goal.returns
@@ -43,7 +43,7 @@ returns c =
     stored s.args.numbers.now s.requires.numbers_size s.args.volume s.args.pair.now _ _
     (reads_back w32 c.whole_of-present.result (omega arith) ∙ c.whole_of-present.ensures)
     (reads_back w32 c.whole_of-target.result (omega arith) ∙ c.whole_of-target.ensures)
-    c.Take-runs.new.0 c.take_runs-2.new.numbers c.Take-runs.ensures c.take_runs-2.ensures
+    c.take_runs.new.numbers c.take_runs-2.new.numbers c.take_runs.ensures c.take_runs-2.ensures
   where
     s : Start
-    s = c.before.before.before.before.before.before.before
+    s = c.before.before.before.before.before.before.before.before

@@ -31,7 +31,7 @@ loop-k-preserved c = (
 )
   where
     s : Start
-    s = c.before.before.before.before.before.before.before
+    s = c.before.before.before.before.before.before.before.before
 
     k : ℕ
     k = c.loop-k.k
@@ -42,7 +42,7 @@ returns c =
     c.loop-k.invariant.1
   where
     s : Start
-    s = c.before.before.before
+    s = c.before.before.before.before
 
     all : c.loop-k.k ≡ s.args.count
     all = omega arith

@@ -16,4 +16,4 @@ pub overflow_cast-result : goal.overflow_cast-result
 overflow_cast-result c = widen_need tt (get_or c.args.numbers.now c.args.at (pos 0)) (fits c)
 
 pub returns : goal.returns
-returns c = (widened tt (get_or c.args.numbers.now c.args.at (pos 0)) (fits c)).reads
+returns c = (widened {w = mir.Syntax.w64} tt (get_or c.args.numbers.now c.args.at (pos 0)) (fits c)).reads

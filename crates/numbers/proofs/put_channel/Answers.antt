@@ -53,13 +53,13 @@ module _ (c : After-sections-1) where
 -- ---- the needs
 
 pub overflow_cast-x1 : goal.overflow_cast-x1
-overflow_cast-x1 c = narrow_need c.args.channel.x1 (x1-size c.before.before)
+overflow_cast-x1 c = narrow_need c.args.channel.x1 (x1-size c.before.before.before)
 
 pub overflow_cast-x2 : goal.overflow_cast-x2
-overflow_cast-x2 c = narrow_need c.args.channel.x2 (x2-size c.before.before.before.before)
+overflow_cast-x2 c = narrow_need c.args.channel.x2 (x2-size c.before.before.before.before.before)
 
 pub overflow_cast-flag : goal.overflow_cast-flag
-overflow_cast-flag c = narrow_need c.args.channel.flag (the-flag-size c.before.before.before.before.before.before)
+overflow_cast-flag c = narrow_need c.args.channel.flag (the-flag-size c.before.before.before.before.before.before.before)
 
 pub put_sections-requires : goal.put_sections-requires
 put_sections-requires c = ((ahead c.before).size, omega (arith, (start c.before).requires.1), (start c.before).requires.2.sections)

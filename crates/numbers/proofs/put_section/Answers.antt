@@ -38,18 +38,18 @@ start c = c.before.before.before.before.before.before.before.before.before.befor
 -- ---- the needs
 
 pub overflow_cast-y1 : goal.overflow_cast-y1
-overflow_cast-y1 c = narrow_need c.args.section.y1 (y1-size c.before.before)
+overflow_cast-y1 c = narrow_need c.args.section.y1 (y1-size c.before.before.before)
 
 pub overflow_cast-y2 : goal.overflow_cast-y2
-overflow_cast-y2 c = narrow_need c.args.section.y2 (y2-size c.before.before.before.before)
+overflow_cast-y2 c = narrow_need c.args.section.y2 (y2-size c.before.before.before.before.before)
 
 pub overflow_cast-present : goal.overflow_cast-present
-overflow_cast-present c = narrow_need c.args.section.gain.present (present-size c.before.before.before.before.before.before)
+overflow_cast-present c = narrow_need c.args.section.gain.present (present-size c.before.before.before.before.before.before.before)
 
 pub overflow_cast-target : goal.overflow_cast-target
 overflow_cast-target c =
     let s = c.before.before.before.before.before.before.before.before in
-    narrow_need s.args.section.gain.target (target-size s)
+    narrow_need s.args.section.gain.target (target-size s.before)
 
 pub overflow_cast-remainder : goal.overflow_cast-remainder
 overflow_cast-remainder c = narrow_need (start c).args.section.remainder (the-remainder-size (start c))

@@ -25,7 +25,7 @@ start c = c.before.before.before.before
 -- ---- the needs
 
 pub overflow_cast-present : goal.overflow_cast-present
-overflow_cast-present c = narrow_need c.args.volume.present (present-size c.before.before)
+overflow_cast-present c = narrow_need c.args.volume.present (present-size c.before.before.before)
 
 pub overflow_cast-target : goal.overflow_cast-target
 overflow_cast-target c = narrow_need (start c).args.volume.target (target-size (start c))

@@ -1,8 +1,5 @@
 //! Faults of standard input and standard output, and closed ones.
 
-use std::os::unix::process::ExitStatusExt;
-use std::process::ExitStatus;
-
 use outside::checks::sounds::Sound;
 use outside::checks::Difference;
 use outside::wave::heading;
@@ -15,11 +12,10 @@ use crate::seen::Seen;
 use crate::test::Test;
 
 const FRAMES: usize = 200_000;
-const SIGPIPE: i32 = 13;
 
-/// A run of so many frames that stops: the case, where its sound goes, how it is started, what it tells, how many bytes
-/// are heard, and the signal that ends it, 0 for none.
-type Stop = (&'static str, usize, Output, Way, &'static str, usize, i32);
+/// A run of so many frames that stops: the case, where its sound goes, how it is started, what it tells, and how many
+/// bytes are heard.
+type Stop = (&'static str, usize, Output, Way, &'static str, usize);
 
 const FULL: &str = "standard output: No space left on device\n";
 const TOO_LARGE: &str = "standard output: File too large\n";
@@ -30,25 +26,26 @@ const NO_OUTPUT: &str = "standard output: closed\n";
 const LIMITED: Way = Way::Shell("ulimit -f 8; trap '' XFSZ", "");
 const UNBROKEN: Way = Way::Shell("trap '' PIPE", "");
 
-/// Closed streams; no room at all, and room for a part of the sound, of one write too; broken pipes, ignored and not.
+/// Closed streams; no room at all, and room for a part of the sound, of one write too; broken pipes, with
+/// their signal ignored where the program is started, and not.
 const STOPS: [Stop; 17] = [
-    ("input closed", FRAMES, Output::Pipe, Way::Shell("", "<&-"), NO_INPUT, 0, 0),
-    ("output closed", FRAMES, Output::Pipe, Way::Shell("", ">&-"), NO_OUTPUT, 0, 0),
-    ("both closed", FRAMES, Output::Pipe, Way::Shell("", "<&- >&-"), NO_INPUT, 0, 0),
-    ("error closed", FRAMES, Output::Pipe, Way::Shell("", "2>&-"), "", 0, 0),
-    ("input and error closed", FRAMES, Output::Pipe, Way::Shell("", "<&- 2>&-"), "", 0, 0),
-    ("output and error closed", FRAMES, Output::Pipe, Way::Shell("", ">&- 2>&-"), "", 0, 0),
-    ("a full device", 1, Output::Full, Way::Bare, FULL, 0, 0),
-    ("a full device", 2_000, Output::Full, Way::Bare, FULL, 0, 0),
-    ("a full device", FRAMES, Output::Full, Way::Bare, FULL, 0, 0),
-    ("a full file", 2_000, Output::File, LIMITED, TOO_LARGE, 4_096, 0),
-    ("a full file", FRAMES, Output::File, LIMITED, TOO_LARGE, 4_096, 0),
-    ("a broken pipe, ignored", FRAMES, Output::ClosedAfter(0), UNBROKEN, BROKEN, 0, 0),
-    ("a broken pipe, ignored", FRAMES, Output::ClosedAfter(1), UNBROKEN, BROKEN, 1, 0),
-    ("a broken pipe, ignored", FRAMES, Output::ClosedAfter(100_002), UNBROKEN, BROKEN, 100_002, 0),
-    ("a broken pipe", FRAMES, Output::ClosedAfter(0), Way::Bare, "", 0, SIGPIPE),
-    ("a broken pipe", FRAMES, Output::ClosedAfter(1), Way::Bare, "", 1, SIGPIPE),
-    ("a broken pipe", FRAMES, Output::ClosedAfter(100_002), Way::Bare, "", 100_002, SIGPIPE),
+    ("input closed", FRAMES, Output::Pipe, Way::Shell("", "<&-"), NO_INPUT, 0),
+    ("output closed", FRAMES, Output::Pipe, Way::Shell("", ">&-"), NO_OUTPUT, 0),
+    ("both closed", FRAMES, Output::Pipe, Way::Shell("", "<&- >&-"), NO_INPUT, 0),
+    ("error closed", FRAMES, Output::Pipe, Way::Shell("", "2>&-"), "", 0),
+    ("input and error closed", FRAMES, Output::Pipe, Way::Shell("", "<&- 2>&-"), "", 0),
+    ("output and error closed", FRAMES, Output::Pipe, Way::Shell("", ">&- 2>&-"), "", 0),
+    ("a full device", 1, Output::Full, Way::Bare, FULL, 0),
+    ("a full device", 2_000, Output::Full, Way::Bare, FULL, 0),
+    ("a full device", FRAMES, Output::Full, Way::Bare, FULL, 0),
+    ("a full file", 2_000, Output::File, LIMITED, TOO_LARGE, 4_096),
+    ("a full file", FRAMES, Output::File, LIMITED, TOO_LARGE, 4_096),
+    ("a broken pipe, ignored", FRAMES, Output::ClosedAfter(0), UNBROKEN, BROKEN, 0),
+    ("a broken pipe, ignored", FRAMES, Output::ClosedAfter(1), UNBROKEN, BROKEN, 1),
+    ("a broken pipe, ignored", FRAMES, Output::ClosedAfter(100_002), UNBROKEN, BROKEN, 100_002),
+    ("a broken pipe", FRAMES, Output::ClosedAfter(0), Way::Bare, BROKEN, 0),
+    ("a broken pipe", FRAMES, Output::ClosedAfter(1), Way::Bare, BROKEN, 1),
+    ("a broken pipe", FRAMES, Output::ClosedAfter(100_002), Way::Bare, BROKEN, 100_002),
 ];
 
 /// Bytes before a read fault, without an old `strip.new` and with one.
@@ -67,12 +64,11 @@ fn read_fault(test: &mut Test, before: &Contents, input: Input, bytes: &[u8], fa
 /// Every stop, with the input in this format.
 fn stops(test: &mut Test, format: Format, folders: &[Contents], noise: &[u8]) -> Result<(), Difference> {
     let sound = expected::play(&folders[0], noise, &mut test.met).sound;
-    for (case, frames, output, way, line, heard, signal) in STOPS {
+    for (case, frames, output, way, line, heard) in STOPS {
         let bytes = format.input(&noise[..4 * frames]);
         let sound = [&(format.heading)(4 * frames), &sound[..heard]].concat()[..heard].to_vec();
         for before in folders {
-            let ending = ExitStatus::from_raw(signal);
-            let expected = Seen { sound: sound.clone(), ending, ..Seen::nothing_but(line, before) };
+            let expected = Seen { sound: sound.clone(), ..Seen::nothing_but(line, before) };
             for input in [Input::File(&bytes), Input::Pipe(&bytes)] {
                 test.expect(case, before, Run { output, way, ..format.run(input) }, &expected)?;
             }
