@@ -1,28 +1,12 @@
--- Bytes at the right end of others: as `bytes::copy` leaves them, and as the columns of a field.
-use mathlib.Core.Path.{◌≡◌, sym, ap, ap₂, ◌∙◌}
-use mathlib.Core.List.{List, ◌++◌, append-nil}
+-- Bytes at the right end of others, as the columns of a field.
+use mathlib.Core.Path.{◌≡◌, sym, ap, ◌∙◌}
+use mathlib.Core.List.{List, ◌++◌}
 use Prim.Native.Nat.{ℕ, ◌+◌, ◌-◌, ◌≤◌}
 use native.Mathlib.Omega.{arith}
-use lib.ListN.{length, take, drop, replicate, length-append, length-take, length-drop, length-replicate, replicate-append-replicate, drop_of_length-le}
+use lib.ListN.{length, take, replicate, length-append, length-replicate, replicate-append-replicate}
 use lib.Seq.{take-length, take_at}
 use Rattle.fields.specs.Fields.{field_size, blank, field_at}
 use Rattle.arguments.specs.Meaning.{right_justified}
-
-module _ (text columns copied : List ℕ) (fits : length text ≤ length columns) where
-  abbrev start : ℕ
-  start = length columns - length text
-
-  -- the columns from the start on
-  abbrev part : List ℕ
-  part = take (length columns - start) (drop start columns)
-
-  pub at_right : copied ≡ take (length text) text ++ drop (length text) part → take start columns ++ (copied ++ drop (length columns - start) (drop start columns)) ≡ take start columns ++ text
-  at_right e =
-      ap (λ (l : List ℕ). take start columns ++ l)
-      (ap₂ ◌++◌ e (drop_of_length-le (drop start columns) {i = length columns - start} (omega (arith, length-drop start columns)))
-      ∙ append-nil (take (length text) text ++ drop (length text) part)
-      ∙ ap₂ ◌++◌ (take-length text) (drop_of_length-le part {i = length text} (omega (arith, length-take (length columns - start) (drop start columns))))
-      ∙ append-nil text)
 
 -- a text behind blanks fills the columns of a field
 module _ (text : List ℕ) (fits : length text ≤ field_size) where

@@ -10,7 +10,7 @@ use refusals::Verdict;
 use std::env::FillError;
 use std::io;
 use std::io::Read;
-use std::rt::{Env, HostRuntime};
+use std::rt::Env;
 
 // How many bytes a buffer for sound holds, and a read brings at most.
 pub const BUFFER_SIZE: usize = 65_536;

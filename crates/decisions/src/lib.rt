@@ -1,6 +1,7 @@
 // What the programs decide, on values: play for the bytes of a sheet, for the data of a wave file and at the end of a sound, desk for the numbers
 // that arguments stand for and for a sheet. The programs read, ask here, and write what is answered.
 #![tactic(auto)]
+
 ghost use Rattle.std.specs.Prelude.{◌≡◌};
 ghost use Rattle.order_lists.specs.Lists.{orders_in};
 ghost use Rattle.decisions.specs.Decisions.{opened, ending_of, can_play, wave_verdict, wave_ending_of, is_call, desk_verdict, desk_sheet};

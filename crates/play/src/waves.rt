@@ -1,7 +1,7 @@
 // A pass of a wave file, from standard input to standard output. The chunks ahead of the data are looked for in the front of the file, as many
 // bytes as the buffer has; the rest is played as it comes.
 ghost use Rattle.std.specs.Prelude.{◌≡◌};
-ghost use Rattle.stream.specs.Claim.{begun as begunWith, Ready};
+ghost use Rattle.stream.specs.Claim.{begun as begun_with, Ready};
 ghost use Rattle.wave_reading.specs.Walk.{located};
 ghost use Rattle.wave_writing.specs.Writing.{heading};
 ghost use Rattle.decisions.specs.Decisions.{wave_ending_of};
@@ -9,13 +9,12 @@ ghost use Rattle.play.specs.Waves.{OpenFrontAsks, PlayDataAsks, WaveGives, SaveW
 
 use playing::Progress;
 use refusals::Verdict;
-use std::rt::HostRuntime;
 use unit::Unit;
 use wave_reading::Located;
 
 // Plays the wave file through this unit.
 pub fn pass(rt: &HostRuntime, unit: Unit)
-    requires { Ready (begunWith unit) }
+    requires { Ready (begun_with unit) }
 {
     let mut buffer = [0u8; console::BUFFER_SIZE];
     let mut stdin = rt.stdin();

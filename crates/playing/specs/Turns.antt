@@ -1,4 +1,4 @@
--- What playing does with standard input. No contract can say which bytes a read of the C library brings; so each says that there are bytes
+-- What playing does with standard input. No contract can say which bytes a read of the system brings; so each says that there are bytes
 -- of which it holds. Definitions only.
 use Rattle.std.specs.Prelude.{◌≡◌, true, List, ◌++◌, ℕ, ◌+◌, ◌≤◌, ◌<◌, length, take}
 use Rattle.unit.specs.declared.Unit.{Unit}

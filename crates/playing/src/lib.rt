@@ -4,7 +4,6 @@
 ghost use Rattle.std.specs.Prelude.{take};
 ghost use Rattle.playing.specs.Turns.{IsSound, SoundAsks, SoundGives, TurnAsks, TurnGives, PlayAsks, PlayGives};
 
-use std::rt::HostRuntime;
 use unit::Unit;
 
 // A stream between two reads: the unit, the count of bytes of a frame that is not whole yet, how many may still be read, whether more may come, and whether

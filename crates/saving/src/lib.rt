@@ -9,7 +9,6 @@ ghost use Rattle.saving.specs.Saved.{IsSheet};
 use std::fs::{File, OpenOptions};
 use std::io::{ErrorKind, Write};
 use std::os::fd::AsRawFd;
-use std::rt::HostRuntime;
 use std::{fs, io};
 use unit::Unit;
 

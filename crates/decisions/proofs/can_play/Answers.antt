@@ -1,7 +1,6 @@
 -- `decisions::can_play` meets its contract.
 use mathlib.Core.Path.{ap, ap₂, ◌∙◌}
 use mathlib.Core.Bool.{◌&&◌}
-use borrow.Author.Rules.{rules}
 use Rattle.refusals.specs.Numbers.{is_accepted}
 use Rattle.decisions.proofs.can_play.Goals as goal
 

@@ -2,8 +2,6 @@
 use mathlib.Core.Path.{◌≡◌, sym, ◌∙◌}
 use mathlib.Core.Bool.{true}
 use mathlib.Core.List.{List}
-use borrow.Author.Tests.{not-true, not-false}
-use borrow.Author.Rules.{rules}
 use Rattle.refusals.specs.Numbers.{is_accepted}
 use Rattle.bands.specs.House.{house_set}
 use Rattle.loading.specs.Loading.{loaded}

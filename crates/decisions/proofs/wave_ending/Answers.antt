@@ -1,6 +1,5 @@
 -- `decisions::wave_ending` meets its contract.
 use mathlib.Core.Path.{ap, ◌∙◌}
-use borrow.Author.Rules.{rules}
 use Rattle.refusals.specs.Numbers.{is_accepted}
 use Rattle.decisions.specs.Decisions.{wave_ending_of}
 use Rattle.decisions.proofs.wave_ending.Goals as goal

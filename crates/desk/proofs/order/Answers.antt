@@ -1,8 +1,6 @@
 -- `desk::order` is safe: what is handed out is the sheet after accepted orders.
 use mathlib.Core.Path.{refl, sym, ap, ◌∙◌}
 use lib.ListN.{replicate}
-use borrow.Author.Tests.{not-false}
-use borrow.Author.Rules.{rules}
 use Rattle.refusals.specs.Numbers.{is_accepted}
 use Rattle.sheet.specs.Sheet.{side_letters, sheet_size}
 use Rattle.order_lists.specs.Lists.{orders_in}

@@ -1,7 +1,5 @@
 -- `desk::start` is safe: the test decides.
 use mathlib.Core.Path.{sym, ◌∙◌}
-use borrow.Author.Tests.{not-true, not-false}
-use borrow.Author.Rules.{rules}
 use Rattle.desk.proofs.start.Goals as goal
 
 pub say_usage-requires : goal.say_usage-requires

@@ -1,6 +1,5 @@
 -- `house::begin` is safe: the sheet is made only where nothing else is asked for.
 use mathlib.Core.Path.{sym, ap, ◌∙◌}
-use borrow.Author.Rules.{rules}
 use Rattle.arguments.specs.Meaning.{is_plain}
 use Rattle.house.proofs.begin.Goals as goal
 

@@ -3,7 +3,6 @@ use mathlib.Core.Path.{ap, ◌∙◌}
 use mathlib.Core.List.{List}
 use lib.Dec.{lit≤}
 use lib.IntN.{ℤ}
-use borrow.Author.Rules.{rules}
 use Rattle.bands.specs.House.{house_set}
 use Rattle.unit.specs.declared.Unit.{Unit}
 use Rattle.unit.proofs.Fitness.{test_of_fit}

@@ -1,7 +1,6 @@
 -- `play::begin` is safe: a sheet is opened only where a pass is asked for, and for what is asked for.
 use mathlib.Core.Path.{sym, ap, ap₂, ◌∙◌}
 use mathlib.Core.Bool.{Bool, ◌||◌}
-use borrow.Author.Rules.{rules}
 use Rattle.arguments.specs.Meaning.{request_of, is_plain}
 use Rattle.play.proofs.begin.Goals as goal
 

@@ -1,6 +1,5 @@
 -- `play::finish` is safe: a sheet is saved, and said is, what was decided.
 use mathlib.Core.Path.{sym, ap, ◌∙◌}
-use borrow.Author.Rules.{rules}
 use Rattle.decisions.specs.declared.PassEnd.{PassEnd}
 use Rattle.play.proofs.finish.Goals as goal
 

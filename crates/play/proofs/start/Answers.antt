@@ -1,7 +1,5 @@
 -- `play::start` is safe: what is said is what the sheet is answered, and what is played is the unit that an accepted one carries.
 use mathlib.Core.Path.{sym, ap, ◌∙◌}
-use borrow.Author.Tests.{not-false}
-use borrow.Author.Rules.{rules}
 use Rattle.reading.specs.declared.SheetRead.{SheetRead}
 use Rattle.play.proofs.Sheets.{sheet_reads}
 use Rattle.play.proofs.start.Goals as goal

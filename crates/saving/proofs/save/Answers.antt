@@ -1,6 +1,5 @@
 -- `saving::save` is safe: what is stored, or else shown, is the unit's sheet.
 use lib.Dec.{lit≤}
-use borrow.Author.Rules.{rules}
 use Rattle.sheet.specs.Sheet.{side_letters, sheet_size}
 use Rattle.saving.specs.Saved.{IsSheet}
 use Rattle.saving.proofs.Sheets.{part_sheet}

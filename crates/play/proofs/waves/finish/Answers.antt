@@ -1,6 +1,5 @@
 -- `waves::finish` is safe: a sheet is saved, and said is, what was decided.
 use mathlib.Core.Path.{sym, ap, ◌∙◌}
-use borrow.Author.Rules.{rules}
 use Rattle.wave_reading.specs.declared.Located.{Located}
 use Rattle.decisions.specs.declared.PassEnd.{PassEnd}
 use Rattle.decisions.specs.Decisions.{wave_ending_of}

@@ -1,6 +1,5 @@
 -- `waves::open_front` is safe: the data is played where it can be, and what is said of other files is what was decided.
 use mathlib.Core.Path.{sym, ap, ◌∙◌}
-use borrow.Author.Rules.{rules}
 use Rattle.wave_reading.specs.declared.Located.{Located}
 use Rattle.wave_reading.proofs.Inside.{located-within}
 use Rattle.decisions.specs.Decisions.{wave_verdict, wave_ending_of}

@@ -1,6 +1,5 @@
 -- `waves::play_data` is safe: what the front has of the data is a part of it, and the end of the pass is that of the file's data.
 use mathlib.Core.Path.{ap, ◌∙◌}
-use borrow.Author.Rules.{rules}
 use Rattle.wave_reading.specs.declared.Located.{Located}
 use Rattle.wave_writing.specs.Writing.{heading}
 use Rattle.play.proofs.WaveData.{size_few, ahead_few, ends_within, can_begin, wave_gives}
