@@ -1,6 +1,7 @@
 // The static library: thin functions under C names, for tests, benchmarks and programs in other languages. Each promises what the
 // function that it calls promises. A lent array passes as a pointer to its first number, a slice as a pointer and a length.
 #![tactic(auto)]
+
 ghost use Rattle.std.specs.Prelude.{◌≡◌, length};
 ghost use Rattle.rounding.specs.Rounding.{nearest, limit};
 ghost use Rattle.refusals.specs.Numbers.{number_of};

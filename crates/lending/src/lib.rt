@@ -1,5 +1,6 @@
 // What the functions of the static library share: calls on a unit, or on a section, whose numbers are lent.
 #![tactic(auto)]
+
 ghost use Rattle.std.specs.Prelude.{◌≡◌};
 ghost use Rattle.refusals.specs.Numbers.{number_of};
 ghost use Rattle.section.specs.Step.{stepped};

@@ -1,6 +1,5 @@
 -- `exports::fonddrys_band_refusal` meets its contract, by those of the two functions that it calls.
 use mathlib.Core.Path.{ap, ◌∙◌}
-use borrow.Author.Rules.{rules}
 use Rattle.refusals.specs.Numbers.{number_of}
 use Rattle.bands.specs.Bands.{band_verdict}
 use Rattle.lending.proofs.Laws.{band_reads}

@@ -1,7 +1,6 @@
 -- `exports::fonddrys_level_moved` meets its contract: the moved number lies between the level's two, so that it fits as they do.
 use mathlib.Core.Path.{◌≡◌, sym, ap, ap₂, ◌∙◌, subst}
 use lib.IntN.{ℤ, pos}
-use borrow.Author.Rules.{rules}
 use mir.Syntax.{w32, w64}
 use mir.Val.{SFits, to_z, of_z}
 use mir.Facts.{sfits_widen}

@@ -1,6 +1,5 @@
 -- `exports::fonddrys_limit` meets its contract, by that of the function that it calls.
 use mathlib.Core.Path.{◌∙◌}
-use borrow.Author.Rules.{rules}
 use mir.Facts.{to_z-of_z}
 use Rattle.rounding.specs.Rounding.{limit}
 use Rattle.exports.proofs.fonddrys_limit.Goals as goal

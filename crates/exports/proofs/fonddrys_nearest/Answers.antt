@@ -1,7 +1,6 @@
 -- `exports::fonddrys_nearest` meets its contract, by that of the function that it calls.
 use mathlib.Core.Path.{ap, ◌∙◌}
 use lib.IntN.{ℤ}
-use borrow.Author.Rules.{rules}
 use mir.Facts.{to_z-of_z}
 use Rattle.rounding.specs.Rounding.{nearest}
 use Rattle.exports.proofs.fonddrys_nearest.Goals as goal

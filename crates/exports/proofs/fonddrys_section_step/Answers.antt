@@ -1,6 +1,5 @@
 -- `exports::fonddrys_section_step` meets its contract: it promises what `lending::section_step` promises of x.
 use mathlib.Core.Path.{ap, ◌∙◌}
-use borrow.Author.Rules.{rules}
 use mir.Facts.{to_z-of_z}
 use Rattle.section.specs.declared.Stepped.{Stepped}
 use Rattle.section.specs.Step.{stepped}

@@ -1,6 +1,5 @@
 -- `exports::fonddrys_wave_from` meets its contract.
 use mathlib.Core.Path.{ap}
-use borrow.Author.Rules.{rules}
 use Rattle.wave_reading.specs.declared.Located.{Located}
 use Rattle.exports.proofs.fonddrys_wave_from.Goals as goal
 

@@ -1,6 +1,5 @@
 -- `exports::fonddrys_wave_size` meets its contract.
 use mathlib.Core.Path.{ap}
-use borrow.Author.Rules.{rules}
 use Rattle.wave_reading.specs.declared.Located.{Located}
 use Rattle.exports.proofs.fonddrys_wave_size.Goals as goal
 

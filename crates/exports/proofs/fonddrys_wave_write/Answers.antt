@@ -1,6 +1,5 @@
 -- `exports::fonddrys_wave_write` meets its contract.
 use mathlib.Core.Path.{ap, ◌∙◌}
-use borrow.Author.Rules.{rules}
 use Rattle.refusals.specs.Numbers.{number_of}
 use Rattle.exports.proofs.fonddrys_wave_write.Goals as goal
 

@@ -1,6 +1,5 @@
 -- `lending::answer_of` meets its contract: each number of the answer is read back, and the mark for limiting is 1 or 0.
 use native.Mathlib.Omega.{arith}
-use borrow.Author.Rules.{rules}
 use mir.Syntax.{w32}
 use Rattle.integers.proofs.Machine.{reads_back}
 use Rattle.section.specs.declared.Stepped.{Stepped}

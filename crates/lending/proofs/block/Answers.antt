@@ -1,7 +1,6 @@
 -- `lending::block` meets its contract: the verdict as its number.
 use mathlib.Core.Path.{ap, ◌∙◌}
 use Rattle.refusals.specs.Numbers.{number_of}
-use borrow.Author.Rules.{rules}
 use Rattle.lent_blocks.specs.Play.{PlayGives}
 use Rattle.lending.proofs.block.Goals as goal
 

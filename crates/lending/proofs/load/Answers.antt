@@ -5,7 +5,6 @@ use Rattle.unit.specs.Fit.{Fit}
 use Rattle.loading.specs.declared.Loaded.{Loaded}
 use Rattle.loading.proofs.Laws.{loaded_fit}
 use Rattle.numbers.specs.Layout.{numbers_of}
-use borrow.Author.Rules.{rules}
 use Rattle.lending.proofs.load.Goals as goal
 
 pub numbers_of-requires : goal.numbers_of-requires

@@ -1,7 +1,6 @@
 -- `lending::order` meets its contract: the verdict as its number.
 use mathlib.Core.Path.{ap, ◌∙◌}
 use Rattle.refusals.specs.Numbers.{number_of}
-use borrow.Author.Rules.{rules}
 use Rattle.lending.proofs.order.Goals as goal
 
 pub returns : goal.returns

@@ -1,7 +1,5 @@
 -- `lending::sheet_read` meets its contract: the numbers of an accepted sheet are those of the unit that it carries.
 use mathlib.Core.Path.{sym, ◌∙◌}
-use borrow.Author.Rules.{rules}
-use borrow.Author.Tests.{not-true, not-false}
 use Rattle.lending.proofs.Sheets.{sheet_refused, carried-fits, sheet_stored}
 use Rattle.lending.proofs.sheet_read.Goals as goal
 
