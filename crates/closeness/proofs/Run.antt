@@ -183,18 +183,18 @@ module _ (channels channel : ℕ) (inside : channel < channels) (bands : List Ba
         tied_from (played_on words u (suc k)) (exact_by (suc k)) (omega arith) (limited_more k) (played-next k (played_tied k))
 
     -- the claim holds of them, wherever the samples are read
-    module _ (frames : ℕ) (sampleIn : ℕ → ℤ) (heard : (k : ℕ) → k < frames → sampleIn k ≡ sample_after words u channel cleared_channel (suc k)) where
-      frames_follow : (k : ℕ) → k ≤ frames → Follows bands n limited (tabulate k sampleIn) (tabulate k limits_at) (tabulate k (λ (j : ℕ). exact_by (suc j)))
+    module _ (frames : ℕ) (sample_in : ℕ → ℤ) (heard : (k : ℕ) → k < frames → sample_in k ≡ sample_after words u channel cleared_channel (suc k)) where
+      frames_follow : (k : ℕ) → k ≤ frames → Follows bands n limited (tabulate k sample_in) (tabulate k limits_at) (tabulate k (λ (j : ℕ). exact_by (suc j)))
       frames_follow zero h = tt
       frames_follow (suc k) h =
-          follows_append bands n limited (tabulate k sampleIn) (tabulate k limits_at) (tabulate k (λ (j : ℕ). exact_by (suc j))) (sampleIn k ∷ []) (limits_at k ∷ []) (exact_by (suc k) ∷ [])
+          follows_append bands n limited (tabulate k sample_in) (tabulate k limits_at) (tabulate k (λ (j : ℕ). exact_by (suc j))) (sample_in k ∷ []) (limits_at k ∷ []) (exact_by (suc k) ∷ [])
           (frames_follow k (omega arith))
-          (subst (λ (m : ℕ). FrameFollows bands m (limited_by k || limits_at k) (sampleIn k) (exact_by (suc k))) (ap (λ (m : ℕ). n + m) (sym (tabulate-length k limits_at))) last, tt)
+          (subst (λ (m : ℕ). FrameFollows bands m (limited_by k || limits_at k) (sample_in k) (exact_by (suc k))) (ap (λ (m : ℕ). n + m) (sym (tabulate-length k limits_at))) last, tt)
         where
           after : TiedUnit (suc (n + k)) (limited_by k || limits_at k) (played_on words u (suc k)) (exact_by (suc k))
           after = played-next k (played_tied k)
 
-          last : FrameFollows bands (n + k) (limited_by k || limits_at k) (sampleIn k) (exact_by (suc k))
+          last : FrameFollows bands (n + k) (limited_by k || limits_at k) (sample_in k) (exact_by (suc k))
           last =
               record {
                 scale = after.tied.scale;

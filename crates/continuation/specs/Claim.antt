@@ -8,7 +8,7 @@
 -- every frame.
 --
 -- What it rests on. The calls, the unit that they hand back and the samples are those of calls/specs/Calls.antt; the limiting, the exact
--- reckoning and `Close` are those of demand 3 (closeness/specs/Claim.antt). `filledPart` (writing/specs/Written.antt) and `sheetRead` (reading/specs/Reading.antt) are what the contracts of
+-- reckoning and `Close` are those of demand 3 (closeness/specs/Claim.antt). `filled_part` (writing/specs/Written.antt) and `sheet_read` (reading/specs/Reading.antt) are what the contracts of
 -- `writing::write` and `reading::read` promise, for all inputs. It is stated over the letters of the sides: a unit has a channel for each of them.
 use Rattle.std.specs.Prelude.{◌≡◌, Bool, true, false, List, [], ◌∷◌, ◌++◌, ℕ, suc, ◌≤◌, ◌<◌, ℤ, pos, length, get_or, take}
 use Rattle.lists.specs.Lists.{Each, any_of}

@@ -3,7 +3,7 @@
 
 ghost use Rattle.std.specs.Prelude.{◌≡◌, ◌+◌, ◌≤◌, nat_abs, length, replicate};
 ghost use Rattle.std.proofs.lemmas.List.Edits.{sets};
-ghost use Rattle.fields.specs.Fields.{field_size, last_column, blank, column as columnOf, columns, field};
+ghost use Rattle.fields.specs.Fields.{field_size, last_column, blank, column as column_of, columns, field};
 ghost use Rattle.field_writing.specs.Front.{front_columns};
 
 use fields::{BLANK, LAST_COLUMN, MINUS, ZERO};
@@ -68,7 +68,7 @@ fn magnitude(number: i32) -> u32
 
 // The column of what is left of a number: its last digit; where nothing is left, the minus that is owed, or a blank.
 fn column(left: u32, owed: bool) -> u8
-    ensures { result ≡ columnOf left owed }
+    ensures { result ≡ column_of left owed }
 {
     if left == 0 {
         if owed {

@@ -3,9 +3,9 @@
 --
 -- A written sheet reads back as the same unit, an accepted sheet of 1,200 bytes is written again byte for byte, and "a unit is unfit when no
 -- accepted sheet could carry its numbers". A sheet of 1,128 bytes "reads as the unit that the longer one with remainders 0 reads as". It is stated
--- over the letters of the sides; `sideLetters`, L and R, are those of the unit.
+-- over the letters of the sides; `side_letters`, L and R, are those of the unit.
 --
--- What it rests on. `filledPart` (writing/specs/Written.antt) and `sheetRead` (reading/specs/Reading.antt) are what the contracts of
+-- What it rests on. `filled_part` (writing/specs/Written.antt) and `sheet_read` (reading/specs/Reading.antt) are what the contracts of
 -- `writing::fill`, `writing::write` and `reading::read` promise, for all inputs. Both are made of one form, the unit's, which gives the text, the
 -- verdict and the unit (sheet/specs/Sheet.antt). Under it stand: each kind of line (sheet/specs/Lines.antt), a line, and how forms are put
 -- together (forms/specs/Line.antt, Form.antt), a field (fields/specs/Fields.antt), shape and fitness (unit/specs/Shaped.antt, Fit.antt) and the

@@ -1,7 +1,7 @@
 -- That a stream, cut anywhere, is played as one block: docs/SPECIFICATION.md, The unit, loading and blocks. Definitions only; `CutAnywhere`,
 -- at the end, is proved in proofs/Holds.antt.
 --
--- What it rests on. `advanced` and `advancedOutput` (specs/Advance.antt) are what the contract of `stream::advance` promises, for all inputs. Under them stand frames (frames/specs/Played.antt), a block of them (blocks/specs/Block.antt) and fitness (unit/specs/Fit.antt).
+-- What it rests on. `advanced` and `advanced_output` (specs/Advance.antt) are what the contract of `stream::advance` promises, for all inputs. Under them stand frames (frames/specs/Played.antt), a block of them (blocks/specs/Block.antt) and fitness (unit/specs/Fit.antt).
 use Rattle.std.specs.Prelude.{◌≡◌, List, [], ◌∷◌, ◌++◌, ℕ, ◌≤◌, length, take, drop}
 use Rattle.refusals.specs.declared.Verdict.TheVariants.{Accepted}
 use Rattle.unit.specs.declared.Unit.{Unit}

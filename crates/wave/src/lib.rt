@@ -2,7 +2,7 @@
 #![tactic(auto)]
 
 ghost use Rattle.std.specs.Prelude.{◌≡◌, ◌+◌, ◌≤◌, ◌<◌, length};
-ghost use Rattle.wave.specs.Chunks.{four_at, two_at, four as fourOf, two as twoOf, number_end, byte_of};
+ghost use Rattle.wave.specs.Chunks.{four_at, two_at, four as four_of, two as two_of, number_end, byte_of};
 
 // The bytes ahead of the chunks, and of a chunk ahead of its body. A chunk's size stands behind its name.
 pub const FILE_HEADING: usize = 12;
@@ -53,14 +53,14 @@ pub fn two_at(file: &[u8], at: usize) -> usize
 
 // The number of four bytes.
 fn four(a: u8, b: u8, c: u8, d: u8) -> usize
-    ensures { (result ≡ fourOf a b c d) × (result < number_end) }
+    ensures { (result ≡ four_of a b c d) × (result < number_end) }
 {
     a as usize + 256 * (b as usize) + 65536 * (c as usize) + 16777216 * (d as usize)
 }
 
 // The number of two bytes.
 fn two(a: u8, b: u8) -> usize
-    ensures { result ≡ twoOf a b }
+    ensures { result ≡ two_of a b }
 {
     a as usize + 256 * (b as usize)
 }

@@ -3,7 +3,7 @@
 
 ghost use Rattle.std.specs.Prelude.{◌≡◌, false, ◌||◌, ◌+◌, ◌-◌, ◌≤◌, length};
 ghost use Rattle.wave.specs.Chunks.{chunk_heading, file_heading, format_size};
-ghost use Rattle.wave_reading.specs.Walk.{has_heading, says_format, format_fits, misfits, data_from, chunks, refused as refusedBy, located};
+ghost use Rattle.wave_reading.specs.Walk.{has_heading, says_format, format_fits, misfits, data_from, chunks, refused as refused_by, located};
 ghost use Rattle.wave_reading.specs.Reading.{data_verdict, found, data_of, data_place};
 
 use refusals::Verdict;
@@ -190,7 +190,7 @@ fn either(a: bool, b: bool) -> bool
 
 // A refusal, with no data.
 fn refused(verdict: Verdict) -> Located
-    ensures { result ≡ refusedBy verdict }
+    ensures { result ≡ refused_by verdict }
 {
     Located {
         verdict,

@@ -96,9 +96,9 @@ reads_as : (b d rest : List ℕ) → b ≡ heading (length d) ++ (d ++ rest) →
 unfolding before
 reads_as b d rest e k = subst (λ (l : List ℕ). ReadsAs l d) (sym e) (reads d rest k.0 k.1)
 
-pub wave-round_trip : WaveRoundTrip
+pub wave_round_trip : WaveRoundTrip
 unfolding wave_of
-wave-round_trip =
+wave_round_trip =
     record {
       reads_back = λ d out e. reads_as (written d out) d (drop (44 + length d) out) (written_is d out e) (write_fits (length d) (length out) e);
       file_reads_back = λ d e. reads_as (wave_of d) d [] (ap (λ (l : List ℕ). heading (length d) ++ l) (sym (append-nil d))) (size_fits (length d) e);

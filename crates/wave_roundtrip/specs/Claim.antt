@@ -3,7 +3,7 @@
 --
 -- "Writing and then reading gives the frames", whatever stands behind the file in the buffer.
 --
--- What it rests on. `written` and `writeVerdict` (wave_writing/specs/Writing.antt) are what the contract of `wave_writing::write` promises, `found`
+-- What it rests on. `written` and `write_verdict` (wave_writing/specs/Writing.antt) are what the contract of `wave_writing::write` promises, `found`
 -- and `data_of` (wave_reading/specs/Reading.antt) what those of `wave_reading::find` and `wave_reading::data` promise, for all inputs. Under
 -- them stand: the walk over the chunks (wave_reading/specs/Walk.antt), numbers in bytes, names and sizes (wave/specs/Chunks.antt) and the
 -- refusals' numbers (refusals/specs/Numbers.antt).
