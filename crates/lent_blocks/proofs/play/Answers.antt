@@ -15,24 +15,21 @@ use Rattle.blocks.specs.Block.{block_verdict, block_played}
 use Rattle.blocks.proofs.Block.{block_accepted, refused-output}
 use Rattle.blocks.proofs.Append.{accepted_unit, accepted_output}
 use Rattle.numbers.specs.Layout.{numbers_of, unit_of}
-use Rattle.lent_blocks.proofs.play.Goals.{After-accepted, After-run, Start}
+use Rattle.lent_blocks.proofs.play.Goals.{After-accepted, After-run}
 use Rattle.lent_blocks.proofs.play.Goals as goal
 
 module _ (c : After-accepted) where
-  abbrev s : Start
-  s = c.before.before.before.before.before
-
   abbrev l : List ℤ
-  l = s.args.numbers.now
+  l = c.args.numbers.now
 
   abbrev u : Unit
   u = unit_of l
 
   abbrev input : List ℕ
-  input = s.args.input.now
+  input = c.args.input.now
 
   abbrev room : List ℕ
-  room = s.args.output.now
+  room = c.args.output.now
 
   abbrev verdict : Verdict
   verdict = block_verdict channel_count u (length input) (length room)
