@@ -1,5 +1,5 @@
 -- What a refused block leaves, and what an accepted one has shown.
-use mathlib.Core.Path.{◌≡◌, refl}
+use mathlib.Core.Path.{◌≡◌}
 use mathlib.Core.Bool.{true, false}
 use mathlib.Core.List.{List}
 use Prim.Native.Nat.{ℕ, ◌*◌, ◌/◌, ◌%◌, ◌≤◌}
@@ -7,8 +7,9 @@ use native.Mathlib.Nat.{div-add-mod'}
 use lib.Dec.{eqb, leb}
 use lib.ListN.{length}
 use borrow.Author.Tests.{eqb-true, leb-true, eq-eqb, le-leb}
-use Rattle.refusals.specs.Numbers.{unless, is_accepted}
-use Rattle.refusals.specs.declared.Verdict.TheVariants.{Accepted, InputLength, OutputShort, Unfit}
+use Rattle.std.specs.Prelude.{Err}
+use Rattle.refusals.specs.Numbers.{unless, is_accepted, Accepted}
+use Rattle.refusals.specs.declared.Refusal.TheVariants.{InputLength, OutputShort, Unfit}
 use Rattle.refusals.proofs.Laws.{unless_accepted}
 use native.Mathlib.Omega.{arith}
 use Rattle.unit.specs.declared.Unit.{Unit}
@@ -20,7 +21,7 @@ use Rattle.blocks.specs.Block.{block_arguments, block_verdict, block_played, blo
 -- ---- what is refused, and what a refusal leaves
 
 -- "Orders and blocks test the unit ahead of all else: an unfit one is 14"
-pub unfit_first : (channels : ℕ) (u : Unit) (given room : ℕ) → unit_fits u ≡ false → block_verdict channels u given room ≡ Unfit
+pub unfit_first : (channels : ℕ) (u : Unit) (given room : ℕ) → unit_fits u ≡ false → block_verdict channels u given room ≡ Err Unfit
 unfolding block_verdict
 unfit_first channels u given room e = simp e
 
@@ -61,13 +62,13 @@ block_accepted channels u given room e =
     }
   where
     first : (unit_fits u ≡ true) × (is_accepted (unless (eqb (given % frame_size channels) 0) InputLength (unless (leb given room) OutputShort Accepted)) ≡ true)
-    first = unless_accepted (unit_fits u) Unfit _ (λ f. refl) e
+    first = unless_accepted (unit_fits u) Unfit _ e
 
     second : (eqb (given % frame_size channels) 0 ≡ true) × (is_accepted (unless (leb given room) OutputShort Accepted) ≡ true)
-    second = unless_accepted (eqb (given % frame_size channels) 0) InputLength _ (λ f. refl) first.1
+    second = unless_accepted (eqb (given % frame_size channels) 0) InputLength _ first.1
 
     third : (leb given room ≡ true) × (is_accepted Accepted ≡ true)
-    third = unless_accepted (leb given room) OutputShort Accepted (λ f. refl) second.1
+    third = unless_accepted (leb given room) OutputShort Accepted second.1
 
 -- four bytes a frame, and none left over
 pub four_a_frame : (given : ℕ) → given % 4 ≡ 0 → 4 * (given / 4) ≡ given

@@ -1,13 +1,12 @@
 -- Playing a block of frames, for any number of channels. Definitions only, by docs/SPECIFICATION.md, The unit, loading and blocks.
 use Rattle.std.specs.Prelude.{cond, List, ◌++◌, ℕ, ◌%◌, eqb, leb, length, drop}
-use Rattle.refusals.specs.Numbers.{unless, is_accepted}
-use Rattle.refusals.specs.declared.Verdict.{Verdict}
-use Rattle.refusals.specs.declared.Verdict.TheVariants.{Accepted, InputLength, OutputShort, Unfit}
+use Rattle.refusals.specs.Numbers.{unless, is_accepted, Verdict, Accepted}
+use Rattle.refusals.specs.declared.Refusal.TheVariants.{InputLength, OutputShort, Unfit}
 use Rattle.unit.specs.declared.Unit.{Unit}
+use Rattle.unit.specs.Answered.{Answered}
 use Rattle.unit.specs.Fit.{unit_fits}
 use Rattle.frames.specs.Bytes.{frame_size, frame_count}
 use Rattle.frames.specs.Played.{played, sound}
-use Rattle.blocks.specs.declared.Played.{Played}
 
 -- "5 input bytes no multiple of four; 6 output shorter than input": what a block is refused for, whatever the unit
 abbrev pub block_arguments : ℕ → ℕ → ℕ → Verdict
@@ -20,7 +19,7 @@ block_verdict channels u given room = unless (unit_fits u) Unfit (block_argument
 
 module _ (channels : ℕ) (u : Unit) (input : List ℕ) where
   -- the answer: accepted, the unit after all frames; refused, "unit and output unchanged"
-  unfoldable pub block_played : ℕ → Played
+  unfoldable pub block_played : ℕ → Answered
   block_played room =
       record {
         verdict = block_verdict channels u (length input) room;

@@ -1,16 +1,9 @@
 -- An accepted block. Definitions only.
 use Rattle.std.specs.Prelude.{◌≡◌, List, ◌++◌, ℕ, length, drop}
-use Rattle.bands.specs.declared.Band.{Band}
-use Rattle.levels.specs.declared.Level.{Level}
-use Rattle.unit.specs.declared.Channel.{Channel}
 use Rattle.unit.specs.declared.Unit.{Unit}
 use Rattle.unit.specs.Sizes.{channel_count}
 use Rattle.frames.specs.Bytes.{frame_count}
 use Rattle.frames.specs.Played.{played, sound}
-
--- a unit by its parts
-abbrev pub unit_of_parts : Level → List Band → List Channel → Unit
-unit_of_parts volume bands channels = record { volume = volume; bands = bands; channels = channels }
 
 -- the unit after all frames, and the output
 pub record RunGives (u : Unit) (input room : List ℕ) (after : Unit) (filled : List ℕ) : Type 0 where

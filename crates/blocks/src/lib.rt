@@ -4,50 +4,35 @@
 
 ghost use Rattle.std.specs.Prelude.{◌≡◌, true, length};
 ghost use Rattle.refusals.specs.Numbers.{is_accepted};
+ghost use Rattle.unit.specs.Answered.{answered};
 ghost use Rattle.unit.specs.Sizes.{channel_count};
 ghost use Rattle.blocks.specs.Block.{block_arguments, block_verdict, block_played, block_output};
-ghost use Rattle.blocks.specs.Run.{unit_of_parts, RunGives};
+ghost use Rattle.blocks.specs.Run.{RunGives};
 
-use bands::Band;
-use levels::Level;
-use refusals::Verdict;
-use unit::{Channel, Unit};
+use refusals::{Refusal, Verdict};
+use unit::Unit;
 
 // Left and right are one pair.
 pub const PAIR_COUNT: usize = unit::CHANNEL_COUNT / engine::SIDE_COUNT;
 
-// What a block answers, and the unit after it.
-#[derive(Clone, Copy)]
-pub struct Played {
-    pub verdict: Verdict,
-    pub unit: Unit,
-}
-
 // Plays a block of frames: 14 for an unfit unit ahead of all, then 5 and 6. Refused, unit and output are unchanged. Accepted, the
 // output begins with the frames, and the bytes beyond them keep their contents.
-pub fn play(unit: Unit, input: &[u8], output: &mut [u8]) -> Played
-    ensures { (result ≡ block_played channel_count unit input.now (length output.old)) × (output.new ≡ block_output channel_count unit input.now output.old) }
+#[tactic(auto, unfolding(crate::specs::Block::block_played, crate::specs::Block::block_output))]
+pub fn play(unit: &mut Unit, input: &[u8], output: &mut [u8]) -> Result<(), Refusal>
+    ensures { (answered result unit.new ≡ block_played channel_count unit.old input.now (length output.old)) × (output.new ≡ block_output channel_count unit.old input.now output.old) }
 {
-    let verdict = check_block(unit, input.len(), output.len());
-    if refusals::accepted(verdict) {
-        let volume = unit.volume;
-        let bands = unit.bands;
-        let channels = unit.channels;
-        let after = run(volume, bands, channels, input, output);
-        return Played {
-            verdict,
-            unit: after,
-        };
-    }
-    Played { verdict, unit }
+    check_block(*unit, input.len(), output.len())?;
+    run(unit, input, output);
+    Ok(())
 }
 
 // Accepted, or the first refusal that applies: an unfit unit, then those of the lengths.
+#[tactic(auto, unfolding(crate::specs::Block::block_verdict))]
 fn check_block(unit: Unit, given: usize, room: usize) -> Verdict
     ensures { result ≡ block_verdict channel_count unit given room }
 {
     if !fitness::is_fit(unit) {
-        return Verdict::Unfit;
+        return Err(Refusal::Unfit);
     }
     check_lengths(given, room)
 }
@@ -57,45 +42,24 @@ pub fn check_lengths(given: usize, room: usize) -> Verdict
     ensures { result ≡ block_arguments channel_count given room }
 {
     if given % frames::FRAME_SIZE != 0 {
-        return Verdict::InputLength;
+        return Err(Refusal::InputLength);
     }
     if room < given {
-        return Verdict::OutputShort;
+        return Err(Refusal::OutputShort);
     }
-    Verdict::Accepted
+    Ok(())
 }
 
-// An accepted block: the unit's bands, channels and volume are held as floats for its length.
-fn run(
-    volume: Level,
-    bands: [Band; bands::BAND_COUNT],
-    channels: [Channel; unit::CHANNEL_COUNT],
-    input: &[u8],
-    output: &mut [u8],
-) -> Unit
-    requires { is_accepted (block_verdict channel_count (unit_of_parts volume bands channels) (length input.now) (length output.old)) ≡ true }
-    ensures { RunGives (unit_of_parts volume bands channels) input.now output.old result output.new }
+// An accepted block: the unit is held as floats for its length.
+fn run(unit: &mut Unit, input: &[u8], output: &mut [u8])
+    requires { is_accepted (block_verdict channel_count unit.old (length input.now) (length output.old)) ≡ true }
+    ensures { RunGives unit.old input.now output.old unit.new output.new }
 {
     let count = input.len() / frames::FRAME_SIZE;
-    let floats = packing::band_floats(bands);
-    let first = channels[0];
-    let second = channels[1];
-    let mut pair = packing::pair_floats(first, second);
-    let level = frames::frames(
-        &floats,
-        &mut pair,
-        PAIR_COUNT,
-        packing::level_floats(volume),
-        count,
-        input,
-        output,
-    );
-    let volume_after = packing::level_of(level);
-    let first_after = packing::channel_of(&pair, 0);
-    let second_after = packing::channel_of(&pair, 1);
-    Unit {
-        volume: volume_after,
-        bands,
-        channels: [first_after, second_after],
-    }
+    let bands = packing::band_floats(unit.bands);
+    let mut pair = packing::pair_floats(unit.channels[0], unit.channels[1]);
+    let volume = packing::level_floats(unit.volume);
+    let level = frames::frames(&bands, &mut pair, PAIR_COUNT, volume, count, input, output);
+    unit.volume = packing::level_of(level);
+    unit.channels = [packing::channel_of(&pair, 0), packing::channel_of(&pair, 1)];
 }

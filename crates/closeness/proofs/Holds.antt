@@ -14,7 +14,7 @@ use Rattle.unit.specs.declared.Channel.{Channel}
 use Rattle.unit.specs.Cleared.{cleared_level, cleared_band_section, cleared_channel, bands_of}
 use Rattle.unit.specs.Frame.{feeds_back}
 use Rattle.loading.specs.Loading.{set_verdict}
-use Rattle.loading.specs.declared.Loaded.{Loaded}
+use Rattle.unit.specs.Answered.{Answered}
 use Rattle.loading.proofs.Laws.{loaded_accepted}
 use Rattle.calls.specs.Calls.{Call, starting_unit}
 use Rattle.calls.proofs.Kept.{Kept, begun_kept, list_kept}
@@ -91,6 +91,6 @@ pub demand3 : Demand3
 demand3 =
     record {
       close = λ channels channel set calls inside accepted i h. (at_frame channels channel inside set accepted calls i h).close;
-      begins = λ set accepted. ap (λ (l : Loaded). l.unit) (loaded_accepted set accepted);
+      begins = λ set accepted. ap (λ (l : Answered). l.unit) (loaded_accepted set accepted);
       agreeing = λ channels channel set calls inside accepted. agreeing channels channel inside set accepted calls;
     }

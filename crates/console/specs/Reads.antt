@@ -1,17 +1,24 @@
--- A read. No contract can say which bytes a read of the system brings; so it is said that there are bytes of which it holds. Definitions only.
-use Rattle.std.specs.Prelude.{◌≡◌, true, List, ◌++◌, ℕ, ◌≤◌, ◌<◌, length, take}
-use Rattle.console.specs.declared.Received.{Received}
+-- A read. Where the bytes that an input has left are known, those that come are the first of them; of an input of the system none are, so it is
+-- said that there are bytes of which it holds. Definitions only.
+use Rattle.std.specs.Prelude.{◌≡◌, List, ◌++◌, ℕ, ◌+◌, ◌≤◌, length, take, Option, Some, None}
+use Rattle.std.specs.Io.KnownBytes.{Consumes}
 
--- so many bytes stand at the front of these
-abbrev pub IsPrefixLen : ℕ → List ℕ → Type 0
-IsPrefixLen n bytes = (n ≤ length bytes) × (n ≡ length (take n bytes))
+-- so many of these stand at their front
+abbrev pub IsPrefixLen : {A : Type 0} → ℕ → List A → Type 0
+IsPrefixLen n items = (n ≤ length items) × (n ≡ length (take n items))
 
--- a read puts bytes, so many at most, behind those that are held at the front of the buffer, and leaves those as they are
-pub record ReceiveGives (held most : ℕ) (buffer : List ℕ) (r : Received) (buffer' : List ℕ) : Type 0 where
+-- how many bytes came; none where the read failed
+abbrev pub count_in : Option ℕ → ℕ
+count_in (Some more) = more
+count_in None = 0
+
+-- a read takes bytes from those that the input has left, so many at most, puts them behind those that are held at the front of the buffer, and leaves
+-- those as they are
+pub record ReceiveGives (left : Option (List ℕ)) (held most : ℕ) (buffer : List ℕ) (came : Option ℕ) (left' : Option (List ℕ)) (buffer' : List ℕ) : Type 0 where
   pub bytes : List ℕ
-  pub front_is : take r.count buffer' ≡ take held buffer ++ bytes
+  pub front_is : take (held + count_in came) buffer' ≡ take held buffer ++ bytes
+  pub count_is : length bytes ≡ count_in came
   pub few : length bytes ≤ most
-  pub count_fits : r.count ≤ length buffer'
+  pub count_fits : held + count_in came ≤ length buffer'
   pub length_is : length buffer' ≡ length buffer
-  -- where more may come, a byte has come, if one was asked for and there was room for it
-  pub comes : r.is_open ≡ true → 0 < most → held < length buffer → held < r.count
+  pub taken : Consumes left left' bytes

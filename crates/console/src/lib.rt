@@ -1,8 +1,8 @@
 // What the programs share: their arguments, what they tell of themselves, a refusal's line, and reading and writing that says what failed.
 #![tactic(auto)]
 
-ghost use Rattle.std.specs.Prelude.{◌≡◌, ◌≤◌, min, length};
-ghost use Rattle.console.specs.Answers.{SayAsks};
+ghost use Rattle.std.specs.Prelude.{◌≡◌, ◌≤◌, length, IfSome};
+ghost use Rattle.console.specs.Answers.{SayAsks, line_of};
 ghost use Rattle.console.specs.Reads.{IsPrefixLen, ReceiveGives};
 
 use arguments::Request;
@@ -17,14 +17,6 @@ pub const BUFFER_SIZE: usize = 65_536;
 
 // The name of standard input in a message.
 pub const INPUT_NAME: &str = "standard input";
-
-// What reading leaves: the count of bytes at the front of the buffer, whether more may come, and whether a read failed.
-#[derive(Clone, Copy)]
-pub struct Received {
-    pub count: usize,
-    pub is_open: bool,
-    pub is_failed: bool,
-}
 
 // How many arguments there are, the name of the program among them.
 pub fn argument_count(rt: &HostRuntime) -> usize {
@@ -41,10 +33,7 @@ pub fn argument_count(rt: &HostRuntime) -> usize {
 pub fn argument(rt: &HostRuntime, place: usize, text: &mut [u8]) -> usize
     ensures { IsPrefixLen result text.new }
 {
-    match rt.arg(place, text) {
-        Ok(size) => size,
-        Err(_) => 0,
-    }
+    rt.arg(place, text).unwrap_or(0)
 }
 
 // What a program tells of itself: its help or its version on standard output where that is asked for, and how it is used on standard error where
@@ -72,30 +61,16 @@ pub fn say_usage(rt: &HostRuntime, usage: &str) {
 
 // A refusal's number, in one line on standard error; of an accepted call nothing is said.
 pub fn answer(rt: &HostRuntime, verdict: Verdict) {
-    if refusals::accepted(verdict) {
-        return;
+    if verdict.is_err() {
+        say(rt, verdict, refusals::number(verdict));
     }
-    let number = refusals::number(verdict) as u8;
-    if number < 10 {
-        say(rt, verdict, &[fields::ZERO + number, sheet::LINE_FEED]);
-        return;
-    }
-    say(
-        rt,
-        verdict,
-        &[
-            fields::ZERO + number / 10,
-            fields::ZERO + number % 10,
-            sheet::LINE_FEED,
-        ],
-    );
 }
 
-// Writes the line of a refusal. Where that fails there is nowhere left to say so.
-fn say(rt: &HostRuntime, verdict: Verdict, line: &[u8])
-    requires { SayAsks verdict line.now }
+// Says a refusal's number, in a line. Where that fails there is nowhere left to say so.
+fn say(rt: &HostRuntime, verdict: Verdict, number: u32)
+    requires { SayAsks verdict (line_of number) }
 {
-    write_error(rt, line);
+    let _ = eprintln!(rt; "{number}");
 }
 
 // Writes bytes to standard error. Where that fails there is nowhere left to say so.
@@ -122,8 +97,8 @@ fn reason(text: &str) -> &str {
     }
 }
 
-// Reads once, so many bytes at most, behind the bytes that are held at the front of the buffer. Where that fails a message says so, by the name
-// of what is read.
+// Reads once, so many bytes at most, behind the bytes that are held at the front of the buffer, and gives how many came: none where the input has
+// ended. Where the read fails a message says so, by the name of what is read.
 pub fn receive<R: Read>(
     rt: &HostRuntime,
     input: &mut R,
@@ -131,59 +106,38 @@ pub fn receive<R: Read>(
     buffer: &mut [u8],
     held: usize,
     most: usize,
-) -> Received
+) -> Option<usize>
     requires { held ≤ length buffer.old }
-    ensures { ReceiveGives held most buffer.old result buffer.new }
+    ensures { ReceiveGives (R.remaining input.old) held most buffer.old result (R.remaining input.new) buffer.new }
 {
-    let end = held + least(most, buffer.len() - held);
+    let end = held + most.min(buffer.len() - held);
     let room = &mut buffer[held..end];
     match input.read(room) {
-        Ok(more) => Received {
-            count: held + more,
-            is_open: more > 0,
-            is_failed: false,
-        },
+        Ok(more) => Some(more),
         Err(error) => {
             fail(rt, name, &error);
-            Received {
-                count: held,
-                is_open: false,
-                is_failed: true,
-            }
+            None
         }
     }
 }
 
-// The smaller of two numbers.
-fn least(a: usize, b: usize) -> usize
-    ensures { result ≡ min a b }
-{
-    if a < b {
-        return a;
-    }
-    b
-}
-
-// Reads until the buffer is full, the input ends or a read fails. Each read brings a byte at least, so that there are enough of them.
+// Reads until the buffer is full or the input ends, and gives how many bytes came; none where a read fails.
 pub fn receive_all<R: Read>(
     rt: &HostRuntime,
     input: &mut R,
     name: &str,
     buffer: &mut [u8],
-) -> Received
-    ensures { IsPrefixLen result.count buffer.new }
+) -> Option<usize>
+    ensures { IfSome result (λ count. IsPrefixLen count buffer.new) }
 {
-    let mut received = Received {
-        count: 0,
-        is_open: true,
-        is_failed: false,
-    };
-    let mut reads = buffer.len();
-    while reads > 0 && received.is_open {
-        received = receive(rt, input, name, buffer, received.count, usize::MAX);
-        reads -= 1;
+    let mut count = 0;
+    while count < buffer.len() {
+        match receive(rt, input, name, buffer, count, usize::MAX)? {
+            0 => break,
+            more => count += more,
+        }
     }
-    received
+    Some(count)
 }
 
 // Reads so many bytes and drops them, until the input ends or a read fails, and gives how many are missing then.
@@ -193,10 +147,9 @@ pub fn skip<R: Read>(rt: &HostRuntime, input: &mut R, name: &str, most: usize) -
     let mut buffer = [0u8; BUFFER_SIZE];
     let mut left = most;
     while left > 0 {
-        let received = receive(rt, input, name, &mut buffer, 0, left);
-        left -= received.count;
-        if !received.is_open {
-            break;
+        match receive(rt, input, name, &mut buffer, 0, left) {
+            None | Some(0) => break,
+            Some(more) => left -= more,
         }
     }
     left

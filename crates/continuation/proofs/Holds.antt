@@ -6,13 +6,12 @@ use Prim.Native.Nat.{ℕ, suc, ◌<◌}
 use lib.IntN.{ℤ, pos}
 use lib.ListN.{length, get_or, take}
 use Rattle.lists.specs.Lists.{Each, any_of}
-use Rattle.refusals.specs.Numbers.{is_accepted}
-use Rattle.refusals.specs.declared.Verdict.TheVariants.{Accepted}
+use Rattle.refusals.specs.Numbers.{is_accepted, Accepted}
 use Rattle.unit.specs.declared.Unit.{Unit}
 use Rattle.unit.specs.Cleared.{bands_of}
 use Rattle.unit.proofs.Fitness.{test_of_fit}
 use Rattle.loading.specs.Loading.{set_verdict}
-use Rattle.reading.specs.declared.SheetRead.{SheetRead}
+use Rattle.unit.specs.Answered.{Answered}
 use Rattle.roundtrip.proofs.Holds.{round_trip}
 use Rattle.calls.specs.Calls.{starting_unit, handed_back, samples}
 use Rattle.calls.proofs.Kept.{Kept, begun_kept, list_kept}
@@ -36,14 +35,14 @@ module _ (letters : List ℕ) where
 
     -- so that what goes on with the unit that was read goes on with that one
     goes_on : {A : Type 0} (f : Unit → A) → f (answer_at_cut letters u stretch).unit ≡ f (unit_at_cut letters u stretch)
-    goes_on f = ap (λ (answer : SheetRead). f answer.unit) sheet_carries
+    goes_on f = ap (λ (answer : Answered). f answer.unit) sheet_carries
 
   -- ---- all cuts
 
   all_accepted : (u : Unit) (stretches : List Stretch) → Kept (length letters) u → Each (HasRoom letters) stretches → Each SheetAccepted (answers letters u stretches)
   all_accepted u [] kept rooms = tt
   all_accepted u (stretch ∷ stretches) kept rooms = (
-    ap (λ (answer : SheetRead). answer.verdict) (sheet_carries u stretch kept rooms.0),
+    ap (λ (answer : Answered). answer.verdict) (sheet_carries u stretch kept rooms.0),
     subst (Each SheetAccepted) (sym (goes_on u stretch kept rooms.0 (λ (v : Unit). answers letters v stretches)))
         (all_accepted (unit_at_cut letters u stretch) stretches (cut_kept u stretch kept rooms.0) rooms.1),
   )

@@ -12,14 +12,13 @@
 -- `writing::write` and `reading::read` promise, for all inputs. It is stated over the letters of the sides: a unit has a channel for each of them.
 use Rattle.std.specs.Prelude.{◌≡◌, Bool, true, false, List, [], ◌∷◌, ◌++◌, ℕ, suc, ◌≤◌, ◌<◌, ℤ, pos, length, get_or, take}
 use Rattle.lists.specs.Lists.{Each, any_of}
-use Rattle.refusals.specs.Numbers.{is_accepted}
-use Rattle.refusals.specs.declared.Verdict.TheVariants.{Accepted}
+use Rattle.refusals.specs.Numbers.{is_accepted, Accepted}
 use Rattle.unit.specs.declared.Unit.{Unit}
 use Rattle.unit.specs.Cleared.{bands_of}
 use Rattle.loading.specs.Loading.{set_verdict}
 use Rattle.sheet.specs.Sheet.{sheet_size}
 use Rattle.writing.specs.Written.{filled_part}
-use Rattle.reading.specs.declared.SheetRead.{SheetRead}
+use Rattle.unit.specs.Answered.{Answered}
 use Rattle.reading.specs.Reading.{sheet_read}
 use Rattle.calls.specs.Calls.{Call, starting_unit, handed_back, samples}
 use Rattle.closeness.specs.Claim.{limits, silent, Close, all_samples, all_limits, all_exacts}
@@ -39,7 +38,7 @@ uncut [] = []
 uncut (stretch ∷ stretches) = stretch.calls ++ uncut stretches
 
 -- the sheet is accepted
-abbrev pub SheetAccepted : SheetRead → Type 0
+abbrev pub SheetAccepted : Answered → Type 0
 SheetAccepted answer = answer.verdict ≡ Accepted
 
 module _ (letters : List ℕ) where
@@ -54,11 +53,11 @@ module _ (letters : List ℕ) where
   unit_at_cut u stretch = handed_back (length letters) u stretch.calls
 
   -- what the reader answers at the cut behind a stretch
-  abbrev pub answer_at_cut : Unit → Stretch → SheetRead
+  abbrev pub answer_at_cut : Unit → Stretch → Answered
   answer_at_cut u stretch = sheet_read letters (filled_part letters (unit_at_cut u stretch) stretch.room) stretch.given
 
   -- the answers at all cuts
-  abbrev pub answers : Unit → List Stretch → List SheetRead
+  abbrev pub answers : Unit → List Stretch → List Answered
   answers u [] = []
   answers u (stretch ∷ stretches) = answer_at_cut u stretch ∷ answers (answer_at_cut u stretch).unit stretches
 

@@ -1,60 +1,85 @@
 -- Orders to a sheet: what the routines called answer is what the definitions say.
-use mathlib.Core.Path.{◌≡◌, sym, ap, ap₂, ◌∙◌}
+use mathlib.Core.Path.{◌≡◌, refl, sym, ap, ap₂, ◌∙◌}
 use mathlib.Core.Bool.{Bool, true, false, cond, ◌&&◌}
 use mathlib.Core.List.{List, ◌++◌, append-nil}
 use Prim.Native.Nat.{ℕ}
 use native.Mathlib.Omega.{arith}
 use lib.ListN.{length, drop, drop_of_length-le}
 use borrow.Author.Tests.{le-leb}
-use Rattle.refusals.specs.Numbers.{is_accepted}
-use Rattle.refusals.proofs.Laws.{passed, failed, first_accepted, first_refused, first_both}
+use Rattle.std.specs.Prelude.{Ok, Err}
+use Rattle.refusals.specs.Numbers.{is_accepted, first_of, Verdict}
+use Rattle.refusals.specs.declared.Refusal.{Refusal}
+use Rattle.refusals.proofs.Laws.{passed, failed, first_accepted, first_both}
+use Rattle.bands.specs.House.{house_set}
 use Rattle.unit.specs.declared.Unit.{Unit}
 use Rattle.unit.specs.Fit.{unit_fits}
 use Rattle.unit.proofs.Fitness.{fit_of_test, test_of_fit}
-use Rattle.orders.specs.declared.Ordered.{Ordered}
+use Rattle.unit.specs.Answered.{Answered, answered}
+use Rattle.loading.specs.Loading.{cleared_with}
 use Rattle.sheet.specs.Sheet.{side_letters, sheet_size, sheet_verdict, carried_unit, sheet_of}
 use Rattle.writing.specs.Written.{writes, filled}
-use Rattle.reading.specs.declared.SheetRead.{SheetRead}
 use Rattle.reading.specs.Reading.{sheet_read}
 use Rattle.roundtrip.proofs.Holds.{round_trip}
 use Rattle.order_lists.specs.declared.DeskOrder.{DeskOrder}
 use Rattle.order_lists.specs.Lists.{ordered_all}
 use Rattle.order_lists.proofs.Laws.{all_fit}
-use Rattle.decisions.specs.Decisions.{desk_ordered, desk_verdict, desk_sheet, HandsOut}
+use Rattle.decisions.specs.Decisions.{opened, desk_ordered, desk_verdict, desk_sheet, HandsOut}
 
-module _ (bytes : List ℕ) (orders : List DeskOrder) (house : Unit) (r : SheetRead) (read : r ≡ sheet_read side_letters bytes house) where
-  verdict_is : r.verdict ≡ sheet_verdict side_letters bytes
+-- ---- the sheet
+
+-- a refusal is that of the first answer where the second is none
+refused_first : (v : Verdict) (u : Unit) (refusal : Refusal) → Err refusal ≡ first_of v (Ok u) → v ≡ Err refusal
+refused_first (Ok done) u refusal e = absurd (cc e)
+refused_first (Err other) u refusal e = cc e
+
+accepted_both : (v : Verdict) (u given : Unit) → Ok given ≡ first_of v (Ok u) → (is_accepted v ≡ true) × (given ≡ u)
+accepted_both (Ok done) u given e = (refl, cc e)
+accepted_both (Err other) u given e = absurd (cc e)
+
+module _ (bytes : List ℕ) where
+  pub opened_refused : (refusal : Refusal) → Err refusal ≡ opened bytes → sheet_verdict side_letters bytes ≡ Err refusal
   unfolding sheet_read
-  verdict_is = ap (λ (a : SheetRead). a.verdict) read
+  opened_refused refusal e = refused_first (sheet_verdict side_letters bytes) _ refusal e
 
-  pub sheet_refused : (buffer : List ℕ) → is_accepted r.verdict ≡ false → (r.verdict ≡ desk_verdict bytes orders) × (buffer ≡ desk_sheet bytes orders buffer)
-  unfolding desk_verdict desk_sheet
-  sheet_refused buffer refused = (stays, failed (is_accepted (desk_verdict bytes orders)) (filled side_letters (desk_ordered bytes orders).unit buffer) buffer (ap is_accepted (sym stays) ∙ refused))
-    where
-      stays : r.verdict ≡ desk_verdict bytes orders
-      stays = verdict_is ∙ sym (first_refused (sheet_verdict side_letters bytes) (desk_ordered bytes orders).verdict (ap is_accepted (sym verdict_is) ∙ refused))
+  pub opened_accepted : (u : Unit) → Ok u ≡ opened bytes → (is_accepted (sheet_verdict side_letters bytes) ≡ true) × (u ≡ carried_unit side_letters bytes)
+  unfolding sheet_read
+  opened_accepted u e =
+      let both = accepted_both (sheet_verdict side_letters bytes) _ u e in
+      (both.0, both.1 ∙ ap (λ (a : Answered). a.unit) ((round_trip side_letters).accepted_reads bytes both.0 (cleared_with house_set)))
 
-  module _ (yes : is_accepted r.verdict ≡ true) (o : Ordered) (gives : o ≡ ordered_all r.unit orders) where
-    accepted : is_accepted (sheet_verdict side_letters bytes) ≡ true
-    accepted = ap is_accepted (sym verdict_is) ∙ yes
+-- ---- the orders
 
-    ordered_is : o ≡ desk_ordered bytes orders
-    ordered_is = gives ∙ ap (λ (u : Unit). ordered_all u orders) (ap (λ (a : SheetRead). a.unit) (read ∙ (round_trip side_letters).accepted_reads bytes accepted house))
-
-    pub answered : o.verdict ≡ desk_verdict bytes orders
+module _ (bytes : List ℕ) (orders : List DeskOrder) where
+  -- the sheet's refusal is the answer, and leaves the buffer as it is
+  module _ (refusal : Refusal) (refused : Err refusal ≡ opened bytes) where
+    pub sheet_refused : Err refusal ≡ desk_verdict bytes orders
     unfolding desk_verdict
-    answered = ap (λ (a : Ordered). a.verdict) ordered_is ∙ sym (first_accepted (sheet_verdict side_letters bytes) (desk_ordered bytes orders).verdict accepted)
+    sheet_refused = rw (opened_refused bytes refusal refused) refl
 
-    pub written : (buffer after : List ℕ) → is_accepted o.verdict ≡ true → after ≡ filled side_letters o.unit buffer → after ≡ desk_sheet bytes orders buffer
-    unfolding desk_sheet
-    written buffer after taken fills =
-        fills
-        ∙ ap (λ (a : Ordered). filled side_letters a.unit buffer) ordered_is
-        ∙ passed (is_accepted (desk_verdict bytes orders)) (filled side_letters (desk_ordered bytes orders).unit buffer) buffer (ap is_accepted (sym answered) ∙ taken)
+    pub sheet_unchanged : (buffer : List ℕ) → buffer ≡ desk_sheet bytes orders buffer
+    unfolding desk_sheet desk_verdict
+    sheet_unchanged buffer = rw (opened_refused bytes refusal refused) refl
 
-    pub unchanged : (buffer : List ℕ) → is_accepted o.verdict ≡ false → buffer ≡ desk_sheet bytes orders buffer
+  module _ (u : Unit) (opens : Ok u ≡ opened bytes) (verdict : Verdict) (u' : Unit) (gives : answered verdict u' ≡ ordered_all u orders) where
+    ordered_is : answered verdict u' ≡ desk_ordered bytes orders
+    ordered_is = gives ∙ ap (λ (v : Unit). ordered_all v orders) (opened_accepted bytes u opens).1
+
+    -- the answer to the orders is the answer
+    pub orders_answered : verdict ≡ desk_verdict bytes orders
+    unfolding desk_verdict
+    orders_answered = ap (λ (a : Answered). a.verdict) ordered_is ∙ sym (first_accepted (sheet_verdict side_letters bytes) (desk_ordered bytes orders).verdict (opened_accepted bytes u opens).0)
+
+    -- all accepted, the sheet is that of the unit after them
+    pub orders_written : is_accepted verdict ≡ true → (buffer : List ℕ) → filled side_letters u' buffer ≡ desk_sheet bytes orders buffer
     unfolding desk_sheet
-    unchanged buffer refused = failed (is_accepted (desk_verdict bytes orders)) (filled side_letters (desk_ordered bytes orders).unit buffer) buffer (ap is_accepted (sym answered) ∙ refused)
+    orders_written taken buffer =
+        ap (λ (a : Answered). filled side_letters a.unit buffer) ordered_is
+        ∙ passed (is_accepted (desk_verdict bytes orders)) (filled side_letters (desk_ordered bytes orders).unit buffer) buffer (ap is_accepted (sym orders_answered) ∙ taken)
+
+    -- one refused, the buffer is unchanged
+    pub orders_unchanged : is_accepted verdict ≡ false → (buffer : List ℕ) → buffer ≡ desk_sheet bytes orders buffer
+    unfolding desk_sheet
+    orders_unchanged refused buffer = failed (is_accepted (desk_verdict bytes orders)) (filled side_letters (desk_ordered bytes orders).unit buffer) buffer (ap is_accepted (sym orders_answered) ∙ refused)
 
 -- ---- what goes out
 

@@ -1,14 +1,15 @@
 -- What the programs decide. Definitions only.
-use Rattle.std.specs.Prelude.{◌≡◌, Bool, true, cond, not, ◌&&◌, List, ℕ, eqb, ltb, length}
-use Rattle.refusals.specs.Numbers.{is_accepted, unless, first_of}
-use Rattle.refusals.specs.declared.Verdict.{Verdict}
-use Rattle.refusals.specs.declared.Verdict.TheVariants.{Accepted, InputLength}
+use Rattle.std.specs.Prelude.{◌≡◌, Bool, true, false, cond, not, ◌&&◌, List, ℕ, eqb, ltb, length, Result, Ok, Err}
+use Rattle.refusals.specs.Numbers.{is_accepted, unless, first_of, Verdict, Accepted}
+use Rattle.refusals.specs.declared.Refusal.{Refusal}
+use Rattle.refusals.specs.declared.Refusal.TheVariants.{InputLength}
 use Rattle.bands.specs.House.{house_set}
-use Rattle.loading.specs.Loading.{loaded}
-use Rattle.orders.specs.declared.Ordered.{Ordered}
+use Rattle.unit.specs.declared.Unit.{Unit}
+use Rattle.unit.specs.Answered.{Answered}
+use Rattle.loading.specs.Loading.{cleared_with}
+use Rattle.arguments.specs.declared.Word.{Word}
 use Rattle.sheet.specs.Sheet.{side_letters, sheet_verdict, carried_unit, sheet_of}
 use Rattle.writing.specs.Written.{filled}
-use Rattle.reading.specs.declared.SheetRead.{SheetRead}
 use Rattle.reading.specs.Reading.{sheet_read}
 use Rattle.wave_reading.specs.declared.Located.{Located}
 use Rattle.wave_reading.specs.Reading.{data_verdict}
@@ -19,9 +20,13 @@ use Rattle.decisions.specs.declared.PassEnd.{PassEnd}
 
 -- ---- play
 
--- what is answered for the bytes of a sheet; the reader is given the cleared house unit
-abbrev pub opened : List ℕ → SheetRead
-opened bytes = sheet_read side_letters bytes (loaded house_set).unit
+-- the unit that was accepted, or the refusal
+abbrev pub accepted_unit : Answered → Result Unit Refusal
+accepted_unit a = first_of a.verdict (Ok a.unit)
+
+-- what is answered for the bytes of a sheet, with the unit that it carries; the reader is given the cleared house unit
+abbrev pub opened : List ℕ → Result Unit Refusal
+opened bytes = accepted_unit (sheet_read side_letters bytes (cleared_with house_set))
 
 -- the end of a sound: "A tail of one to three bytes gives 5 after the whole frames are played and the sheet is written"; where sound was
 -- lost on its way out there is neither
@@ -31,27 +36,29 @@ ending_of lost held = record { is_saved = not lost; verdict = cond lost Accepted
 -- ---- play, for wave files
 
 -- where the walk over the chunks leads, then the data, of which so many bytes are missing, and then what a wave file can hold
-abbrev pub wave_verdict : Located → ℕ → Verdict
-wave_verdict place missing = first_of place.verdict (first_of (data_verdict missing place.size) (size_verdict place.size))
+abbrev pub wave_verdict : Result Located Refusal → ℕ → Verdict
+wave_verdict (Ok place) missing = first_of (data_verdict missing place.size) (size_verdict place.size)
+wave_verdict (Err refusal) missing = Err refusal
 
 -- the data is played where the first and the last of these are accepted; how much is missing shows behind it
-abbrev pub can_play : Located → Bool
-can_play place = is_accepted place.verdict && is_accepted (size_verdict place.size)
+abbrev pub can_play : Result Located Refusal → Bool
+can_play (Ok place) = is_accepted (size_verdict place.size)
+can_play (Err refusal) = false
 
 -- the end of a wave file: a sheet is written where nothing is refused; where sound was lost on its way out there is neither
-unfoldable pub wave_ending_of : Bool → Located → ℕ → PassEnd
+unfoldable pub wave_ending_of : Bool → Result Located Refusal → ℕ → PassEnd
 wave_ending_of lost place missing =
     record { is_saved = not lost && is_accepted (wave_verdict place missing); verdict = cond lost Accepted (wave_verdict place missing) }
 
 -- ---- desk
 
--- so many arguments, and the numbers that they stand for: there is room for all, there is one at least, and they are orders
-abbrev pub is_call : ℕ → List ℕ → Bool
-is_call count numbers = (eqb count (length numbers) && ltb 0 count) && are_orders numbers
+-- so many arguments, and the words that they stand for: there is room for all, there is one at least, and they are orders
+abbrev pub is_call : ℕ → List Word → Bool
+is_call count words = (eqb count (length words) && ltb 0 count) && are_orders words
 
 module _ (bytes : List ℕ) (orders : List DeskOrder) where
   -- the orders to the unit that the bytes carry
-  abbrev pub desk_ordered : Ordered
+  abbrev pub desk_ordered : Answered
   desk_ordered = ordered_all (carried_unit side_letters bytes) orders
 
   -- the sheet's refusal, or then that of the first refused order

@@ -10,7 +10,7 @@ ghost use Rattle.arguments.specs.Meaning.{request_of};
 ghost use Rattle.order_lists.specs.Lists.{orders_in};
 ghost use Rattle.decisions.specs.Decisions.{is_call, desk_verdict, HandsOut};
 
-use arguments::Request;
+use arguments::{Request, Word};
 use refusals::Verdict;
 
 // How desk is used.
@@ -52,84 +52,76 @@ fn tell(rt: &HostRuntime, count: usize, first: &[u8], request: Request)
 
 // Takes so many arguments for orders.
 fn take_orders(rt: &HostRuntime, count: usize) {
-    let mut numbers = [0u32; order_lists::LIST_ROOM];
-    let kept = gather(rt, count, &mut numbers);
-    start(rt, count, &numbers[..kept]);
+    let mut words = [Word::Other; order_lists::LIST_ROOM];
+    let kept = gather(rt, count, &mut words);
+    start(rt, count, &words[..kept]);
 }
 
-// Puts the numbers that the arguments stand for at the front, as many as there is room for, and gives how many they are.
-fn gather(rt: &HostRuntime, count: usize, numbers: &mut [u32]) -> usize
-    ensures { IsPrefixLen result numbers.new }
+// Puts what the arguments stand for at the front, as many words as there is room for, and gives how many they are.
+fn gather(rt: &HostRuntime, count: usize, words: &mut [Word]) -> usize
+    ensures { IsPrefixLen result words.new }
 {
-    let mut i = 0;
-    while i < numbers.len() {
-        if i >= count {
-            break;
-        }
-        numbers[i] = argument(rt, i + 1);
-        i += 1;
+    let kept = count.min(words.len());
+    for i in 0..kept {
+        words[i] = argument(rt, i + 1);
     }
-    i
+    kept
 }
 
-// The number that an argument stands for. One that is missing, or longer than there is room for, counts as empty.
-fn argument(rt: &HostRuntime, place: usize) -> u32 {
+// What an argument stands for. One that is missing, or longer than there is room for, counts as empty.
+fn argument(rt: &HostRuntime, place: usize) -> Word {
     let mut text = [0u8; arguments::TEXT_SIZE];
     let size = console::argument(rt, place, &mut text);
     arguments::meaning(&text[..size])
 }
 
 // Gives the orders that the arguments mean, or says how desk is used.
-fn start(rt: &HostRuntime, count: usize, numbers: &[u32]) {
-    if !decisions::is_call(count, numbers) {
-        say_usage(rt, count, numbers);
+fn start(rt: &HostRuntime, count: usize, words: &[Word]) {
+    if !decisions::is_call(count, words) {
+        say_usage(rt, count, words);
         return;
     }
-    read_sheet(rt, count, numbers);
+    read_sheet(rt, count, words);
 }
 
 // How desk is used, where the arguments are no orders.
-fn say_usage(rt: &HostRuntime, count: usize, numbers: &[u32])
-    requires { is_call count numbers.now ≡ false }
+fn say_usage(rt: &HostRuntime, count: usize, words: &[Word])
+    requires { is_call count words.now ≡ false }
 {
     console::say_usage(rt, USAGE);
 }
 
 // Reads the sheet, for arguments that are orders.
-fn read_sheet(rt: &HostRuntime, count: usize, numbers: &[u32])
-    requires { is_call count numbers.now ≡ true }
+fn read_sheet(rt: &HostRuntime, count: usize, words: &[Word])
+    requires { is_call count words.now ≡ true }
 {
     let mut bytes = [0u8; sheet::SHEET_ROOM];
     let mut stdin = rt.stdin();
-    let received = console::receive_all(rt, &mut stdin, console::INPUT_NAME, &mut bytes);
-    if received.is_failed {
-        return;
+    if let Some(size) = console::receive_all(rt, &mut stdin, console::INPUT_NAME, &mut bytes) {
+        order(rt, words, &bytes[..size]);
     }
-    let size = received.count;
-    order(rt, numbers, &bytes[..size]);
 }
 
 // Gives the orders to the sheet of these bytes.
-fn order(rt: &HostRuntime, numbers: &[u32], bytes: &[u8]) {
+fn order(rt: &HostRuntime, words: &[Word], bytes: &[u8]) {
     let mut sheet = [0u8; sheet::SHEET_SIZE];
-    let verdict = decisions::order(numbers, bytes, &mut sheet);
-    answer(rt, numbers, bytes, verdict);
-    if !refusals::accepted(verdict) {
-        return;
+    let verdict = decisions::order(words, bytes, &mut sheet);
+    answer(rt, words, bytes, verdict);
+    if verdict.is_ok() {
+        hand_out(rt, words, bytes, &sheet);
     }
-    hand_out(rt, numbers, bytes, &sheet);
 }
 
 // What is said of the orders to the sheet of these bytes.
-fn answer(rt: &HostRuntime, numbers: &[u32], bytes: &[u8], verdict: Verdict)
-    requires { verdict ≡ desk_verdict bytes.now (orders_in numbers.now) }
+fn answer(rt: &HostRuntime, words: &[Word], bytes: &[u8], verdict: Verdict)
+    requires { verdict ≡ desk_verdict bytes.now (orders_in words.now) }
 {
     console::answer(rt, verdict);
 }
 
 // Writes the sheet after the orders to standard output.
-fn hand_out(rt: &HostRuntime, numbers: &[u32], bytes: &[u8], sheet: &[u8])
-    requires { HandsOut bytes.now (orders_in numbers.now) sheet.now }
+fn hand_out(rt: &HostRuntime, words: &[Word], bytes: &[u8], sheet: &[u8])
+    requires { HandsOut bytes.now (orders_in words.now) sheet.now }
 {
     console::write_out(rt, sheet);
 }

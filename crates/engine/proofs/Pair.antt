@@ -22,7 +22,6 @@ use Rattle.floats.proofs.WholeNumbers.{of_whole, add_whole, mul_whole}
 use Rattle.unit.specs.Frame.{feeds_back, raised, channel_frame, exact_mix}
 use Rattle.engine.specs.declared.FloatSection.{FloatSection}
 use Rattle.engine.specs.declared.Sides.{Sides}
-use Rattle.engine.specs.declared.Tallies.{Tallies}
 use Rattle.engine.specs.declared.Tally.{Tally}
 use Rattle.engine.specs.Floats.{Carries, float_at, WholeFloats, float_section, band_section_in}
 use Rattle.engine.specs.Layout.{section_floats, x1_place, x2_place, flag_place, pair_floats, Side, first_side, second_side, float_section_at, put_section, sides_at, put_sides, section_at_side}
@@ -40,13 +39,13 @@ begun x c =
     (le_trans (product_sized (pos (2 ^ 23)) (whole_of x) {m = word_size} {n = word_size} (lit≤ tt) c.small) (lit≤ tt)))
     ∙ ap float (terms_eq (var (pos 0) ⊕ var (pos (2 ^ 23) *ℤ whole_of x)) (var (pos (2 ^ 23) *ℤ whole_of x) ⊕ var (pos 0)) (omega arith))
 
-module _ (bands l : List Float) (x : Sides) where
+module _ (bands l : List Float) (x : Sides Float) where
   -- x - x2 of each side
-  abbrev pub ways : Sides
+  abbrev pub ways : Sides Float
   ways = record { first = way bands l first_side x.first; second = way bands l second_side x.second }
 
   -- after the turns of n bands
-  pub record Turning (n : ℕ) (m : List Float) (tallies : Tallies) : Type 0 where
+  pub record Turning (n : ℕ) (m : List Float) (tallies : Sides Tally) : Type 0 where
     pub most : n ≤ band_count
     pub size : length m ≡ pair_floats
     pub whole : WholeFloats m
@@ -54,14 +53,14 @@ module _ (bands l : List Float) (x : Sides) where
     pub first : Progress bands l first_side x.first n m tallies.first
     pub second : Progress bands l second_side x.second n m tallies.second
 
-  abbrev pub tallies_before : Tallies
+  abbrev pub tallies_before : Sides Tally
   tallies_before =
       record {
         first = record { total = add binary64 (of_bits binary64 0) (mul binary64 (of_bits binary64 4710765210229538816) x.first); flag = float_at l first_side.flag };
         second = record { total = add binary64 (of_bits binary64 0) (mul binary64 (of_bits binary64 4710765210229538816) x.second); flag = float_at l second_side.flag };
       }
 
-module _ (bands l : List Float) (x : Sides) (asks : FrameAsks bands l x) where
+module _ (bands l : List Float) (x : Sides Float) (asks : FrameAsks bands l x) where
   first_begun : Begun bands l first_side x.first
   first_begun =
       record { inside = first_inside; bands_size = asks.bands_size; bands_whole = asks.bands_whole; size = asks.size; whole = asks.whole; asks = asks.first }
@@ -83,7 +82,7 @@ module _ (bands l : List Float) (x : Sides) (asks : FrameAsks bands l x) where
 
   -- ---- a turn of band n
 
-  module _ (n : ℕ) (m : List Float) (tallies : Tallies) (below : n < band_count) (p : Turning bands l x n m tallies) where
+  module _ (n : ℕ) (m : List Float) (tallies : Sides Tally) (below : n < band_count) (p : Turning bands l x n m tallies) where
     pair_may_turn : TurnPairAsks bands m n (ways bands l x) tallies
     pair_may_turn =
         record {
@@ -158,10 +157,10 @@ module _ (bands l : List Float) (x : Sides) (asks : FrameAsks bands l x) where
         subst (λ (b : ℕ). Turning bands l x b (then (suc n)).pair (then (suc n)).tallies) (omega arith)
         (next (from + n) (then n).pair (then n).tallies (omega arith) (turning n (omega arith)))
 
-    module _ (d : Sides) (ways-are : d ≡ ways bands l x) where
+    module _ (d : Sides Float) (ways-are : d ≡ ways bands l x) where
       pub bands_may_turn : TurnBandsAsks feeds bands d from to s
       bands_may_turn =
-          subst (λ (e : Sides). TurnBandsAsks feeds bands e from to s) (sym ways-are)
+          subst (λ (e : Sides Float). TurnBandsAsks feeds bands e from to s) (sym ways-are)
           (record {
             in_order = in_order;
             most = most;
@@ -171,7 +170,7 @@ module _ (bands l : List Float) (x : Sides) (asks : FrameAsks bands l x) where
 
       pub bands_turned : (m : Between) → m ≡ after_turns bands d from (to - from) s → Turning bands l x to m.pair m.tallies
       bands_turned m is =
-          subst (λ (t : Between). Turning bands l x to t.pair t.tallies) (sym (is ∙ ap (λ (e : Sides). after_turns bands e from (to - from) s) ways-are))
+          subst (λ (t : Between). Turning bands l x to t.pair t.tallies) (sym (is ∙ ap (λ (e : Sides Float). after_turns bands e from (to - from) s) ways-are))
           (subst (λ (b : ℕ). Turning bands l x b (then (to - from)).pair (then (to - from)).tallies) (omega arith) (turning (to - from) (omega arith)))
 
   -- ---- after ten turns
@@ -211,8 +210,8 @@ module _ (bands l : List Float) (x : Sides) (asks : FrameAsks bands l x) where
         go true = float_whole (float (pos 1)) (pos 1) refl (lit≤ tt)
         go false = f.whole e.flag (omega (arith, f.inside.flag, f.size))
 
-  module _ (m : List Float) (tallies : Tallies) (p : Turning bands l x band_count m tallies) where
-    abbrev flags : Sides
+  module _ (m : List Float) (tallies : Sides Tally) (p : Turning bands l x band_count m tallies) where
+    abbrev flags : Sides Float
     flags = record { first = tallies.first.flag; second = tallies.second.flag }
 
     abbrev m1 : List Float
@@ -277,8 +276,8 @@ module _ (bands l : List Float) (x : Sides) (asks : FrameAsks bands l x) where
               (flag_whole first_side x.first first_begun m ended tallies.first p.first) (flag_whole second_side x.second second-begun m ended tallies.second p.second);
           first =
               side_gives first_side x.first first_begun m ended tallies.first p.first
-              (λ k h. sections_kept (section_floats * k) (omega arith)) (ap (λ (s : Sides). s.first) x1_are) (ap (λ (s : Sides). s.first) x2_are) (ap (λ (s : Sides). s.first) flags_are);
+              (λ k h. sections_kept (section_floats * k) (omega arith)) (ap (λ (s : Sides Float). s.first) x1_are) (ap (λ (s : Sides Float). s.first) x2_are) (ap (λ (s : Sides Float). s.first) flags_are);
           second =
               side_gives second_side x.second second-begun m ended tallies.second p.second
-              (λ k h. sections_kept (section_floats * k + 1) (omega arith)) (ap (λ (s : Sides). s.second) x1_are) (ap (λ (s : Sides). s.second) x2_are) (ap (λ (s : Sides). s.second) flags_are);
+              (λ k h. sections_kept (section_floats * k + 1) (omega arith)) (ap (λ (s : Sides Float). s.second) x1_are) (ap (λ (s : Sides Float). s.second) x2_are) (ap (λ (s : Sides Float). s.second) flags_are);
         }

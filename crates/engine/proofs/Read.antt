@@ -41,7 +41,7 @@ zeros_whole n k h =
     (get_or-replicate n k (of_bits binary64 0) nan (omega (arith, h, length-replicate n (of_bits binary64 0))) ∙ zero_is) (lit≤ tt)
 
 -- two neighbours beside those that are stored
-pub sides_other : (l : List Float) (at : ℕ) (s : Sides) (to : ℕ) → (to ≡ at → ⊥) → (to ≡ at + 1 → ⊥) → (to + 1 ≡ at → ⊥) → sides_at (put_sides l at s) to ≡ sides_at l to
+pub sides_other : (l : List Float) (at : ℕ) (s : Sides Float) (to : ℕ) → (to ≡ at → ⊥) → (to ≡ at + 1 → ⊥) → (to + 1 ≡ at → ⊥) → sides_at (put_sides l at s) to ≡ sides_at l to
 sides_other l at s to here after before =
     λ i. record { first = sides_outside l at s to here after i; second = sides_outside l at s (to + 1) before (λ e. here (omega arith)) i }
 

@@ -132,7 +132,7 @@ module _ (l : List Float) (at : ℕ) (s : FloatSection) where
 
 -- ---- two neighbours
 
-module _ (l : List Float) (at : ℕ) (s : Sides) where
+module _ (l : List Float) (at : ℕ) (s : Sides Float) where
   abbrev front : List Float
   front = set l at s.first
 

@@ -14,7 +14,6 @@ use Rattle.engine.specs.declared.FloatBand.{FloatBand}
 use Rattle.engine.specs.declared.FloatLevel.{FloatLevel}
 use Rattle.engine.specs.declared.FloatSection.{FloatSection}
 use Rattle.engine.specs.declared.Sides.{Sides}
-use Rattle.engine.specs.declared.Tallies.{Tallies}
 use Rattle.engine.specs.declared.Tally.{Tally}
 use Rattle.engine.specs.declared.Turned.{Turned}
 use Rattle.engine.specs.Floats.{largest, Carries, WholeFloats, float_band, band_in, float_section, band_section_in}
@@ -86,20 +85,20 @@ pub record TurnAsks (band : FloatBand) (section : FloatSection) (d : Float) (tal
 
 -- ---- band b's turn of both sides
 
-module _ (feeds : Bool) (bands l : List Float) (b : ℕ) (d : Sides) (tallies : Tallies) where
+module _ (feeds : Bool) (bands l : List Float) (b : ℕ) (d : Sides Float) (tallies : Sides Tally) where
   abbrev pub first_turned : Turned
   first_turned = turned feeds (float_band_at bands (band_floats * b)) (float_section_at l (section_floats * b)) d.first tallies.first
 
   abbrev pub second_turned : Turned
   second_turned = turned feeds (float_band_at bands (band_floats * b + 1)) (float_section_at l (section_floats * b + 1)) d.second tallies.second
 
-  abbrev pub tallies_after : Tallies
+  abbrev pub tallies_after : Sides Tally
   tallies_after = record { first = first_turned.tally; second = second_turned.tally }
 
   abbrev pub pair_after : List Float
   pair_after = put_section (put_section l (section_floats * b) first_turned.section) (section_floats * b + 1) second_turned.section
 
-pub record TurnPairAsks (bands l : List Float) (b : ℕ) (d : Sides) (tallies : Tallies) : Type 0 where
+pub record TurnPairAsks (bands l : List Float) (b : ℕ) (d : Sides Float) (tallies : Sides Tally) : Type 0 where
   pub below : b < band_count
   pub room : length l ≡ pair_floats
   pub first_turns : TurnAsks (float_band_at bands (band_floats * b)) (float_section_at l (section_floats * b)) d.first tallies.first
@@ -110,12 +109,12 @@ pub record TurnPairAsks (bands l : List Float) (b : ℕ) (d : Sides) (tallies : 
 -- a pair's floats and its tallies, between two turns
 pub record Between : Type 0 where
   pub pair : List Float
-  pub tallies : Tallies
+  pub tallies : Sides Tally
 
-abbrev pub between : List Float → Tallies → Between
+abbrev pub between : List Float → Sides Tally → Between
 between l tallies = record { pair = l; tallies = tallies }
 
-module _ (bands : List Float) (d : Sides) (from : ℕ) where
+module _ (bands : List Float) (d : Sides Float) (from : ℕ) where
   -- after the turns of n bands
   abbrev pub after_turns : ℕ → Between → Between
   after_turns zero s = s
@@ -125,7 +124,7 @@ module _ (bands : List Float) (d : Sides) (from : ℕ) where
       (tallies_after (feeds_back (from + n)) bands (after_turns n s).pair (from + n) d (after_turns n s).tallies)
 
 -- what the turns up to another place ask: these bands all feed back, or none does, and each turn has what it asks
-pub record TurnBandsAsks (feeds : Bool) (bands : List Float) (d : Sides) (from to : ℕ) (s : Between) : Type 0 where
+pub record TurnBandsAsks (feeds : Bool) (bands : List Float) (d : Sides Float) (from to : ℕ) (s : Between) : Type 0 where
   pub in_order : from ≤ to
   pub most : to ≤ band_count
   pub alike : (b : ℕ) → from ≤ b → b < to → feeds_back b ≡ feeds
@@ -139,7 +138,7 @@ pub record SideAsks (bands l : List Float) (e : Side) (x : Float) : Type 0 where
   pub channel_fit : ChannelFit (channel_at_side l e)
   pub x_carries : Carries x word_size
 
-pub record FrameAsks (bands l : List Float) (x : Sides) : Type 0 where
+pub record FrameAsks (bands l : List Float) (x : Sides Float) : Type 0 where
   pub bands_size : length bands ≡ set_floats
   pub bands_whole : WholeFloats bands
   pub size : length l ≡ pair_floats
@@ -152,7 +151,7 @@ pub record SideGives (bands l : List Float) (e : Side) (x : Float) (after : List
   pub channel : channel_at_side after e ≡ channel_frame (bands_at_side bands e) (whole_of x) (channel_at_side l e)
   pub total_is : total ≡ float (exact_mix (channel_frame (bands_at_side bands e) (whole_of x) (channel_at_side l e)))
 
-pub record FrameGives (bands l : List Float) (x : Sides) (after : List Float) (totals : Sides) : Type 0 where
+pub record FrameGives (bands l : List Float) (x : Sides Float) (after : List Float) (totals : Sides Float) : Type 0 where
   pub size : length after ≡ pair_floats
   pub whole : WholeFloats after
   pub first : SideGives bands l first_side x.first after totals.first

@@ -78,10 +78,10 @@ put_section l at s =
     set (set (set (set (set l at s.y1) (at + 2) s.y2) (at + 4) s.gain.present) (at + 6) s.gain.target) (at + 8) s.remainder
 
 -- two neighbours, and the floats with these replaced
-abbrev pub sides_at : List Float → ℕ → Sides
+abbrev pub sides_at : List Float → ℕ → Sides Float
 sides_at l at = record { first = float_at l at; second = float_at l (at + 1) }
 
-unfoldable pub put_sides : List Float → ℕ → Sides → List Float
+unfoldable pub put_sides : List Float → ℕ → Sides Float → List Float
 put_sides l at s = set (set l at s.first) (at + 1) s.second
 
 -- ---- what the floats stand for

@@ -48,6 +48,8 @@ const SAMPLE_LOW: f64 = -32768.0;
 
 const SAMPLE_HIGH: f64 = 32767.0;
 
+// Types of their own beside Band, Level and BandSection: no function serves both kinds of number, since floats move and are stored otherwise.
+
 // A band's coefficients.
 #[derive(Clone, Copy)]
 pub struct FloatBand {
@@ -72,11 +74,11 @@ pub struct FloatSection {
     pub remainder: f64,
 }
 
-// A number of each side of a pair.
+// What each side of a pair has: a number, or a tally.
 #[derive(Clone, Copy)]
-pub struct Sides {
-    pub first: f64,
-    pub second: f64,
+pub struct Sides<T> {
+    pub first: T,
+    pub second: T,
 }
 
 // What a channel's sections add up in a frame: T as far as it goes, and the flag, 1 once a section has limited, else 0.
@@ -86,13 +88,6 @@ pub struct Tally {
     pub flag: f64,
 }
 
-// The tallies of a pair.
-#[derive(Clone, Copy)]
-pub struct Tallies {
-    pub first: Tally,
-    pub second: Tally,
-}
-
 // A section after its turn, and the channel's tally.
 #[derive(Clone, Copy)]
 pub struct Turned {
@@ -100,7 +95,8 @@ pub struct Turned {
     pub tally: Tally,
 }
 
-// v limited to the range from low to high: a choice for each end, for which the compiler needs no branch.
+// v limited to the range from low to high: a choice for each end, for which the compiler needs no branch. It fences each operand of a comparison off
+// from the choice, so no order of the two, nor f64::min and max, becomes one instruction for a minimum.
 fn limited(low: f64, high: f64, v: f64) -> f64
     ensures { result ≡ limited_float low high v }
 {
@@ -111,20 +107,14 @@ fn limited(low: f64, high: f64, v: f64) -> f64
 fn least(high: f64, v: f64) -> f64
     ensures { result ≡ lesser high v }
 {
-    if v < high {
-        return v;
-    }
-    high
+    if v < high { v } else { high }
 }
 
 // The greater of low and v.
 fn most(low: f64, v: f64) -> f64
     ensures { result ≡ greater low v }
 {
-    if low < v {
-        return v;
-    }
-    low
+    if low < v { v } else { low }
 }
 
 impl FloatLevel {
@@ -133,12 +123,10 @@ impl FloatLevel {
         requires { LevelCarries self }
         ensures { result ≡ float_level (moved slope (level_in self)) }
     {
-        let present = self.present;
-        let target = self.target;
         let step = slope as f64;
         FloatLevel {
-            present: present + limited(0.0 - step, step, target - present),
-            target,
+            present: self.present + limited(0.0 - step, step, self.target - self.present),
+            ..self
         }
     }
 }
@@ -148,20 +136,14 @@ fn unless_limited(kept: f64, other: f64, rounded: f64, y: f64) -> f64
     requires { LimitAsks rounded y }
     ensures { result ≡ unless_limited (whole_of rounded) kept other }
 {
-    if rounded == y {
-        return kept;
-    }
-    other
+    if rounded == y { kept } else { other }
 }
 
 // S, increased by the remainder where the band feeds it back. A sum that begins with the remainder is never minus zero.
 fn increased(feeds: bool, sum: f64, remainder: f64) -> f64
     ensures { result ≡ increased_by feeds sum remainder }
 {
-    if feeds {
-        return remainder + sum;
-    }
-    sum
+    if feeds { remainder + sum } else { sum }
 }
 
 // The remainder that is carried on, of what rounding took: zero where the section limits, or does not feed it back.
@@ -170,9 +152,10 @@ fn carried(feeds: bool, taken: f64, rounded: f64, y: f64) -> f64
     ensures { result ≡ carried_by feeds (whole_of rounded) taken }
 {
     if feeds {
-        return unless_limited(taken, 0.0, rounded, y);
+        unless_limited(taken, 0.0, rounded, y)
+    } else {
+        0.0
     }
-    0.0
 }
 
 // One side's turn of a section on d = x - x2: the gain moves, equation (8) is worked, rounded and limited, the results and the remainder move on,
@@ -181,23 +164,20 @@ fn turn(feeds: bool, band: FloatBand, section: FloatSection, d: f64, tally: Tall
     requires { TurnAsks band section d tally }
     ensures { result ≡ turned feeds band section d tally }
 {
-    let y1 = section.y1;
-    let plain = band.alpha * d - band.beta * section.y2 + band.gamma * y1;
+    let plain = band.alpha * d - band.beta * section.y2 + band.gamma * section.y1;
     let sum = increased(feeds, plain, section.remainder);
     let rounded = floats::nearest_whole(sum / SUM_SCALE);
     let y = limited(WORD_LOW, WORD_HIGH, rounded);
-    let level = section.gain;
-    let gain = level.moved(levels::GAIN_SLOPE);
-    let present = gain.present;
+    let gain = section.gain.moved(levels::GAIN_SLOPE);
     Turned {
         section: FloatSection {
             y1: y,
-            y2: y1,
+            y2: section.y1,
             gain,
             remainder: carried(feeds, sum - SUM_SCALE * rounded, rounded, y),
         },
         tally: Tally {
-            total: tally.total + present * y,
+            total: tally.total + gain.present * y,
             flag: unless_limited(tally.flag, 1.0, rounded, y),
         },
     }
@@ -220,37 +200,32 @@ pub fn section_at(pair: &[f64], at: usize) -> FloatSection
     requires { at + 8 < length pair.now }
     ensures { result ≡ float_section_at pair.now at }
 {
-    let gain = FloatLevel {
-        present: pair[at + 4],
-        target: pair[at + 6],
-    };
     FloatSection {
         y1: pair[at],
         y2: pair[at + 2],
-        gain,
+        gain: FloatLevel {
+            present: pair[at + 4],
+            target: pair[at + 6],
+        },
         remainder: pair[at + 8],
     }
 }
 
 // Stores the section whose numbers begin at a place.
+#[tactic(auto, unfolding(crate::specs::Layout::put_section))]
 pub fn put_section(pair: &mut [f64], at: usize, section: FloatSection)
     requires { at + 8 < length pair.old }
     ensures { pair.new ≡ put_section pair.old at section }
 {
-    let y1 = section.y1;
-    let y2 = section.y2;
-    let present = section.gain.present;
-    let target = section.gain.target;
-    let remainder = section.remainder;
-    pair[at] = y1;
-    pair[at + 2] = y2;
-    pair[at + 4] = present;
-    pair[at + 6] = target;
-    pair[at + 8] = remainder;
+    pair[at] = section.y1;
+    pair[at + 2] = section.y2;
+    pair[at + 4] = section.gain.present;
+    pair[at + 6] = section.gain.target;
+    pair[at + 8] = section.remainder;
 }
 
 // A number of each side, from two neighbouring places.
-pub fn sides_at(floats: &[f64], at: usize) -> Sides
+pub fn sides_at(floats: &[f64], at: usize) -> Sides<f64>
     requires { at + 1 < length floats.now }
     ensures { result ≡ sides_at floats.now at }
 {
@@ -261,14 +236,13 @@ pub fn sides_at(floats: &[f64], at: usize) -> Sides
 }
 
 // Stores a number of each side in two neighbouring places.
-pub fn put_sides(floats: &mut [f64], at: usize, sides: Sides)
+#[tactic(auto, unfolding(crate::specs::Layout::put_sides))]
+pub fn put_sides(floats: &mut [f64], at: usize, sides: Sides<f64>)
     requires { at + 1 < length floats.old }
     ensures { floats.new ≡ put_sides floats.old at sides }
 {
-    let first = sides.first;
-    let second = sides.second;
-    floats[at] = first;
-    floats[at + 1] = second;
+    floats[at] = sides.first;
+    floats[at + 1] = sides.second;
 }
 
 // Band b's turn of both sides.
@@ -277,39 +251,33 @@ fn turn_pair(
     bands: &[f64; SET_FLOATS],
     pair: &mut [f64],
     b: usize,
-    d: Sides,
-    tallies: Tallies,
-) -> Tallies
+    d: Sides<f64>,
+    tallies: Sides<Tally>,
+) -> Sides<Tally>
     requires { TurnPairAsks bands.now pair.old b d tallies }
     ensures { (result ≡ tallies_after feeds bands.now pair.old b d tallies) × (pair.new ≡ pair_after feeds bands.now pair.old b d tallies) }
 {
     let place = BAND_FLOATS * b;
     let at = SECTION_FLOATS * b;
-    let first_tally = tallies.first;
-    let second_tally = tallies.second;
     let first = turn(
         feeds,
         band_at(bands, place),
         section_at(pair, at),
         d.first,
-        first_tally,
+        tallies.first,
     );
     let second = turn(
         feeds,
         band_at(bands, place + 1),
         section_at(pair, at + 1),
         d.second,
-        second_tally,
+        tallies.second,
     );
-    let first_section = first.section;
-    let second_section = second.section;
-    put_section(pair, at, first_section);
-    put_section(pair, at + 1, second_section);
-    let first_after = first.tally;
-    let second_after = second.tally;
-    Tallies {
-        first: first_after,
-        second: second_after,
+    put_section(pair, at, first.section);
+    put_section(pair, at + 1, second.section);
+    Sides {
+        first: first.tally,
+        second: second.tally,
     }
 }
 
@@ -320,23 +288,21 @@ fn turn_bands(
     pair: &mut [f64],
     from: usize,
     to: usize,
-    d: Sides,
-    before: Tallies,
-) -> Tallies
+    d: Sides<f64>,
+    before: Sides<Tally>,
+) -> Sides<Tally>
     requires { TurnBandsAsks feeds bands.now d from to (between pair.old before) }
     ensures { between pair.new result ≡ after_turns bands.now d from (to - from) (between pair.old before) }
 {
     let mut tallies = before;
-    let mut b = from;
-    while b < to {
+    for b in from..to {
         tallies = turn_pair(feeds, bands, pair, b, d, tallies);
-        b += 1;
     }
     tallies
 }
 
 // A frame of both sides on their input words: every section has its turn, and x and x1 move on. Gives T of each side.
-pub fn frame(bands: &[f64; SET_FLOATS], pair: &mut [f64], x: Sides) -> Sides
+pub fn frame(bands: &[f64; SET_FLOATS], pair: &mut [f64], x: Sides<f64>) -> Sides<f64>
     requires { FrameAsks bands.now pair.old x }
     ensures { FrameGives bands.now pair.old x pair.new result }
 {
@@ -347,7 +313,7 @@ pub fn frame(bands: &[f64; SET_FLOATS], pair: &mut [f64], x: Sides) -> Sides
         first: x.first - x2.first,
         second: x.second - x2.second,
     };
-    let before = Tallies {
+    let before = Sides {
         first: Tally {
             total: 0.0 + MIX_SCALE * x.first,
             flag: flags.first,

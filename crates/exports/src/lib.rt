@@ -13,6 +13,7 @@ ghost use Rattle.preview.specs.Preview.{buffers_of};
 ghost use Rattle.levels.specs.Levels.{ramp};
 ghost use Rattle.unit.specs.Fit.{unit_fits};
 ghost use Rattle.loading.specs.Loading.{loaded};
+ghost use Rattle.wave_reading.specs.Walk.{place_of};
 ghost use Rattle.wave_reading.specs.Reading.{found};
 ghost use Rattle.wave_writing.specs.Writing.{write_verdict, written};
 ghost use Rattle.numbers.specs.Layout.{unit_of, numbers_of};
@@ -62,7 +63,7 @@ pub extern "C" fn fonddrys_section_step(
     numbers: &mut [i32; lending::SECTION_NUMBERS],
     x: i32,
 ) -> StepAnswer
-    ensures { (result ≡ answer_of (stepped (lone_section numbers.old) x)) × (numbers.new ≡ lone_numbers (stepped (lone_section numbers.old) x).section) }
+    ensures { (result ≡ answer_of (lone_section numbers.old) x) × (numbers.new ≡ lone_numbers (stepped (lone_section numbers.old) x).section) }
 {
     lending::section_step(numbers, x)
 }
@@ -81,8 +82,7 @@ pub extern "C" fn fonddrys_preview(
 ) -> u32
     ensures { PreviewGives (band_of alpha beta gamma) words.now (buffers_of results.old remainders.old) result (buffers_of results.new remainders.new) }
 {
-    let verdict = preview::fill(Band { alpha, beta, gamma }, words, results, remainders);
-    refusals::number(verdict)
+    refusals::number(preview::fill(Band { alpha, beta, gamma }, words, results, remainders))
 }
 
 // The present number of a level, moved towards its target by slope, or by the whole distance where that is less.
@@ -91,11 +91,10 @@ pub extern "C" fn fonddrys_level_moved(present: i32, target: i32, slope: u32) ->
     ensures { result ≡ ramp slope present target }
 {
     let level = Level {
-        present: present as i64,
-        target: target as i64,
+        present: i64::from(present),
+        target: i64::from(target),
     };
-    let after = level.moved(slope);
-    after.present as i32
+    level.moved(slope).present as i32
 }
 
 // 1 where the unit of the 138 lent numbers is fit, else 0.
@@ -103,7 +102,7 @@ pub extern "C" fn fonddrys_level_moved(present: i32, target: i32, slope: u32) ->
 pub extern "C" fn fonddrys_unit_fit(numbers: &[i32; numbers::UNIT_SIZE]) -> u32
     ensures { result ≡ flag (unit_fits (unit_of numbers.now)) }
 {
-    lent_fitness::is_fit(numbers) as u32
+    u32::from(lent_fitness::is_fit(numbers))
 }
 
 // Loads a band set: the lent numbers are then those of the loaded unit. 0 for an accepted set, else the number of its refusal.
@@ -193,29 +192,28 @@ pub extern "C" fn fonddrys_sheet_read(numbers: &mut [i32; numbers::UNIT_SIZE], b
 // Where the data of a wave file lies, in three answers. The number of the refusal, 0 for an accepted file.
 #[unsafe(no_mangle)]
 pub extern "C" fn fonddrys_wave_refusal(file: &[u8]) -> u32
-    ensures { result ≡ number_of (found file.now).verdict }
+    ensures { result ≡ number_of (found file.now) }
 {
-    let place = wave_reading::find(file);
-    let verdict = place.verdict;
-    refusals::number(verdict)
+    match wave_reading::find(file) {
+        Ok(_) => 0,
+        Err(refusal) => refusal as u32,
+    }
 }
 
 // The place in a wave file at which the data begins, 0 after a refusal.
 #[unsafe(no_mangle)]
 pub extern "C" fn fonddrys_wave_from(file: &[u8]) -> usize
-    ensures { result ≡ (found file.now).from }
+    ensures { result ≡ (place_of (found file.now)).from }
 {
-    let place = wave_reading::find(file);
-    place.from
+    wave_reading::find(file).unwrap_or_default().from
 }
 
 // How many bytes the data of a wave file has, 0 after a refusal.
 #[unsafe(no_mangle)]
 pub extern "C" fn fonddrys_wave_size(file: &[u8]) -> usize
-    ensures { result ≡ (found file.now).size }
+    ensures { result ≡ (place_of (found file.now)).size }
 {
-    let place = wave_reading::find(file);
-    place.size
+    wave_reading::find(file).unwrap_or_default().size
 }
 
 // Writes the wave file of the frames to the front of the buffer; bytes behind it keep their contents. 0 for an accepted call, else the number
@@ -224,6 +222,5 @@ pub extern "C" fn fonddrys_wave_size(file: &[u8]) -> usize
 pub extern "C" fn fonddrys_wave_write(frames: &[u8], buffer: &mut [u8]) -> u32
     ensures { (result ≡ number_of (write_verdict (length frames.now) (length buffer.old))) × (buffer.new ≡ written frames.now buffer.old) }
 {
-    let verdict = wave_writing::write(frames, buffer);
-    refusals::number(verdict)
+    refusals::number(wave_writing::write(frames, buffer))
 }

@@ -1,6 +1,7 @@
 -- What reading a field gives: blanks, then a minus or none, then digits with no leading zero.
 use mathlib.Core.Bool.{Bool, true, false, cond, not, ◌&&◌, ◌||◌, and-false, or-false}
 use mathlib.Core.List.{List, [], ◌∷◌}
+use Rattle.std.specs.Prelude.{Option, None}
 use mathlib.Core.Path.{◌≡◌, refl, sym, ap, ap₂, ◌∙◌}
 use Prim.Native.Nat.{ℕ, suc, ◌+◌, ◌*◌, ◌<◌}
 use native.Mathlib.Omega.{arith}
@@ -13,7 +14,7 @@ use mir.Val.{bool_byte}
 use borrow.Author.Tests.{ne_eqb, eqb-true, eqb-false}
 use Rattle.integers.proofs.Order.{both_true}
 use Rattle.integers.specs.Signed.{signed}
-use Rattle.fields.specs.Fields.{field_size, blank, minus, is_digit, digit_in, value_from, has_minus, number_in, no_number, field_read}
+use Rattle.fields.specs.Fields.{field_size, blank, minus, is_digit, digit_in, value_from, has_minus, number_in, field_read}
 use Rattle.fields.proofs.Bytes.{digit_low, digit_in_yes}
 use Rattle.fields.proofs.Laws.{answer}
 use Rattle.field_reading.specs.Scan.{blanks_of, all_digits, digits_read, number_read}
@@ -60,7 +61,7 @@ scan_digits (c ∷ r) b v m lead sign =
 -- ---- what is read, behind a minus or none
 
 -- what the columns b ∷ r make
-abbrev reading : Bool → ℕ → List ℕ → ℤ
+abbrev reading : Bool → ℕ → List ℕ → Option ℤ
 reading m b r = answer (scan 0 m b r) (signed (m || has_minus (b ∷ r)) (value_from 0 (b ∷ r)))
 
 -- where all that fits is digits, the digits are read
@@ -79,7 +80,7 @@ reading_number : (m : Bool) (b : ℕ) (r : List ℕ) → not m && (eqb b blank |
     → reading m b r ≡ number_read m (b ∷ r)
 reading_number m b r sign zero-bad = go (eqb b 48) refl
   where
-    go : (t : Bool) → eqb b 48 ≡ t → reading m b r ≡ cond t no_number (digits_read m (b ∷ r))
+    go : (t : Bool) → eqb b 48 ≡ t → reading m b r ≡ cond t None (digits_read m (b ∷ r))
     go true e =
         let first : scan 0 m b r ≡ false = ap (λ (k : ℕ). scan 0 m k r) (eqb-true b 48 e) ∙ zero-bad in
         ap (λ (t : Bool). answer t (signed (m || has_minus (b ∷ r)) (value_from 0 (b ∷ r)))) first
@@ -104,8 +105,8 @@ signed_first c b r e = go (eqb c minus) refl
     go false q = reading_number false c (b ∷ r) (ap₂ ◌||◌ e q) refl
 
 -- what is read behind the blanks: a last digit, or a minus or none and digits
-abbrev opened : List ℕ → ℤ
-opened [] = no_number
+abbrev opened : List ℕ → Option ℤ
+opened [] = None
 opened (c ∷ []) = digits_read false (c ∷ [])
 opened (c ∷ b ∷ r) = number_read (eqb c minus) (drop (bool_byte (eqb c minus)) (c ∷ b ∷ r))
 

@@ -1,117 +1,106 @@
 // Reading a field of the strip sheet: the number in nine columns.
 #![tactic(auto)]
 
-ghost use Rattle.std.specs.Prelude.{◌≡◌, ◌+◌, ◌*◌, ◌≤◌, ◌<◌, eqb, length};
-ghost use Rattle.std.proofs.Math.Seq.{slice};
+ghost use Rattle.std.specs.Prelude.{◌≡◌, ◌+◌, ◌≤◌, ◌<◌, eqb, length, take};
 ghost use Rattle.integers.specs.Signed.{signed};
 ghost use Rattle.fields.specs.Fields.{field_size, last_column, is_digit, field_at, field_read};
-ghost use Rattle.field_reading.specs.Scan.{blanks_of, digits_read, number_read, long_at};
+ghost use Rattle.field_reading.specs.Scan.{blanks_of, digits_read, number_read, is_long};
 
-use fields::{BLANK, FIELD_SIZE, LAST_COLUMN, MINUS, NO_NUMBER, ZERO};
-
-// The byte of the digit 9.
-const NINE: u8 = b'9';
+use fields::{BLANK, FIELD_SIZE, LAST_COLUMN, MINUS, ZERO};
 
 // Four blanks as one number.
 const FOUR_BLANKS: u32 = 0x0101_0101 * BLANK as u32;
 
-// Reads the nine columns from place at on: blanks, a minus or none, digits with no leading zero. NO_NUMBER where they are badly written.
-// One digit behind blanks and seven digits, the most usual forms, go a shorter way.
-pub fn read_field(bytes: &[u8], at: usize) -> i32
+// Reads the nine columns from place at on: blanks, a minus or none, digits with no leading zero. None where they are badly written.
+// Never inlined: its short ways need few registers, and a caller that holds it saves them for all.
+#[inline(never)]
+pub fn read_field(bytes: &[u8], at: usize) -> Option<i32>
     requires { at + field_size ≤ length bytes.now }
     ensures { result ≡ field_read (field_at bytes.now at) }
 {
-    if all_blank(bytes, at) {
-        return read_digits(bytes, at + LAST_COLUMN, at + FIELD_SIZE, false);
+    read_columns(&bytes[at..at + FIELD_SIZE])
+}
+
+// Reads nine columns. One digit behind blanks and seven digits, the most usual forms, go a shorter way.
+fn read_columns(columns: &[u8]) -> Option<i32>
+    requires { length columns.now ≡ field_size }
+    ensures { result ≡ field_read columns.now }
+{
+    if all_blank(columns) {
+        return read_digits(&columns[LAST_COLUMN..], false);
     }
-    if is_long(bytes, at) {
-        return read_digits(bytes, at + 2, at + FIELD_SIZE, bytes[at + 1] == MINUS);
+    if is_long(columns) {
+        return read_digits(&columns[2..], columns[1] == MINUS);
     }
-    let start = skip_blanks(bytes, at, at + LAST_COLUMN);
-    if bytes[start] == MINUS {
-        return read_number(bytes, start + 1, at + FIELD_SIZE, true);
+    let start = skip_blanks(&columns[..LAST_COLUMN]);
+    if columns[start] == MINUS {
+        return read_number(&columns[start + 1..], true);
     }
-    read_number(bytes, start, at + FIELD_SIZE, false)
+    read_number(&columns[start..], false)
 }
 
 // Whether the columns before the last are all blank: they are compared four at a time.
-fn all_blank(bytes: &[u8], at: usize) -> bool
-    requires { at + last_column ≤ length bytes.now }
-    ensures { result ≡ eqb (blanks_of (slice at (at + last_column) bytes.now)) last_column }
+fn all_blank(columns: &[u8]) -> bool
+    requires { last_column ≤ length columns.now }
+    ensures { result ≡ eqb (blanks_of (take last_column columns.now)) last_column }
 {
-    let low = four(bytes[at], bytes[at + 1], bytes[at + 2], bytes[at + 3]);
-    let high = four(bytes[at + 4], bytes[at + 5], bytes[at + 6], bytes[at + 7]);
-    (low == FOUR_BLANKS) & (high == FOUR_BLANKS)
-}
-
-// Four bytes as one number, the first the lowest.
-fn four(a: u8, b: u8, c: u8, d: u8) -> u32
-    ensures { result ≡ a + 256 * b + 65536 * c + 16777216 * d }
-{
-    a as u32 + 256 * (b as u32) + 65536 * (c as u32) + 16777216 * (d as u32)
+    let low = [columns[0], columns[1], columns[2], columns[3]];
+    let high = [columns[4], columns[5], columns[6], columns[7]];
+    (u32::from_le_bytes(low) == FOUR_BLANKS) & (u32::from_le_bytes(high) == FOUR_BLANKS)
 }
 
 // Whether seven digits may follow: a blank, a blank or a minus, and a byte above the digit 0.
-fn is_long(bytes: &[u8], at: usize) -> bool
-    requires { at + last_column ≤ length bytes.now }
-    ensures { result ≡ long_at bytes.now at }
+fn is_long(columns: &[u8]) -> bool
+    requires { last_column ≤ length columns.now }
+    ensures { result ≡ is_long columns.now }
 {
-    let sign = bytes[at + 1];
-    (bytes[at] == BLANK) & ((sign == BLANK) | (sign == MINUS)) & (bytes[at + 2] > ZERO)
+    let sign = columns[1];
+    (columns[0] == BLANK) & ((sign == BLANK) | (sign == MINUS)) & (columns[2] > ZERO)
 }
 
-// The first place from `from` on, before `end`, that has no blank; or else `end`.
-fn skip_blanks(bytes: &[u8], from: usize, end: usize) -> usize
-    requires { (from ≤ end) × (end ≤ length bytes.now) }
-    ensures { result ≡ from + blanks_of (slice from end bytes.now) }
+// How many blanks the columns begin with.
+fn skip_blanks(columns: &[u8]) -> usize
+    ensures { result ≡ blanks_of columns.now }
 {
-    let mut i = from;
-    while i < end {
-        if bytes[i] != BLANK {
+    for (i, byte) in columns.iter().enumerate() {
+        if *byte != BLANK {
             return i;
         }
-        i += 1;
     }
-    end
+    columns.len()
 }
 
-// The number of the digits from `from` to `end`; NO_NUMBER where the first is 0, or one of the bytes is no digit.
-fn read_number(bytes: &[u8], from: usize, end: usize, negative: bool) -> i32
-    requires { (from < end) × (end ≤ from + field_size) × (end ≤ length bytes.now) }
-    ensures { result ≡ number_read negative (slice from end bytes.now) }
+// The number of the digits; None where the first is 0, or one of the bytes is no digit.
+fn read_number(digits: &[u8], negative: bool) -> Option<i32>
+    requires { (0 < length digits.now) × (length digits.now ≤ field_size) }
+    ensures { result ≡ number_read negative digits.now }
 {
-    if bytes[from] == ZERO {
-        return NO_NUMBER;
+    if digits[0] == ZERO {
+        return None;
     }
-    read_digits(bytes, from, end, negative)
+    read_digits(digits, negative)
 }
 
-// The number of the digits from `from` to `end`; NO_NUMBER where one of the bytes is no digit.
-fn read_digits(bytes: &[u8], from: usize, end: usize, negative: bool) -> i32
-    requires { (from ≤ end) × (end ≤ from + field_size) × (end ≤ length bytes.now) }
-    ensures { result ≡ digits_read negative (slice from end bytes.now) }
+// The number of the digits; None where one of the bytes is no digit.
+fn read_digits(digits: &[u8], negative: bool) -> Option<i32>
+    requires { length digits.now ≤ field_size }
+    ensures { result ≡ digits_read negative digits.now }
 {
     let mut value = 0u32;
-    let mut i = from;
-    while i < end {
-        let byte = bytes[i];
-        if !is_digit(byte) {
-            return NO_NUMBER;
+    for byte in digits {
+        if !is_digit(*byte) {
+            return None;
         }
-        value = 10 * value + (byte - ZERO) as u32;
-        i += 1;
+        value = 10 * value + (*byte - ZERO) as u32;
     }
-    with_sign(negative, value)
+    Some(with_sign(negative, value))
 }
 
 // Whether a byte is a digit.
 fn is_digit(byte: u8) -> bool
     ensures { result ≡ is_digit byte }
 {
-    if byte < ZERO {
-        return false;
-    }
-    byte <= NINE
+    byte.is_ascii_digit()
 }
 
 // A number of at most nine digits with its sign.
@@ -120,7 +109,8 @@ fn with_sign(negative: bool, value: u32) -> i32
     ensures { result ≡ signed negative value }
 {
     if negative {
-        return -(value as i32);
+        -(value as i32)
+    } else {
+        value as i32
     }
-    value as i32
 }

@@ -1,2 +1,1 @@
--- Writing a field.
-pub mod Front
+-- Writing a field: the definitions are those of fields.

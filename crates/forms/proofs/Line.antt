@@ -11,9 +11,8 @@ use lib.Dec.{eqb, leb}
 use borrow.Author.Tests.{eqb-true, eq-eqb, leb-true, le-leb}
 use Rattle.integers.proofs.Order.{both_true}
 use Rattle.lists.specs.Lists.{Each, joined}
-use Rattle.refusals.specs.Numbers.{is_accepted, unless, first_of}
-use Rattle.refusals.specs.declared.Verdict.{Verdict}
-use Rattle.refusals.specs.declared.Verdict.TheVariants.{Accepted, LineMark, FieldForm, Unfit}
+use Rattle.refusals.specs.Numbers.{is_accepted, unless, first_of, Verdict, Accepted}
+use Rattle.refusals.specs.declared.Refusal.TheVariants.{LineMark, FieldForm, Unfit}
 use Rattle.refusals.proofs.Laws.{unless_accepted, first_both, accepted_only}
 use Rattle.fields.specs.Fields.{field_size, field, number_in, is_field}
 use Rattle.fields.proofs.Laws.{Short, field-length, number_field, field_good, good_field}
@@ -55,10 +54,10 @@ field_numbers_length (suc n) bytes = ap suc (field_numbers_length n (drop field_
 -- ---- what is accepted
 
 field_accepted : (range : ℤ → Bool) (w : List ℕ) → is_accepted (field_verdict range w) ≡ true → (is_field w ≡ true) × (range (number_in w) ≡ true)
-field_accepted range w e = (outer.0, (unless_accepted (range (number_in w)) Unfit Accepted (λ t. refl) outer.1).0)
+field_accepted range w e = (outer.0, (unless_accepted (range (number_in w)) Unfit Accepted outer.1).0)
   where
     outer : (is_field w ≡ true) × (is_accepted (unless (range (number_in w)) Unfit Accepted) ≡ true)
-    outer = unless_accepted (is_field w) FieldForm (unless (range (number_in w)) Unfit Accepted) (λ t. refl) e
+    outer = unless_accepted (is_field w) FieldForm (unless (range (number_in w)) Unfit Accepted) e
 
 pub record FieldsTold (ranges : List (ℤ → Bool)) (bytes : List ℕ) : Type 0 where
   pub pass : InRanges ranges (field_numbers (length ranges) bytes)
@@ -180,7 +179,7 @@ module _ (letter : ℕ) (ranges : List (ℤ → Bool)) (joint : List ℤ → Ver
       first : (leb (line_size count) (length bytes) ≡ true) × (eqb (get_or bytes 0 0) letter ≡ true)
       first =
           both_true (leb (line_size count) (length bytes)) (eqb (get_or bytes 0 0) letter)
-          (unless_accepted (leb (line_size count) (length bytes) && eqb (get_or bytes 0 0) letter) LineMark Accepted (λ t. refl) outer.0).0
+          (unless_accepted (leb (line_size count) (length bytes) && eqb (get_or bytes 0 0) letter) LineMark Accepted outer.0).0
 
       second : (is_accepted (fields_verdict ranges (drop 1 bytes)) ≡ true) × (is_accepted (first_of (joint numbers) (end_verdict count bytes)) ≡ true)
       second = first_both (fields_verdict ranges (drop 1 bytes)) (first_of (joint numbers) (end_verdict count bytes)) outer.1
@@ -209,7 +208,7 @@ module _ (letter : ℕ) (ranges : List (ℤ → Bool)) (joint : List ℤ → Ver
           end : get_or rest (field_size * count) 0 ≡ line_feed
           end =
               ap (λ (n : ℕ). get_or (b ∷ rest) n 0) (sym past)
-              ∙ eqb-true (get_or (b ∷ rest) (field_size * count + 1) 0) line_feed (unless_accepted (eqb (get_or (b ∷ rest) (field_size * count + 1) 0) line_feed) LineMark Accepted (λ t. refl) k).0
+              ∙ eqb-true (get_or (b ∷ rest) (field_size * count + 1) 0) line_feed (unless_accepted (eqb (get_or (b ∷ rest) (field_size * count + 1) 0) line_feed) LineMark Accepted k).0
 
           size : suc (suc (field_size * count)) ≡ line_size count
           size = omega arith
@@ -224,7 +223,7 @@ pub letter_room : (letter n : ℕ) (bytes : List ℕ) → is_accepted (letter_ve
 letter_room letter n bytes e =
     leb-true (line_size n) (length bytes)
     (both_true (leb (line_size n) (length bytes)) (eqb (get_or bytes 0 0) letter)
-    (unless_accepted (leb (line_size n) (length bytes) && eqb (get_or bytes 0 0) letter) LineMark Accepted (λ t. refl) e).0).0
+    (unless_accepted (leb (line_size n) (length bytes) && eqb (get_or bytes 0 0) letter) LineMark Accepted e).0).0
 
 -- so for the whole line
 pub line_room : (letter : ℕ) (ranges : List (ℤ → Bool)) (joint : List ℤ → Verdict) (bytes : List ℕ) → is_accepted ((line_form letter ranges joint).verdict bytes) ≡ true → line_size (length ranges) ≤ length bytes

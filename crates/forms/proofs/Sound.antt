@@ -8,9 +8,7 @@ use native.Mathlib.Omega.{arith}
 use lib.ListN.{length, take, drop, length-append, length-drop}
 use lib.Seq.{take-add, drop-append_seam}
 use Rattle.lists.specs.Lists.{Each}
-use Rattle.refusals.specs.Numbers.{is_accepted, first_of}
-use Rattle.refusals.specs.declared.Verdict.{Verdict}
-use Rattle.refusals.specs.declared.Verdict.TheVariants.{Accepted}
+use Rattle.refusals.specs.Numbers.{is_accepted, first_of, Verdict, Accepted}
 use Rattle.refusals.proofs.Laws.{first_both}
 use Rattle.forms.specs.Form.{Form, glued, both, first_text, in_turn, seen_as}
 

@@ -7,9 +7,7 @@ use native.Mathlib.Numerals.{add-one}
 use native.Mathlib.Omega.{arith}
 use lib.ListN.{length, get_or, drop, drop_of_length-le}
 use lib.Seq.{drop-cons, drop-drop}
-use Rattle.refusals.specs.Numbers.{is_accepted, first_of}
-use Rattle.refusals.specs.declared.Verdict.{Verdict}
-use Rattle.refusals.specs.declared.Verdict.TheVariants.{Accepted}
+use Rattle.refusals.specs.Numbers.{is_accepted, first_of, Verdict, Accepted}
 use Rattle.refusals.proofs.Laws.{first_accepted, first_refused}
 use Rattle.forms.specs.Form.{Form, in_turn}
 

@@ -1,9 +1,7 @@
 -- A form: how a value is written, and how it is read from bytes that begin with it. Forms stand one behind the other, one for each of some
 -- keys, or are seen as another type. Definitions only.
 use Rattle.std.specs.Prelude.{List, [], ◌∷◌, ◌++◌, ℕ, ◌+◌, drop}
-use Rattle.refusals.specs.Numbers.{first_of}
-use Rattle.refusals.specs.declared.Verdict.{Verdict}
-use Rattle.refusals.specs.declared.Verdict.TheVariants.{Accepted}
+use Rattle.refusals.specs.Numbers.{first_of, Verdict, Accepted}
 
 pub record Form (A : Type 0) : Type 0 where
   -- the bytes of a value

@@ -3,9 +3,8 @@
 -- fields, in place of 14 and ahead of its line end."
 use Rattle.std.specs.Prelude.{Bool, ◌&&◌, List, [], ◌∷◌, ◌++◌, ℕ, zero, suc, ◌+◌, ◌*◌, eqb, leb, ℤ, length, get_or, take, drop}
 use Rattle.lists.specs.Lists.{joined}
-use Rattle.refusals.specs.Numbers.{unless, first_of}
-use Rattle.refusals.specs.declared.Verdict.{Verdict}
-use Rattle.refusals.specs.declared.Verdict.TheVariants.{Accepted, LineMark, FieldForm, Unfit}
+use Rattle.refusals.specs.Numbers.{unless, first_of, Verdict, Accepted}
+use Rattle.refusals.specs.declared.Refusal.TheVariants.{LineMark, FieldForm, Unfit}
 use Rattle.fields.specs.Fields.{field_size, field, number_in, is_field}
 use Rattle.forms.specs.Form.{Form}
 

@@ -28,7 +28,7 @@ abbrev side_after : List Float → List Float → Side → (ℕ → ℤ) → ℕ
 side_after bands l e xs k = channel_played (bands_at_side bands e) xs (channel_at_side l e) k
 
 -- T of each side in frame k
-abbrev totals_of : List Float → List Float → List Float → ℕ → Sides
+abbrev totals_of : List Float → List Float → List Float → ℕ → Sides Float
 totals_of bands l words k =
     record {
       first = float (exact_mix (side_after bands l first_side (first_words words) (suc k)));
@@ -84,7 +84,7 @@ module _ (bands l words : List Float) (count : ℕ) (asks : MixWordsAsks bands l
     pub room : 2 * k + 1 < length w
     room = omega (arith, below, asks.few, p.words_size)
 
-    module _ (after : List Float) (totals : Sides) (g : FrameGives bands m (sides_at words (2 * k)) after totals) where
+    module _ (after : List Float) (totals : Sides Float) (g : FrameGives bands m (sides_at words (2 * k)) after totals) where
       channel_next : (e : Side) (xs : ℕ → ℤ) (x t : Float) → xs k ≡ whole_of x → channel_at_side m e ≡ side_after bands l e xs k → SideGives bands m e x after t → channel_at_side after e ≡ side_after bands l e xs (suc k)
       unfolding channel_played
       channel_next e xs x t i c s = s.channel ∙ (λ r. channel_frame (bands_at_side bands e) (sym i r) (c r))
@@ -120,6 +120,6 @@ module _ (bands l words : List Float) (count : ℕ) (asks : MixWordsAsks bands l
         size = p.size;
         whole = p.whole;
         words_size = p.words_size;
-        first = record { channel = p.first; totals_are = λ j h. ap (λ (s : Sides). s.first) (p.done j h) };
-        second = record { channel = p.second; totals_are = λ j h. ap (λ (s : Sides). s.second) (p.done j h) };
+        first = record { channel = p.first; totals_are = λ j h. ap (λ (s : Sides Float). s.first) (p.done j h) };
+        second = record { channel = p.second; totals_are = λ j h. ap (λ (s : Sides Float). s.second) (p.done j h) };
       }

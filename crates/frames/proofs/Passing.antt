@@ -102,13 +102,13 @@ module _ (bands l : List Float) (volume : FloatLevel) (size at count : ℕ) (inp
       first_word k h = (x.0 ∙ column_behind input size at done k, x.1)
         where
           x : (first_words w k ≡ word_at input (size * k + from)) × InputFloat (float_at w (2 * k))
-          x = word_float input (size * k + from) (float_at w (2 * k)) (ap (λ (s : Sides). s.first) (r.words_are k h))
+          x = word_float input (size * k + from) (float_at w (2 * k)) (ap (λ (s : Sides Float). s.first) (r.words_are k h))
 
       second_word : (k : ℕ) → k < n → (second_words w k ≡ column_word input size (at + 2) (k + done)) × InputFloat (float_at w (2 * k + 1))
       second_word k h = (x.0 ∙ second_behind input size at done k, x.1)
         where
           x : (second_words w k ≡ word_at input (size * k + (from + 2))) × InputFloat (float_at w (2 * k + 1))
-          x = word_float input (size * k + (from + 2)) (float_at w (2 * k + 1)) (ap (λ (s : Sides). s.second) (r.words_are k h))
+          x = word_float input (size * k + (from + 2)) (float_at w (2 * k + 1)) (ap (λ (s : Sides Float). s.second) (r.words_are k h))
 
       pub mix_asks : MixWordsAsks bands m w n
       mix_asks =

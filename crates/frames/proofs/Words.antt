@@ -12,7 +12,7 @@ use Rattle.engine.specs.declared.Sides.{Sides}
 use Rattle.engine.specs.Layout.{sides_at, put_sides}
 use Rattle.engine.proofs.Store.{sides_outside, sides_same}
 
-module _ (l : List Float) (k : ℕ) (s : Sides) where
+module _ (l : List Float) (k : ℕ) (s : Sides Float) where
   -- another frame's words stay
   pub words_other : (j : ℕ) → (j ≡ k → ⊥) → sides_at (put_sides l (2 * k) s) (2 * j) ≡ sides_at l (2 * j)
   words_other j a =
@@ -23,7 +23,7 @@ module _ (l : List Float) (k : ℕ) (s : Sides) where
       }
 
   -- frame k's words are stored behind those of the frames before
-  pub words_more : (f : ℕ → Sides) → 2 * k + 1 < length l → s ≡ f k → ((j : ℕ) → j < k → sides_at l (2 * j) ≡ f j) → (j : ℕ) → j < suc k → sides_at (put_sides l (2 * k) s) (2 * j) ≡ f j
+  pub words_more : (f : ℕ → Sides Float) → 2 * k + 1 < length l → s ≡ f k → ((j : ℕ) → j < k → sides_at l (2 * j) ≡ f j) → (j : ℕ) → j < suc k → sides_at (put_sides l (2 * k) s) (2 * j) ≡ f j
   words_more f h e before j r = go (eqb j k) refl
     where
       go : (t : Bool) → eqb j k ≡ t → sides_at (put_sides l (2 * k) s) (2 * j) ≡ f j

@@ -41,8 +41,7 @@ pub fn frames(
 {
     let size = SAMPLE_SIZE * (engine::SIDE_COUNT * pairs);
     let mut level = volume;
-    let mut p = 0;
-    while p < pairs {
+    for p in 0..pairs {
         let from = engine::PAIR_FLOATS * p;
         let to = from + engine::PAIR_FLOATS;
         level = pair_frames(
@@ -55,7 +54,6 @@ pub fn frames(
             input,
             output,
         );
-        p += 1;
     }
     level
 }
@@ -77,6 +75,7 @@ fn pair_frames(
     let mut words = [0.0f64; PASS_WORDS];
     let mut level = volume;
     let mut done = 0;
+    // A `while`: the last pass may be shorter.
     while done < count {
         let left = count - done;
         let n = pass_frames(left);
@@ -93,10 +92,7 @@ fn pair_frames(
 fn pass_frames(left: usize) -> usize
     ensures { result ≡ min pass_frames left }
 {
-    if left < PASS_FRAMES {
-        return left;
-    }
-    PASS_FRAMES
+    left.min(PASS_FRAMES)
 }
 
 // The input words of a pair in so many frames: x = 256 × s.
@@ -104,15 +100,13 @@ fn read_words(words: &mut [f64], input: &[u8], size: usize, at: usize, count: us
     requires { ReadWordsAsks words.old input.now size at count }
     ensures { ReadWordsGives input.now size at count words.new }
 {
-    let mut k = 0;
-    while k < count {
+    for k in 0..count {
         let second = at + SAMPLE_SIZE;
         let x = Sides {
             first: word(input, size * k + at),
             second: word(input, size * k + second),
         };
         engine::put_sides(words, engine::SIDE_COUNT * k, x);
-        k += 1;
     }
 }
 
@@ -121,12 +115,10 @@ fn mix_words(bands: &[f64; engine::SET_FLOATS], pair: &mut [f64], words: &mut [f
     requires { MixWordsAsks bands.now pair.old words.old count }
     ensures { MixWordsGives bands.now pair.old words.old count pair.new words.new }
 {
-    let mut k = 0;
-    while k < count {
+    for k in 0..count {
         let x = engine::sides_at(words, engine::SIDE_COUNT * k);
         let totals = engine::frame(bands, pair, x);
         engine::put_sides(words, engine::SIDE_COUNT * k, totals);
-        k += 1;
     }
 }
 
@@ -143,19 +135,20 @@ fn put_sounds(
     ensures { PutSoundsGives totals.now volume output.old size at count result output.new }
 {
     let mut level = volume;
-    let mut k = 0;
-    while k < count {
+    for k in 0..count {
         let second = at + SAMPLE_SIZE;
         level = level.moved(levels::VOLUME_SLOPE);
-        let present = level.present;
         let total = engine::sides_at(totals, engine::SIDE_COUNT * k);
-        put_sample(output, size * k + at, engine::output(present, total.first));
+        put_sample(
+            output,
+            size * k + at,
+            engine::output(level.present, total.first),
+        );
         put_sample(
             output,
             size * k + second,
-            engine::output(present, total.second),
+            engine::output(level.present, total.second),
         );
-        k += 1;
     }
     level
 }
@@ -173,11 +166,7 @@ fn sample(input: &[u8], at: usize) -> i64
     requires { at + 1 < length input.now }
     ensures { result ≡ sample_at input.now at }
 {
-    let bits = input[at] as u32 + 256 * (input[at + 1] as u32);
-    if bits < 32768 {
-        return bits as i64;
-    }
-    bits as i64 - 65536
+    i16::from_le_bytes([input[at], input[at + 1]]) as i64
 }
 
 // Stores a sample in the two bytes at `at`.
@@ -185,7 +174,7 @@ fn put_sample(output: &mut [u8], at: usize, sample: i64)
     requires { (at + 1 < length output.old) × (sample_low ≤ℤ sample) × (sample ≤ℤ sample_high) }
     ensures { output.new ≡ put_sample output.old at sample }
 {
-    let bits = (sample + 65536) as u32;
-    output[at] = (bits % 256) as u8;
-    output[at + 1] = (bits / 256 % 256) as u8;
+    let bytes = (sample as i16).to_le_bytes();
+    output[at] = bytes[0];
+    output[at + 1] = bytes[1];
 }

@@ -43,11 +43,8 @@ fn tell(rt: &HostRuntime, count: usize, first: &[u8], request: Request)
 fn make_sheet(rt: &HostRuntime, count: usize, first: &[u8])
     requires { is_plain (request_of count first.now) ≡ true }
 {
-    let set = bands::house_set();
-    let loaded = loading::load(&set);
-    let unit = loaded.unit;
     let mut sheet = [0u8; sheet::SHEET_SIZE];
-    let part = writing::write(unit, &mut sheet);
+    let part = writing::write(loading::house_unit(), &mut sheet);
     hand_out(rt, part);
 }
 

@@ -12,7 +12,7 @@ use Rattle.unit.specs.Fit.{Fit}
 use Rattle.unit.proofs.Fitness.{fit_of_test}
 use Rattle.sheet.specs.Sheet.{side_letters, sheet_verdict, carried_unit}
 use Rattle.writing.specs.Written.{filled_count, filled}
-use Rattle.reading.specs.declared.SheetRead.{SheetRead}
+use Rattle.unit.specs.Answered.{Answered}
 use Rattle.reading.specs.Reading.{sheet_read}
 use Rattle.roundtrip.proofs.Holds.{round_trip}
 use Rattle.numbers.specs.Layout.{unit_of, numbers_of}
@@ -24,10 +24,10 @@ sheet_written h = record { count_is = h.0; buffer_is = h.1 }
 
 -- ---- a sheet that is read
 
-module _ (bytes : List ℕ) (l : List ℤ) (given : Unit) (answer : SheetRead) (read : answer ≡ sheet_read side_letters bytes given) where
+module _ (bytes : List ℕ) (l : List ℤ) (given : Unit) (answer : Answered) (read : answer ≡ sheet_read side_letters bytes given) where
   verdict_is : answer.verdict ≡ sheet_verdict side_letters bytes
   unfolding sheet_read
-  verdict_is = ap (λ (r : SheetRead). r.verdict) read
+  verdict_is = ap (λ (r : Answered). r.verdict) read
 
   -- refused, the lent numbers stay
   pub sheet_refused : {number : ℕ} → number ≡ number_of answer.verdict → is_accepted answer.verdict ≡ false → SheetReadGives l bytes number l
@@ -44,10 +44,10 @@ module _ (bytes : List ℕ) (l : List ℤ) (given : Unit) (answer : SheetRead) (
 
     -- accepted, whatever unit the reader is given
     carried : (w : Unit) → (sheet_read side_letters bytes w).unit ≡ carried_unit side_letters bytes
-    carried w = ap (λ (r : SheetRead). r.unit) ((round_trip side_letters).accepted_reads bytes yes w)
+    carried w = ap (λ (r : Answered). r.unit) ((round_trip side_letters).accepted_reads bytes yes w)
 
     unit_is : answer.unit ≡ carried_unit side_letters bytes
-    unit_is = ap (λ (r : SheetRead). r.unit) read ∙ carried given
+    unit_is = ap (λ (r : Answered). r.unit) read ∙ carried given
 
     -- the unit is fit
     pub carried-fits : Fit answer.unit

@@ -6,6 +6,7 @@ use Rattle.bands.specs.declared.Band.{Band}
 use Rattle.section.specs.Equation.{flag}
 use Rattle.section.specs.declared.Section.{Section}
 use Rattle.section.specs.declared.Stepped.{Stepped}
+use Rattle.section.specs.Step.{step_verdict, stepped}
 use Rattle.preview.specs.Preview.{Buffers, preview_verdict, previewed}
 use Rattle.unit.specs.Sizes.{channel_count}
 use Rattle.settings.specs.declared.Setting.{Setting}
@@ -32,9 +33,11 @@ abbrev pub lone_numbers : Section → List ℤ
 lone_numbers s = s.band.alpha ∷ s.band.beta ∷ s.band.gamma ∷ s.x1 ∷ s.x2 ∷ s.y1 ∷ s.y2 ∷ []
 
 -- a step's answer as numbers: y, the remainder, 1 where the section has limited, and the refusal's number
-abbrev pub answer_of : Stepped → StepAnswer
-answer_of r =
-    record { y = r.y; remainder = r.remainder; limited = flag r.limited; refusal = number_of r.verdict }
+abbrev pub answer_with : ℕ → Stepped → StepAnswer
+answer_with number r = record { y = r.y; remainder = r.remainder; limited = flag r.limited; refusal = number }
+
+abbrev pub answer_of : Section → ℤ → StepAnswer
+answer_of s x = answer_with (number_of (step_verdict s x)) (stepped s x)
 
 -- a preview: the refusal's number, and the two buffers
 pub record PreviewGives (band : Band) (words : List ℤ) (lent : Buffers) (number : ℕ) (after : Buffers) : Type 0 where

@@ -9,7 +9,7 @@ ghost use Rattle.numbers.specs.Layout.{numbers_of};
 ghost use Rattle.lending.specs.Layout.{lone_section, lone_numbers, answer_of, BlockGives, OrderGives, SheetWriteGives, SheetReadGives};
 
 use bands::Band;
-use section::{Section, Stepped};
+use section::Section;
 use settings::Setting;
 
 // A section as numbers: A, B, G, x1, x2, y1, y2.
@@ -17,7 +17,7 @@ pub const SECTION_NUMBERS: usize = 7;
 
 // What a step gives, as numbers: y, the remainder, 1 where the section has limited, else 0, and the refusal's number, 0 where there is none.
 #[repr(C)]
-#[derive(Clone, Copy)]
+#[derive(Clone, Copy, Debug, Default, PartialEq, Eq)]
 pub struct StepAnswer {
     pub y: i32,
     pub remainder: i32,
@@ -28,46 +28,57 @@ pub struct StepAnswer {
 // One step of the section whose seven numbers are lent: A, B, G, x1, x2, y1, y2. They are those of the section after the step;
 // refused, they stay as they are.
 pub fn section_step(numbers: &mut [i32; SECTION_NUMBERS], x: i32) -> StepAnswer
-    ensures { (result ≡ answer_of (stepped (lone_section numbers.old) x)) × (numbers.new ≡ lone_numbers (stepped (lone_section numbers.old) x).section) }
+    ensures { (result ≡ answer_of (lone_section numbers.old) x) × (numbers.new ≡ lone_numbers (stepped (lone_section numbers.old) x).section) }
 {
-    let alpha = numbers[0];
-    let beta = numbers[1];
-    let gamma = numbers[2];
-    let x1 = numbers[3];
-    let x2 = numbers[4];
-    let y1 = numbers[5];
-    let y2 = numbers[6];
-    let answer = section::step(
-        Section {
-            band: Band { alpha, beta, gamma },
-            x1,
-            x2,
-            y1,
-            y2,
+    let [alpha, beta, gamma, x1, x2, y1, y2] = *numbers;
+    let section = Section {
+        band: Band { alpha, beta, gamma },
+        x1,
+        x2,
+        y1,
+        y2,
+    };
+    match section::step(section, x) {
+        Ok(stepped) => {
+            store(numbers, stepped.section);
+            StepAnswer {
+                y: stepped.y,
+                remainder: stepped.remainder,
+                limited: u32::from(stepped.limited),
+                refusal: 0,
+            }
+        }
+        Err(refusal) => StepAnswer {
+            y: 0,
+            remainder: 0,
+            limited: 0,
+            refusal: refusals::number(Err(refusal)),
         },
-        x,
-    );
-    let after = answer.section;
+    }
+}
+
+// Stores the seven numbers of a section.
+fn store(numbers: &mut [i32; SECTION_NUMBERS], section: Section)
+    ensures { numbers.new ≡ lone_numbers section }
+{
     *numbers = [
-        after.band.alpha,
-        after.band.beta,
-        after.band.gamma,
-        after.x1,
-        after.x2,
-        after.y1,
-        after.y2,
+        section.band.alpha,
+        section.band.beta,
+        section.band.gamma,
+        section.x1,
+        section.x2,
+        section.y1,
+        section.y2,
     ];
-    answer_of(answer)
 }
 
 // Loads a band set: the lent numbers are then those of the loaded unit. 0 for an accepted set, else the number of its refusal.
 pub fn load(numbers: &mut [i32; numbers::UNIT_SIZE], set: &[i32]) -> u32
     ensures { (result ≡ number_of (loaded set.now).verdict) × (numbers.new ≡ numbers_of (loaded set.now).unit) }
 {
-    let answer = loading::load(set);
-    let verdict = answer.verdict;
-    let unit = answer.unit;
-    *numbers = numbers::numbers_of(unit);
+    let mut loaded = loading::house_unit();
+    let verdict = loading::load(&mut loaded, set);
+    *numbers = numbers::numbers_of(loaded);
     refusals::number(verdict)
 }
 
@@ -109,32 +120,13 @@ pub fn sheet_write(numbers: &[i32; numbers::UNIT_SIZE], buffer: &mut [u8]) -> us
 pub fn sheet_read(numbers: &mut [i32; numbers::UNIT_SIZE], bytes: &[u8]) -> u32
     ensures { SheetReadGives numbers.old bytes.now result numbers.new }
 {
-    // Of a refused sheet the numbers stay, whatever unit comes back: the reader is given one of zeros.
-    let zero = Band {
-        alpha: 0,
-        beta: 0,
-        gamma: 0,
-    };
-    let given = unit::cleared([zero; bands::BAND_COUNT]);
-    let answer = reading::read(bytes, given);
-    let verdict = answer.verdict;
-    if !refusals::accepted(verdict) {
-        return refusals::number(verdict);
-    }
-    let carried = answer.unit;
-    *numbers = numbers::numbers_of(carried);
-    refusals::number(verdict)
-}
-
-// An answer as numbers.
-fn answer_of(answer: Stepped) -> StepAnswer
-    ensures { result ≡ answer_of answer }
-{
-    let verdict = answer.verdict;
-    StepAnswer {
-        y: answer.y,
-        remainder: answer.remainder,
-        limited: answer.limited as u32,
-        refusal: refusals::number(verdict),
+    // Of a refused sheet the numbers stay, whatever unit the reader was lent.
+    let mut unit = loading::house_unit();
+    match reading::read(bytes, &mut unit) {
+        Ok(()) => {
+            *numbers = numbers::numbers_of(unit);
+            0
+        }
+        Err(refusal) => refusals::number(Err(refusal)),
     }
 }

@@ -1,12 +1,11 @@
 -- A block played through the unit whose numbers are lent. Definitions only.
-use Rattle.std.specs.Prelude.{◌≡◌, true, List, ◌++◌, ℕ, ℤ, length, drop}
-use Rattle.refusals.specs.Numbers.{is_accepted}
-use Rattle.refusals.specs.declared.Verdict.{Verdict}
+use Rattle.std.specs.Prelude.{◌≡◌, List, ◌++◌, ℕ, ℤ, length, drop}
+use Rattle.refusals.specs.Numbers.{Verdict}
 use Rattle.unit.specs.Sizes.{channel_count}
 use Rattle.frames.specs.Bytes.{frame_count}
 use Rattle.frames.specs.Played.{played, sound}
-use Rattle.blocks.specs.Block.{block_verdict, block_played, block_output}
-use Rattle.numbers.specs.Layout.{unit_size, numbers_of, unit_of, numbers_after}
+use Rattle.blocks.specs.Block.{block_played, block_output}
+use Rattle.numbers.specs.Layout.{numbers_of, unit_of, numbers_after}
 
 -- the verdict, the numbers after the block, and the output
 pub record PlayGives (l : List ℤ) (input room : List ℕ) (verdict : Verdict) (after : List ℤ) (filled : List ℕ) : Type 0 where
@@ -15,10 +14,6 @@ pub record PlayGives (l : List ℤ) (input room : List ℕ) (verdict : Verdict) 
   pub output_is : filled ≡ block_output channel_count (unit_of l) input room
 
 -- ---- an accepted block
-
-pub record RunAsks (l : List ℤ) (input room : List ℕ) : Type 0 where
-  pub size : length l ≡ unit_size
-  pub accepted : is_accepted (block_verdict channel_count (unit_of l) (length input) (length room)) ≡ true
 
 -- the numbers of the unit after all frames, and their sound, with the bytes beyond as they were
 pub record RunGives (l : List ℤ) (input room : List ℕ) (after : List ℤ) (filled : List ℕ) : Type 0 where

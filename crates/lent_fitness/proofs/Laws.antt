@@ -6,7 +6,8 @@ use Prim.Native.Nat.{◌*◌, ◌≤◌}
 use lib.IntN.{ℤ, pos, neg_ℤ}
 use lib.ListN.{length, take, drop}
 use Rattle.integers.proofs.Parts.{linear}
-use Rattle.lists.specs.Lists.{every, joined}
+use Rattle.lists.specs.Lists.{joined}
+use Rattle.std.specs.List.{list_all}
 use Rattle.rounding.proofs.Limit.{within_bounds, bounds_within}
 use Rattle.words.specs.Words.{word_low, word_high, is_word}
 use Rattle.bands.specs.Bands.{band_count}
@@ -41,15 +42,15 @@ abbrev pub remainder_fits : BandSection → Bool
 remainder_fits s = is_remainder s.remainder
 
 -- all sections
-words_and_remainders : (ss : List BandSection) → every is_word (joined section_numbers ss) && every remainder_fits ss ≡ every section_fits ss
+words_and_remainders : (ss : List BandSection) → list_all is_word (joined section_numbers ss) && list_all remainder_fits ss ≡ list_all section_fits ss
 words_and_remainders [] = refl
 words_and_remainders (s ∷ ss) =
     regroup (is_word s.y1) (is_word s.y2) (is_word s.gain.present) (is_word s.gain.target) (is_word s.remainder)
-    (is_remainder s.remainder) (every is_word (joined section_numbers ss)) _ (remainder_word s.remainder)
+    (is_remainder s.remainder) (list_all is_word (joined section_numbers ss)) _ (remainder_word s.remainder)
     ∙ ap (λ (t : Bool). section_fits s && t) (words_and_remainders ss)
 
 -- ten sections of a channel's numbers
-pub sections_fit_lem : (l : List ℤ) → channel_size ≤ length l → every is_word (take (section_size * band_count) (drop head_size l)) && every remainder_fits (channel_of l).sections ≡ every section_fits (channel_of l).sections
+pub sections_fit_lem : (l : List ℤ) → channel_size ≤ length l → list_all is_word (take (section_size * band_count) (drop head_size l)) && list_all remainder_fits (channel_of l).sections ≡ list_all section_fits (channel_of l).sections
 sections_fit_lem l h =
-    ap (λ (m : List ℤ). every is_word m && every remainder_fits (channel_of l).sections) (sym (sections_numbers l band_count h))
+    ap (λ (m : List ℤ). list_all is_word m && list_all remainder_fits (channel_of l).sections) (sym (sections_numbers l band_count h))
     ∙ words_and_remainders (channel_of l).sections

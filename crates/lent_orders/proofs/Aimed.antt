@@ -3,7 +3,7 @@ use mathlib.Core.Path.{◌≡◌, refl, sym, ap, ◌∙◌}
 use mathlib.Core.Bool.{Bool, true, false, cond}
 use mathlib.Core.List.{List, [], ◌∷◌}
 use mathlib.Core.Logic.{⊎_elim}
-use Prim.Native.Nat.{ℕ, ◌+◌, ◌-◌, ◌≤◌, ◌<◌}
+use Prim.Native.Nat.{ℕ, zero, suc, ◌+◌, ◌-◌, ◌≤◌, ◌<◌}
 use native.Mathlib.Nat.{eq-or-lt_of_le}
 use native.Mathlib.Omega.{arith}
 use lib.Dec.{eqb, ltb}
@@ -20,7 +20,7 @@ use Rattle.settings.specs.Settings.{volume_band, names}
 use Rattle.orders.specs.Orders.{aimed_channel, aimed_volume, aimed_band, aimed_unit}
 use Rattle.numbers.specs.Layout.{channel_size, unit_size, bands_place, left_place, right_place, place, channel_of, numbers_of, unit_of}
 use Rattle.numbers.proofs.Laws.{numbers_of_unit}
-use Rattle.lent_orders.specs.Places.{channel_place, target_place, volume_target}
+use Rattle.lent_orders.specs.Places.{channel_place, target_place, volume_target, named, named_below}
 use Rattle.lent_orders.proofs.Stored.{channel_kept, bands_kept, channel_aimed}
 
 -- ---- a band's target in a channel
@@ -71,16 +71,16 @@ module _ (l : List ℤ) (t : ℤ) where
 -- ---- the numbers after an order
 
 module _ (side band : ℕ) (t : ℤ) where
-  -- the band's target stored in a channel, where the side names it
-  abbrev pub named : ℕ → List ℤ → List ℤ
-  named channel m = cond (names side channel) (set m (target_place channel band) t) m
-
-  pub named_size : (channel : ℕ) (m : List ℤ) → length (named channel m) ≡ length m
+  pub named_size : (channel : ℕ) (m : List ℤ) → length (named side band t channel m) ≡ length m
   named_size channel m = go (names side channel)
     where
       go : (s : Bool) → length (cond s (set m (target_place channel band) t) m) ≡ length m
       go true = length-set m (target_place channel band) t
       go false = refl
+
+  pub named_below_size : (channels : ℕ) (m : List ℤ) → length (named_below side band t channels m) ≡ length m
+  named_below_size zero m = refl
+  named_below_size (suc channel) m = named_size channel (named_below side band t channel m) ∙ named_below_size channel m
 
 module _ (side band : ℕ) (t : ℤ) (l : List ℤ) (size : length l ≡ unit_size) where
   -- in one channel or in both: the unit that they then stand for

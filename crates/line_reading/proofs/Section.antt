@@ -1,101 +1,67 @@
--- The fields of an S line: four words, and the remainder, or 0 where the line has no fifth field.
-use mathlib.Core.Path.{◌≡◌, refl, sym, ap, ap₂, ◌∙◌}
-use mathlib.Core.Bool.{Bool, true, false}
+-- The fields of an S line: four words, and the remainder or 0.
+use mathlib.Core.Path.{◌≡◌, refl, sym, ap, subst, ◌∙◌}
+use mathlib.Core.Bool.{Bool}
 use mathlib.Core.List.{List, [], ◌∷◌, ◌++◌}
-use Prim.Native.Nat.{ℕ, suc, ◌+◌, ◌*◌}
-use native.Mathlib.Omega.{arith}
-use lib.IntN.{ℤ, pos}
-use lib.ListN.{length, take, drop, set, replicate, length-set}
-use lib.Seq.{sets, drop-drop}
-use Rattle.lists.proofs.Stores.{sets_append}
+use Prim.Native.Nat.{ℕ, ◌-◌}
+use lib.IntN.{ℤ}
+use lib.ListN.{length, take, drop}
+use lib.Seq.{drop-drop}
+use Rattle.std.specs.Prelude.{Ok, Err}
+use Rattle.std.proofs.lemmas.List.{take_rest}
+use Rattle.refusals.specs.Numbers.{Accepted}
+use Rattle.refusals.specs.declared.Refusal.{Refusal}
 use Rattle.words.specs.Words.{is_word}
-use Rattle.refusals.specs.Numbers.{is_accepted, first_of}
-use Rattle.refusals.specs.declared.Verdict.{Verdict}
-use Rattle.refusals.specs.declared.Verdict.TheVariants.{Accepted}
-use Rattle.refusals.proofs.Laws.{first_accepted, first_refused, first_assoc, never}
-use Rattle.unit.specs.Fit.{is_remainder}
-use Rattle.fields.specs.Fields.{field_size, number_in}
-use Rattle.forms.specs.Line.{field_verdict, fields_verdict, field_numbers}
-use Rattle.sheet.specs.Lines.{row_at, fifth_range, section_ranges}
-use Rattle.line_reading.specs.Gives.{FieldsGive, five_of, FifthGives, SectionGives}
-use Rattle.line_reading.proofs.Field.{refusal}
+use Rattle.unit.specs.declared.BandSection.{BandSection}
+use Rattle.forms.specs.Line.{fields_verdict, field_numbers}
+use Rattle.sheet.specs.Lines.{row_at, fifth_range, section_ranges, section_of_row}
+use Rattle.line_reading.specs.Gives.{numbers_read, remainder_read}
+use Rattle.line_reading.proofs.Results.{read_off, read_on}
+use Rattle.line_reading.proofs.Fields.{back_off, both_on}
 
--- ---- the fifth field
+abbrev pub four_words : List (ℤ → Bool)
+four_words = is_word ∷ is_word ∷ is_word ∷ is_word ∷ []
 
--- none
-pub fifth_none : (fifth : Bool) (bytes : List ℕ) (before : List ℤ) (place : ℕ) → fifth ≡ false → FifthGives fifth bytes before place Accepted (set before place (pos 0))
-fifth_none true bytes before place e = never true e refl
-fifth_none false bytes before place e =
-    record { verdict_is = refl; size_is = length-set before place (pos 0); numbers_are = λ q. refl }
-
--- one
-pub fifth_read : (fifth : Bool) (bytes : List ℕ) (before : List ℤ) (place : ℕ) {v : Verdict} {after : List ℤ} → fifth ≡ true → FieldsGive (is_remainder ∷ []) bytes before place v after → FifthGives fifth bytes before place v after
-fifth_read true bytes before place e s = s
-fifth_read false bytes before place e s = never false refl e
-
--- ---- some fields and then others
-
--- the bytes behind one field and some more
-further : (n : ℕ) (bytes : List ℕ) → drop (field_size * n) (drop field_size bytes) ≡ drop (field_size * suc n) bytes
-further n bytes = drop-drop (field_size * n) field_size bytes ∙ ap (λ (k : ℕ). drop k bytes) size
-  where
-    size : field_size + field_size * n ≡ field_size * suc n
-    size = omega arith
-
-fields_split : (some others : List (ℤ → Bool)) (bytes : List ℕ) → fields_verdict (some ++ others) bytes ≡ first_of (fields_verdict some bytes) (fields_verdict others (drop (field_size * length some) bytes))
-fields_split [] others bytes = refl
-fields_split (range ∷ some) others bytes =
-    ap (first_of one) (fields_split some others (drop field_size bytes))
-    ∙ sym (first_assoc one (fields_verdict some (drop field_size bytes)) (fields_verdict others (drop (field_size * length some) (drop field_size bytes))))
-    ∙ ap (λ (l : List ℕ). first_of (first_of one (fields_verdict some (drop field_size bytes))) (fields_verdict others l)) (further (length some) bytes)
-  where
-    one : Verdict
-    one = field_verdict range (take field_size bytes)
-
-numbers_split : (some others : List (ℤ → Bool)) (bytes : List ℕ) → field_numbers (length (some ++ others)) bytes ≡ field_numbers (length some) bytes ++ field_numbers (length others) (drop (field_size * length some) bytes)
-numbers_split [] others bytes = refl
-numbers_split (range ∷ some) others bytes =
-    ap (λ (l : List ℤ). number_in (take field_size bytes) ∷ l)
-    (numbers_split some others (drop field_size bytes)
-    ∙ ap (λ (l : List ℕ). field_numbers (length some) (drop field_size bytes) ++ field_numbers (length others) l) (further (length some) bytes))
-
--- ---- all fields
-
--- four words
-abbrev words : List (ℤ → Bool)
-words = replicate 4 is_word
-
-module _ (fifth : Bool) (bytes : List ℕ) (at : ℕ) {before : List ℤ} {place : ℕ} {u : Verdict} {m : List ℤ} (s : FieldsGive words (drop at bytes) before place u m) where
-  abbrev from : List ℕ
-  from = drop at bytes
-
+module _ (fifth : Bool) (bytes : List ℕ) where
+  -- the bytes behind the letter, and those behind the words
   abbrev behind : List ℕ
-  behind = drop (field_size * length words) from
+  behind = take (length bytes - 1) (drop 1 bytes)
 
-  split : fields_verdict (section_ranges fifth) from ≡ first_of u (fields_verdict (fifth_range fifth) behind)
-  split =
-      fields_split words (fifth_range fifth) from
-      ∙ ap (λ (v : Verdict). first_of v (fields_verdict (fifth_range fifth) behind)) (sym s.verdict_is)
+  abbrev last : List ℕ
+  last = take (length bytes - 37) (drop 37 bytes)
 
-  -- a word is refused
-  pub words_refused : is_accepted u ≡ false → SectionGives fifth from before place u m
-  words_refused f = refusal (sym (split ∙ first_refused u (fields_verdict (fifth_range fifth) behind) f)) s.size_is f
+  last_is : last ≡ drop 36 behind
+  last_is = take_rest bytes 37 ∙ sym (ap (drop 36) (take_rest bytes 1) ∙ drop-drop 36 1 bytes)
 
-  -- all are accepted, and the fifth field is read
-  pub section_read : is_accepted u ≡ true → {v : Verdict} {after : List ℤ} → FifthGives fifth (drop (at + field_size * length words) bytes) m (place + length words) v after → SectionGives fifth from before place v after
-  section_read e {v} {after} t =
-      record {
-        verdict_is = t.verdict_is ∙ ap (fields_verdict (fifth_range fifth)) past ∙ sym (split ∙ first_accepted u (fields_verdict (fifth_range fifth) behind) e);
-        size_is = t.size_is ∙ s.size_is;
-        numbers_are = λ q.
-            t.numbers_are q
-            ∙ ap₂ (λ (l : List ℤ) (k : List ℕ). sets l (place + length words) (last k)) (s.numbers_are e) past
-            ∙ sets_append (field_numbers (length words) from) (last behind) before place (place + length words) refl
-            ∙ ap (λ (l : List ℤ). sets before place (five_of l)) (sym (numbers_split words (fifth_range fifth) from));
-      }
-    where
-      past : drop (at + field_size * length words) bytes ≡ behind
-      past = sym (drop-drop (field_size * length words) at bytes)
+  -- the number of the fifth field
+  abbrev number : List ℕ → ℤ
+  number l = row_at (field_numbers (length (fifth_range fifth)) l) 0
 
-      last : List ℕ → List ℤ
-      last l = row_at (field_numbers (length (fifth_range fifth)) l) 0 ∷ []
+  module _ {words : List ℤ} (front : Ok words ≡ numbers_read four_words behind) where
+    -- the remainder is refused
+    pub remainder_off : {e : Refusal} → Err e ≡ remainder_read fifth last → Err e ≡ numbers_read (section_ranges fifth) behind
+    remainder_off h =
+        back_off four_words (fifth_range fifth) behind front
+        (ap (fields_verdict (fifth_range fifth)) (sym last_is) ∙ read_off (fields_verdict (fifth_range fifth) last) (number last) (sym h))
+
+    -- the section of the words and the remainder
+    abbrev of_both : ℤ → BandSection
+    of_both r =
+        record { y1 = row_at words 0; y2 = row_at words 1; gain = record { present = row_at words 2; target = row_at words 3 }; remainder = r }
+
+    -- it is accepted: the section is that of all numbers
+    pub remainder_on : {r : ℤ} → Ok r ≡ remainder_read fifth last
+        → (l : List ℤ) × (Ok l ≡ numbers_read (section_ranges fifth) behind) × (of_both r ≡ section_of_row l)
+    remainder_on {r} h = (
+      words ++ field_numbers (length (fifth_range fifth)) (drop 36 behind),
+      both_on four_words (fifth_range fifth) behind front (ap (fields_verdict (fifth_range fifth)) (sym last_is) ∙ on.0),
+      ap of_both (sym on.1 ∙ ap number last_is) ∙ apart (field_numbers (length (fifth_range fifth)) (drop 36 behind)),
+    )
+      where
+        on : (fields_verdict (fifth_range fifth) last ≡ Accepted) × (number last ≡ r)
+        on = read_on (fields_verdict (fifth_range fifth) last) (number last) (sym h)
+
+        -- the section of a row whose first four numbers are the words
+        apart : (l : List ℤ) → of_both (row_at l 0) ≡ section_of_row (words ++ l)
+        apart l =
+            subst (λ (ws : List ℤ). record { y1 = row_at ws 0; y2 = row_at ws 1; gain = record { present = row_at ws 2; target = row_at ws 3 }; remainder = row_at l 0 } ≡ section_of_row (ws ++ l))
+            (read_on (fields_verdict four_words behind) (field_numbers 4 behind) (sym front)).1 refl

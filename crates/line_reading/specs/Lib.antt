@@ -1,2 +1,2 @@
--- What reading into lent slots gives.
+-- Reading a line.
 pub mod Gives

@@ -1,265 +1,176 @@
-// Reading a line of the strip sheet into lent slots. Each routine stops at the first refusal; the slots of a refused line then hold nothing of
-// use.
+// Reading a line of the strip sheet, in the bytes from its letter on: what it carries, or the first refusal.
 #![tactic(auto)]
 
-ghost use Rattle.std.specs.Prelude.{◌≡◌, true, ◌+◌, ◌*◌, ◌≤◌, length, take, drop, replicate};
-ghost use Rattle.rounding.specs.Rounding.{within};
-ghost use Rattle.refusals.specs.Numbers.{first_of};
-ghost use Rattle.bands.specs.Bands.{band_size, band_verdict, band_at};
-ghost use Rattle.unit.specs.Fit.{is_input};
+ghost use Rattle.std.specs.Prelude.{◌≡◌, ◌+◌, ◌*◌, ◌≤◌, length, replicate};
+ghost use Rattle.bands.specs.Bands.{band_verdict};
 ghost use Rattle.fields.specs.Fields.{field_size, field_at};
-ghost use Rattle.forms.specs.Line.{line_size, letter_verdict, end_verdict, line_form, alone};
-ghost use Rattle.sheet.specs.Lines.{volume_letter, volume_ranges, band_letter, band_ranges, band_joint, head_ranges, head_form, fifth_range, section_ranges, section_row, section_form, row_size};
-ghost use Rattle.line_reading.specs.Gives.{FieldGives, FieldsGive, FormGives, LineGives, FifthGives, SectionGives};
+ghost use Rattle.forms.specs.Line.{letter_verdict, end_verdict};
+ghost use Rattle.sheet.specs.Lines.{volume_form, band_letter, band_form, head_ranges, head_form, fifth_range, section_form, row_size};
+ghost use Rattle.line_reading.specs.Gives.{is_admitted, form_read, number_read, numbers_read, remainder_read};
 
-use refusals::Verdict;
+use bands::Band;
+use levels::Level;
+use refusals::{Refusal, Verdict};
+use unit::BandSection;
 
-// The numbers of nine digits: a number of a C line has no range by itself.
-const LEAST: i32 = -999_999_999;
+// Where the flag of an L or an R line stands behind the line's first field, and the remainder of an S line.
+const FLAG_AT: usize = fields::FIELD_SIZE * (sheet::HEAD_FIELDS - 1);
 
-const MOST: i32 = 999_999_999;
-
-// The number of an L or an R line that is the flag, and where its field stands behind the line's first field.
-const FLAG: usize = sheet::HEAD_FIELDS - 1;
-
-const FLAG_AT: usize = fields::FIELD_SIZE * FLAG;
-
-// Where the field of the remainder stands behind the first field of an S line.
 const REMAINDER_AT: usize = fields::FIELD_SIZE * sheet::PLAIN_FIELDS;
 
-// Reads the V line from place at on: two numbers from 0 to the largest word.
-pub fn read_volume(bytes: &[u8], at: usize, slots: &mut [i32]) -> Verdict
-    requires { (at ≤ length bytes.now) × (length slots.old ≡ length volume_ranges) }
-    ensures { LineGives (line_form volume_letter volume_ranges alone) (drop at bytes.now) slots.old 0 result slots.new }
-{
-    let front = check_letter(bytes, at, sheet::VOLUME_LETTER, sheet::VOLUME_FIELDS);
-    if !refusals::accepted(front) {
-        return front;
-    }
-    let middle = read_fields(
-        bytes,
-        at + 1,
-        sheet::VOLUME_FIELDS,
-        0,
-        words::WORD_MOST,
-        slots,
-        0,
-    );
-    if !refusals::accepted(middle) {
-        return middle;
-    }
-    check_end(bytes, at, sheet::VOLUME_FIELDS)
+// The numbers that a field may have: any, as by itself in a C line; an input; or one between two ends.
+#[derive(Clone, Copy, Debug, PartialEq, Eq)]
+enum Range {
+    Any,
+    Input,
+    Between(i32, i32),
 }
 
-// Reads an S line from place at on, with the remainder or without it, into five slots.
-pub fn read_section(
-    bytes: &[u8],
-    at: usize,
-    fifth: bool,
-    slots: &mut [i32],
-    place: usize,
-) -> Verdict
-    requires { (at ≤ length bytes.now) × (place + row_size ≤ length slots.old) }
-    ensures { FormGives (section_form fifth) (section_row true) (drop at bytes.now) slots.old place result slots.new }
+// The ranges of a volume, a flag, a word and a remainder.
+const VOLUME: Range = Range::Between(0, words::WORD_MOST);
+
+const FLAG: Range = Range::Between(0, 1);
+
+const WORD: Range = Range::Between(words::WORD_LEAST, words::WORD_MOST);
+
+const REMAINDER: Range = Range::Between(unit::REMAINDER_LEAST, unit::REMAINDER_MOST);
+
+// Reads the V line: two numbers from 0 to the largest word.
+pub fn read_volume(bytes: &[u8]) -> Result<Level, Refusal>
+    ensures { result ≡ form_read volume_form bytes.now }
+{
+    check_letter(bytes, sheet::VOLUME_LETTER, sheet::VOLUME_FIELDS)?;
+    let numbers = read_numbers::<{ sheet::VOLUME_FIELDS }>(&bytes[1..], VOLUME)?;
+    check_end(bytes, sheet::VOLUME_FIELDS)?;
+    Ok(Level {
+        present: numbers[0] as i64,
+        target: numbers[1] as i64,
+    })
+}
+
+// Reads a C line: 8 to 10 stand behind its fields and ahead of its line end.
+pub fn read_band(bytes: &[u8]) -> Result<Band, Refusal>
+    ensures { result ≡ form_read (band_form band_letter) bytes.now }
+{
+    check_letter(bytes, sheet::BAND_LETTER, sheet::BAND_FIELDS)?;
+    let numbers = read_numbers::<{ sheet::BAND_FIELDS }>(&bytes[1..], Range::Any)?;
+    let band = bands::band_at(&numbers, 0);
+    bands::check_band(band)?;
+    check_end(bytes, sheet::BAND_FIELDS)?;
+    Ok(band)
+}
+
+// Reads the L or the R line with this letter: two inputs and a flag.
+pub fn read_head(bytes: &[u8], letter: u8) -> Result<[i32; sheet::HEAD_FIELDS], Refusal>
+    ensures { result ≡ form_read (head_form letter) bytes.now }
+{
+    check_letter(bytes, letter, sheet::HEAD_FIELDS)?;
+    let numbers = read_head_numbers(&bytes[1..])?;
+    check_end(bytes, sheet::HEAD_FIELDS)?;
+    Ok(numbers)
+}
+
+// Reads the fields of an L or an R line.
+fn read_head_numbers(bytes: &[u8]) -> Result<[i32; sheet::HEAD_FIELDS], Refusal>
+    requires { field_size * length head_ranges ≤ length bytes.now }
+    ensures { result ≡ numbers_read head_ranges bytes.now }
+{
+    let inputs = read_numbers::<2>(bytes, Range::Input)?;
+    let flag = read_numbers::<1>(&bytes[FLAG_AT..], FLAG)?;
+    Ok([inputs[0], inputs[1], flag[0]])
+}
+
+// Reads an S line, with the remainder or without it.
+pub fn read_section(bytes: &[u8], fifth: bool) -> Result<BandSection, Refusal>
+    ensures { result ≡ form_read (section_form fifth) bytes.now }
 {
     let count = sheet::section_fields(fifth);
-    let front = check_letter(bytes, at, sheet::SECTION_LETTER, count);
-    if !refusals::accepted(front) {
-        return front;
-    }
-    let middle = read_section_fields(bytes, at + 1, fifth, slots, place);
-    if !refusals::accepted(middle) {
-        return middle;
-    }
-    check_end(bytes, at, count)
+    check_letter(bytes, sheet::SECTION_LETTER, count)?;
+    let numbers = read_numbers::<{ sheet::PLAIN_FIELDS }>(&bytes[1..], WORD)?;
+    let remainder = read_remainder(&bytes[1 + REMAINDER_AT..], fifth)?;
+    check_end(bytes, count)?;
+    Ok(BandSection {
+        y1: numbers[0] as i64,
+        y2: numbers[1] as i64,
+        gain: Level {
+            present: numbers[2] as i64,
+            target: numbers[3] as i64,
+        },
+        remainder: remainder as i64,
+    })
 }
 
-// Reads the fields of an S line from place at on: four words, and the remainder.
-fn read_section_fields(
-    bytes: &[u8],
-    at: usize,
-    fifth: bool,
-    slots: &mut [i32],
-    place: usize,
-) -> Verdict
-    requires { (at + field_size * length (section_ranges fifth) ≤ length bytes.now) × (place + row_size ≤ length slots.old) }
-    ensures { SectionGives fifth (drop at bytes.now) slots.old place result slots.new }
-{
-    let first = read_fields(
-        bytes,
-        at,
-        sheet::PLAIN_FIELDS,
-        words::WORD_LEAST,
-        words::WORD_MOST,
-        slots,
-        place,
-    );
-    if !refusals::accepted(first) {
-        return first;
-    }
-    read_remainder(
-        bytes,
-        at + REMAINDER_AT,
-        fifth,
-        slots,
-        place + sheet::PLAIN_FIELDS,
-    )
-}
-
-// Reads the field of the remainder from place at on. Where the line has none, the remainder is 0.
-fn read_remainder(bytes: &[u8], at: usize, fifth: bool, slots: &mut [i32], place: usize) -> Verdict
-    requires { (at + field_size * length (fifth_range fifth) ≤ length bytes.now) × (place + 1 ≤ length slots.old) }
-    ensures { FifthGives fifth (drop at bytes.now) slots.old place result slots.new }
+// Reads the field of the remainder. Where the line has none, the remainder is 0.
+fn read_remainder(bytes: &[u8], fifth: bool) -> Result<i32, Refusal>
+    requires { field_size * length (fifth_range fifth) ≤ length bytes.now }
+    ensures { result ≡ remainder_read fifth bytes.now }
 {
     if !fifth {
-        slots[place] = 0;
-        return Verdict::Accepted;
+        return Ok(0);
     }
-    read_fields(
-        bytes,
-        at,
-        1,
-        unit::REMAINDER_LEAST,
-        unit::REMAINDER_MOST,
-        slots,
-        place,
-    )
+    read_number(bytes, 0, REMAINDER)
 }
 
-// Reads a C line from place at on: 8 to 10 stand behind its fields and ahead of its line end.
-pub fn read_band(bytes: &[u8], at: usize, slots: &mut [i32], place: usize) -> Verdict
-    requires { (at ≤ length bytes.now) × (place + band_size ≤ length slots.old) }
-    ensures { LineGives (line_form band_letter band_ranges band_joint) (drop at bytes.now) slots.old place result slots.new }
+// Reads so many fields of one range.
+fn read_numbers<const N: usize>(bytes: &[u8], range: Range) -> Result<[i32; N], Refusal>
+    requires { field_size * N ≤ length bytes.now }
+    ensures { result ≡ numbers_read (replicate N (is_admitted range)) bytes.now }
 {
-    let front = check_letter(bytes, at, sheet::BAND_LETTER, sheet::BAND_FIELDS);
-    if !refusals::accepted(front) {
-        return front;
+    let mut numbers = [0i32; N];
+    for i in 0..N {
+        numbers[i] = read_number(bytes, fields::FIELD_SIZE * i, range)?;
     }
-    let middle = read_fields(bytes, at + 1, sheet::BAND_FIELDS, LEAST, MOST, slots, place);
-    if !refusals::accepted(middle) {
-        return middle;
-    }
-    let joint = check_band_at(slots, place);
-    let end = check_end(bytes, at, sheet::BAND_FIELDS);
-    first_of(joint, end)
+    Ok(numbers)
 }
 
-// Reads an L or an R line from place at on.
-pub fn read_head(bytes: &[u8], at: usize, letter: u8, slots: &mut [i32]) -> Verdict
-    requires { (at ≤ length bytes.now) × (length slots.old ≡ length head_ranges) }
-    ensures { LineGives (head_form letter) (drop at bytes.now) slots.old 0 result slots.new }
+// Reads the field from place at on: 13 where it is badly written, 14 where its number is outside the range.
+fn read_number(bytes: &[u8], at: usize, range: Range) -> Result<i32, Refusal>
+    requires { at + field_size ≤ length bytes.now }
+    ensures { result ≡ number_read (is_admitted range) (field_at bytes.now at) }
 {
-    let front = check_letter(bytes, at, letter, sheet::HEAD_FIELDS);
-    if !refusals::accepted(front) {
-        return front;
-    }
-    let middle = read_head_fields(bytes, at + 1, slots);
-    if !refusals::accepted(middle) {
-        return middle;
-    }
-    check_end(bytes, at, sheet::HEAD_FIELDS)
-}
-
-// Reads the fields of an L or an R line from place at on: two inputs and a flag.
-fn read_head_fields(bytes: &[u8], at: usize, slots: &mut [i32]) -> Verdict
-    requires { (at + field_size * length head_ranges ≤ length bytes.now) × (length slots.old ≡ length head_ranges) }
-    ensures { FieldsGive head_ranges (drop at bytes.now) slots.old 0 result slots.new }
-{
-    let first = read_input(bytes, at, slots, 0);
-    if !refusals::accepted(first) {
-        return first;
-    }
-    let second = read_input(bytes, at + fields::FIELD_SIZE, slots, 1);
-    if !refusals::accepted(second) {
-        return second;
-    }
-    read_fields(bytes, at + FLAG_AT, 1, 0, 1, slots, FLAG)
-}
-
-// Reads the field of an input from place at on.
-fn read_input(bytes: &[u8], at: usize, slots: &mut [i32], place: usize) -> Verdict
-    requires { (at + field_size ≤ length bytes.now) × (place + 1 ≤ length slots.old) }
-    ensures { FieldGives is_input (field_at bytes.now at) slots.old place result slots.new }
-{
-    let input = field_reading::read_field(bytes, at);
-    if input == fields::NO_NUMBER {
-        return Verdict::FieldForm;
-    }
-    if !fitness::is_input(input) {
-        return Verdict::Unfit;
-    }
-    slots[place] = input;
-    Verdict::Accepted
-}
-
-// Reads so many fields of one range from place at on: 13 for a badly written field, 14 for a number outside the range.
-fn read_fields(
-    bytes: &[u8],
-    at: usize,
-    count: usize,
-    low: i32,
-    high: i32,
-    slots: &mut [i32],
-    place: usize,
-) -> Verdict
-    requires { (at + field_size * count ≤ length bytes.now) × (place + count ≤ length slots.old) }
-    ensures { FieldsGive (replicate count (within low high)) (drop at bytes.now) slots.old place result slots.new }
-{
-    let mut i = 0;
-    while i < count {
-        let number = field_reading::read_field(bytes, at + fields::FIELD_SIZE * i);
-        if number == fields::NO_NUMBER {
-            return Verdict::FieldForm;
+    match field_reading::read_field(bytes, at) {
+        None => Err(Refusal::FieldForm),
+        Some(number) => {
+            if !is_admitted(range, number) {
+                return Err(Refusal::Unfit);
+            }
+            Ok(number)
         }
-        if !rounding::in_range_i32(low, high, number) {
-            return Verdict::Unfit;
-        }
-        slots[place + i] = number;
-        i += 1;
     }
-    Verdict::Accepted
 }
 
-// 12 where fewer bytes are left from place at on than a line of so many fields has, or the first of them is not its letter.
-fn check_letter(bytes: &[u8], at: usize, letter: u8, count: usize) -> Verdict
-    requires { (at ≤ length bytes.now) × (count ≤ row_size) }
-    ensures { result ≡ letter_verdict letter count (drop at bytes.now) }
+// Whether a range has the number.
+fn is_admitted(range: Range, number: i32) -> bool
+    ensures { result ≡ is_admitted range number }
 {
-    if bytes.len() - at < fields::FIELD_SIZE * count + 2 {
-        return Verdict::LineMark;
+    match range {
+        Range::Any => true,
+        Range::Input => fitness::is_input(number),
+        Range::Between(low, high) => rounding::in_range(low, high, number),
     }
-    if bytes[at] != letter {
-        return Verdict::LineMark;
-    }
-    Verdict::Accepted
 }
 
-// 12 where the line of so many fields from place at on does not end with a line feed.
-fn check_end(bytes: &[u8], at: usize, count: usize) -> Verdict
-    requires { at + line_size count ≤ length bytes.now }
-    ensures { result ≡ end_verdict count (drop at bytes.now) }
+// 12 where there are fewer bytes than a line of so many fields has, or the first of them is not its letter.
+fn check_letter(bytes: &[u8], letter: u8, count: usize) -> Verdict
+    requires { count ≤ row_size }
+    ensures { result ≡ letter_verdict letter count bytes.now }
 {
-    if bytes[at + fields::FIELD_SIZE * count + 1] != sheet::LINE_FEED {
-        return Verdict::LineMark;
+    if bytes.len() < fields::FIELD_SIZE * count + 2 {
+        return Err(Refusal::LineMark);
     }
-    Verdict::Accepted
+    if bytes[0] != letter {
+        return Err(Refusal::LineMark);
+    }
+    Ok(())
 }
 
-// 8 to 10 for the three numbers from `place` on.
-fn check_band_at(slots: &[i32], place: usize) -> Verdict
-    requires { place + band_size ≤ length slots.now }
-    ensures { result ≡ band_verdict (band_at (take band_size (drop place slots.now)) 0) }
+// 12 where the line of so many fields does not end with a line feed.
+fn check_end(bytes: &[u8], count: usize) -> Verdict
+    requires { field_size * count + 2 ≤ length bytes.now }
+    ensures { result ≡ end_verdict count bytes.now }
 {
-    let band = bands::band_at(&slots[place..place + bands::BAND_SIZE], 0);
-    bands::check_band(band)
-}
-
-// The verdict where it is a refusal, or else the next one.
-fn first_of(verdict: Verdict, next: Verdict) -> Verdict
-    ensures { result ≡ first_of verdict next }
-{
-    if !refusals::accepted(verdict) {
-        return verdict;
+    if bytes[fields::FIELD_SIZE * count + 1] != sheet::LINE_FEED {
+        return Err(Refusal::LineMark);
     }
-    next
+    Ok(())
 }

@@ -1,2 +1,2 @@
--- Bytes stored right behind others.
+-- Bytes stored right behind others, and the size of a remainder.
 pub mod Runs

@@ -14,13 +14,12 @@ use levels::Level;
 use unit::BandSection;
 
 // Writes the V line of a fit volume from place at on.
+#[tactic(auto, using(words::proofs::Laws::narrow_need, words::proofs::Laws::narrow_reads, unit::proofs::Ranges::volume_size))]
 pub fn put_volume(out: &mut [u8], at: usize, volume: Level)
     requires { (at + line_size (length volume_ranges) ≤ length out.old) × VolumeFit volume }
     ensures { out.new ≡ sets out.old at (volume_form.text volume) }
 {
-    let present = volume.present as i32;
-    let target = volume.target as i32;
-    let row = [present, target];
+    let row = [volume.present as i32, volume.target as i32];
     put_line(out, at, sheet::VOLUME_LETTER, &row);
 }
 
@@ -29,10 +28,7 @@ pub fn put_band(out: &mut [u8], at: usize, band: Band)
     requires { at + line_size (length band_ranges) ≤ length out.old }
     ensures { out.new ≡ sets out.old at ((band_form band_letter).text band) }
 {
-    let alpha = band.alpha;
-    let beta = band.beta;
-    let gamma = band.gamma;
-    let row = [alpha, beta, gamma];
+    let row = [band.alpha, band.beta, band.gamma];
     put_line(out, at, sheet::BAND_LETTER, &row);
 }
 
@@ -46,22 +42,29 @@ pub fn put_head(out: &mut [u8], at: usize, letter: u8, x1: i32, x2: i32, flag: i
 }
 
 // Writes the S line of a fit section from place at on, with the remainder or without it, and gives the place behind the line.
+#[tactic(auto, using(words::proofs::Laws::narrow_need, words::proofs::Laws::word_size_lem, crate::proofs::Runs::remainder_small))]
 pub fn put_section(out: &mut [u8], at: usize, fifth: bool, section: BandSection) -> usize
     requires { (at + line_size (length (section_ranges fifth)) ≤ length out.old) × SectionFit section }
     ensures { (out.new ≡ sets out.old at ((section_form fifth).text section)) × (result ≡ at + line_size (length (section_ranges fifth))) }
 {
-    let y1 = section.y1 as i32;
-    let y2 = section.y2 as i32;
-    let present = section.gain.present as i32;
-    let target = section.gain.target as i32;
-    let remainder = section.remainder as i32;
-    let row = [y1, y2, present, target, remainder];
-    let count = sheet::section_fields(fifth);
-    put_line(out, at, sheet::SECTION_LETTER, &row[..count]);
+    let row = [
+        section.y1 as i32,
+        section.y2 as i32,
+        section.gain.present as i32,
+        section.gain.target as i32,
+        section.remainder as i32,
+    ];
+    put_line(
+        out,
+        at,
+        sheet::SECTION_LETTER,
+        &row[..sheet::section_fields(fifth)],
+    );
     at + sheet::section_line(fifth)
 }
 
 // Writes a line from place at on: a letter, a field for each number, and a line feed.
+#[tactic(auto, using(crate::proofs::Runs::parts_put, forms::proofs::Line::fields_length))]
 fn put_line(out: &mut [u8], at: usize, letter: u8, row: &[i32])
     requires { at + line_size (length row.now) ≤ length out.old }
     ensures { out.new ≡ sets out.old at (line_text letter row.now) }
@@ -72,13 +75,12 @@ fn put_line(out: &mut [u8], at: usize, letter: u8, row: &[i32])
 }
 
 // Writes a field for each number from place at on.
+#[tactic(auto, using(crate::proofs::Runs::field_put))]
 fn put_fields(out: &mut [u8], at: usize, row: &[i32])
     requires { at + field_size * length row.now ≤ length out.old }
     ensures { out.new ≡ sets out.old at (joined field row.now) }
 {
-    let mut i = 0;
-    while i < row.len() {
-        field_writing::put_field(out, at + fields::FIELD_SIZE * i, row[i]);
-        i += 1;
+    for (i, &number) in row.iter().enumerate() {
+        field_writing::put_field(out, at + fields::FIELD_SIZE * i, number);
     }
 }

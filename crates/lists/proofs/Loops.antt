@@ -8,7 +8,8 @@ use native.Mathlib.Omega.{arith}
 use lib.ListN.{length, get_or, take, drop, set, length-set, drop_of_length-le}
 use borrow.Author.Tests.{not-true, not-false}
 use lib.Seq.{drop-cons, take_all, take-suc-set}
-use Rattle.lists.specs.Lists.{tabulate, every}
+use Rattle.lists.specs.Lists.{tabulate}
+use Rattle.std.specs.List.{list_all}
 
 -- ---- what is told of a list, entry by entry: from entry i on
 
@@ -25,32 +26,32 @@ module _ {A B : Type 0} (of : List A → B) (l : List A) (i : ℕ) {told : B} (e
 
 -- the test of every entry from place `first` on is that of the entries from i on
 pub record EveryFrom {A : Type 0} (test : A → Bool) (l : List A) (first i : ℕ) : Type 0 where
-  pub left : every test (drop first l) ≡ every test (drop i l)
+  pub left : list_all test (drop first l) ≡ list_all test (drop i l)
 
 pub every_begin : {A : Type 0} {test : A → Bool} {l : List A} {first : ℕ} → EveryFrom test l first first
 every_begin = record { left = refl }
 
 module _ {A : Type 0} {test : A → Bool} {l : List A} {first i : ℕ} (from : EveryFrom test l first i) where
   -- past the last entry
-  pub every_done : length l ≤ i → true ≡ every test (drop first l)
-  every_done h = sym (told_done (every test) l i from.left h)
+  pub every_done : length l ≤ i → true ≡ list_all test (drop first l)
+  every_done h = sym (told_done (list_all test) l i from.left h)
 
   -- entry i is tested
   module _ (d : A) {t : Bool} (h : i < length l) (tested : t ≡ test (get_or l i d)) where
     -- and fails
-    pub every_fails : not t ≡ true → false ≡ every test (drop first l)
-    every_fails f = sym (told_next (every test) l i from.left d h ∙ simp (sym tested ∙ not-true t f))
+    pub every_fails : not t ≡ true → false ≡ list_all test (drop first l)
+    every_fails f = sym (told_next (list_all test) l i from.left d h ∙ simp (sym tested ∙ not-true t f))
 
     -- and passes
     pub every-passes : not t ≡ false → EveryFrom test l first (i + 1)
-    every-passes p = record { left = told_next (every test) l i from.left d h ∙ simp (sym tested ∙ not-false t p) }
+    every-passes p = record { left = told_next (list_all test) l i from.left d h ∙ simp (sym tested ∙ not-false t p) }
 
 -- ---- a test of every entry, with no branch
 
 -- what is found of the entries from place `first` on is the test of those below i
 pub record EveryFound {A : Type 0} (test : A → Bool) (l : List A) (first : ℕ) (found : Bool) (i : ℕ) : Type 0 where
   pub below : i ≤ length l
-  pub whole : every test (drop first l) ≡ found && every test (drop i l)
+  pub whole : list_all test (drop first l) ≡ found && list_all test (drop i l)
 
 pub found_begin : {A : Type 0} {test : A → Bool} {l : List A} {first : ℕ} → first ≤ length l → EveryFound test l first true first
 found_begin h = record { below = h; whole = refl }
@@ -62,14 +63,14 @@ module _ {A : Type 0} {test : A → Bool} {l : List A} {first i : ℕ} {found : 
       record {
         below = omega arith;
         whole =
-            told_next (λ (m : List A). found && every test m) l i so.whole d h
-            ∙ ap (λ (u : Bool). found && (u && every test (drop (i + 1) l))) (sym e)
-            ∙ sym (and_assoc found t (every test (drop (i + 1) l)));
+            told_next (λ (m : List A). found && list_all test m) l i so.whole d h
+            ∙ ap (λ (u : Bool). found && (u && list_all test (drop (i + 1) l))) (sym e)
+            ∙ sym (and_assoc found t (list_all test (drop (i + 1) l)));
       }
 
   -- past the last entry
-  pub found_done : length l ≤ i → found ≡ every test (drop first l)
-  found_done h = sym (told_done (λ (m : List A). found && every test m) l i so.whole h ∙ and-true found)
+  pub found_done : length l ≤ i → found ≡ list_all test (drop first l)
+  found_done h = sym (told_done (λ (m : List A). found && list_all test m) l i so.whole h ∙ and-true found)
 
 -- ---- a list of n entries that is filled from the front with f 0, f 1 and so on
 

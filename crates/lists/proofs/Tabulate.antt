@@ -7,7 +7,8 @@ use native.Mathlib.Omega.{arith}
 use borrow.Author.Count.{below_more}
 use lib.ListN.{length, get_or, take, length-append, get_or-append}
 use lib.Seq.{take-suc, take_all, get_or_at}
-use Rattle.lists.specs.Lists.{tabulate, every, Each, any_of}
+use Rattle.lists.specs.Lists.{tabulate, Each, any_of}
+use Rattle.std.specs.List.{list_all}
 
 -- equal entries make equal lists
 pub tabulate_cong : {A : Type 0} (n : ℕ) {f g : ℕ → A} → ((k : ℕ) → k < n → f k ≡ g k) → tabulate n f ≡ tabulate n g
@@ -41,12 +42,12 @@ module _ {A : Type 0} (P : A → Type 0) where
   at_each (suc n) f h = snoc_each (tabulate n f) (f n) (at_each n f (λ k l. h k (omega arith))) (h n (omega arith))
 
 -- a test of every entry goes over appending
-pub every_append : {A : Type 0} (test : A → Bool) (a b : List A) → every test (a ++ b) ≡ every test a && every test b
+pub every_append : {A : Type 0} (test : A → Bool) (a b : List A) → list_all test (a ++ b) ≡ list_all test a && list_all test b
 every_append test [] b = refl
-every_append test (e ∷ a) b = ap (λ (r : Bool). test e && r) (every_append test a b) ∙ sym (and_assoc (test e) (every test a) (every test b))
+every_append test (e ∷ a) b = ap (λ (r : Bool). test e && r) (every_append test a b) ∙ sym (and_assoc (test e) (list_all test a) (list_all test b))
 
-pub every_snoc : {A : Type 0} (test : A → Bool) (l : List A) (a : A) → every test (l ++ (a ∷ [])) ≡ every test l && test a
-every_snoc test l a = every_append test l (a ∷ []) ∙ ap (λ (r : Bool). every test l && r) (and-true (test a))
+pub every_snoc : {A : Type 0} (test : A → Bool) (l : List A) (a : A) → list_all test (l ++ (a ∷ [])) ≡ list_all test l && test a
+every_snoc test l a = every_append test l (a ∷ []) ∙ ap (λ (r : Bool). list_all test l && r) (and-true (test a))
 
 -- a test of any goes over appending
 pub any_append : (a b : List Bool) → any_of (a ++ b) ≡ any_of a || any_of b

@@ -1,5 +1,5 @@
 -- Lists by their entries, one after the other, and tests of every entry. Definitions only.
-use Rattle.std.specs.Prelude.{Bool, true, false, cond, ◌&&◌, ◌||◌, List, [], ◌∷◌, ◌++◌, ℕ, zero, suc}
+use Rattle.std.specs.Prelude.{Bool, false, cond, ◌||◌, List, [], ◌∷◌, ◌++◌, ℕ, zero, suc}
 
 -- the list of f 0, f 1, up to f (n - 1)
 abbrev pub tabulate : {A : Type 0} → ℕ → (ℕ → A) → List A
@@ -10,11 +10,6 @@ tabulate (suc n) f = tabulate n f ++ (f n ∷ [])
 abbrev pub changed : {A : Type 0} → (ℕ → Bool) → (A → A) → List A → List A
 changed test f [] = []
 changed test f (a ∷ rest) = cond (test 0) (f a) a ∷ changed (λ (place : ℕ). test (suc place)) f rest
-
--- the test passes at every entry
-abbrev pub every : {A : Type 0} → (A → Bool) → List A → Bool
-every test [] = true
-every test (a ∷ rest) = test a && every test rest
 
 -- the property holds of every entry
 abbrev pub Each : {A : Type 0} → (A → Type 0) → List A → Type 0

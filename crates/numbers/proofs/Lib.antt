@@ -2,3 +2,4 @@
 pub mod Put
 pub mod Laws
 pub mod Units
+pub mod Sizes

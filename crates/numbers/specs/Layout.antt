@@ -1,8 +1,7 @@
 -- The unit as flat numbers, in the order of docs/SPECIFICATION.md, The C library. Definitions only.
 use Rattle.std.specs.Prelude.{◌≡◌, cond, List, [], ◌∷◌, ◌++◌, ℕ, ◌+◌, ◌*◌, ◌≤◌, ℤ, pos, length, get_or, take, drop}
 use Rattle.lists.specs.Lists.{tabulate, joined}
-use Rattle.refusals.specs.Numbers.{is_accepted}
-use Rattle.refusals.specs.declared.Verdict.{Verdict}
+use Rattle.refusals.specs.Numbers.{is_accepted, Verdict}
 use Rattle.bands.specs.Bands.{band_count, set_size}
 use Rattle.bands.specs.declared.Band.{Band}
 use Rattle.levels.specs.declared.Level.{Level}
@@ -50,6 +49,10 @@ band_numbers band = band.alpha ∷ band.beta ∷ band.gamma ∷ []
 -- "y1, y2, gain, target, remainder of each section"
 abbrev pub section_numbers : BandSection → List ℤ
 section_numbers s = s.y1 ∷ s.y2 ∷ s.gain.present ∷ s.gain.target ∷ s.remainder ∷ []
+
+-- "x1, x2, flag"
+abbrev pub head_numbers : Channel → List ℤ
+head_numbers c = c.x1 ∷ c.x2 ∷ c.flag ∷ []
 
 -- "x1, x2, flag, then y1, y2, gain, target, remainder of each section"
 abbrev pub channel_numbers : Channel → List ℤ

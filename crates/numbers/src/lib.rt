@@ -2,11 +2,11 @@
 // left and of the right channel x1, x2, flag, and y1, y2, gain, target and remainder of each section.
 #![tactic(auto)]
 
-ghost use Rattle.std.specs.Prelude.{◌≡◌, ◌*◌, ◌+◌, ◌<◌, ◌≤◌, pos, length, get_or, drop};
+ghost use Rattle.std.specs.Prelude.{◌≡◌, ◌*◌, ◌+◌, ◌<◌, ◌≤◌, pos, length, get_or};
 ghost use Rattle.lists.specs.Lists.{Each, joined};
-ghost use Rattle.bands.specs.Bands.{band_size, band_count};
+ghost use Rattle.bands.specs.Bands.{band_count};
 ghost use Rattle.unit.specs.Fit.{VolumeFit, SectionFit, ChannelFit, Fit};
-ghost use Rattle.numbers.specs.Layout.{section_size, channel_size, unit_size, bands_place, left_place, right_place, volume_numbers, band_numbers, section_numbers, channel_numbers, numbers_of, section_at, channel_of, unit_of, PutGives};
+ghost use Rattle.numbers.specs.Layout.{section_size, channel_size, unit_size, bands_place, left_place, right_place, volume_numbers, head_numbers, band_numbers, section_numbers, channel_numbers, numbers_of, section_at, channel_of, unit_of, PutGives};
 
 use bands::Band;
 use levels::Level;
@@ -36,88 +36,67 @@ pub const UNIT_SIZE: usize = RIGHT + CHANNEL_SIZE;
 pub fn unit_of(numbers: &[i32; UNIT_SIZE]) -> Unit
     ensures { result ≡ unit_of numbers.now }
 {
-    let present = number_at(numbers, 0);
-    let target = number_at(numbers, 1);
-    let volume = Level { present, target };
     let all = &numbers[..];
-    let bands = unit::bands_of(&all[BANDS..]);
-    let left = channel_of(numbers, LEFT);
-    let right = channel_of(numbers, RIGHT);
+    let left = channel_of(&all[LEFT..]);
+    let right = channel_of(&all[RIGHT..]);
     Unit {
-        volume,
-        bands,
+        volume: volume_of(numbers),
+        bands: unit::bands_of(&all[BANDS..]),
         channels: [left, right],
     }
 }
 
-// The channel whose numbers begin at start.
-fn channel_of(numbers: &[i32; UNIT_SIZE], start: usize) -> Channel
-    requires { start ≤ right_place }
-    ensures { result ≡ channel_of (drop start numbers.now) }
+// Its volume.
+fn volume_of(numbers: &[i32; UNIT_SIZE]) -> Level
+    ensures { (result.present ≡ get_or numbers.now 0 (pos 0)) × (result.target ≡ get_or numbers.now 1 (pos 0)) }
 {
-    let x1 = number_at(numbers, start);
-    let x2 = number_at(numbers, start + 1);
-    let flag = number_at(numbers, start + FLAG);
-    let sections = sections_of(numbers, start);
-    Channel {
-        x1,
-        x2,
-        flag,
-        sections,
+    Level {
+        present: i64::from(numbers[0]),
+        target: i64::from(numbers[1]),
     }
 }
 
-// The ten sections of the channel whose numbers begin at start.
-fn sections_of(numbers: &[i32; UNIT_SIZE], start: usize) -> [BandSection; bands::BAND_COUNT]
-    requires { start ≤ right_place }
-    ensures { result ≡ (channel_of (drop start numbers.now)).sections }
+// The channel that numbers which begin with those of a channel stand for.
+fn channel_of(numbers: &[i32]) -> Channel
+    requires { channel_size ≤ length numbers.now }
+    ensures { result ≡ channel_of numbers.now }
 {
-    let zero = Level {
-        present: 0,
-        target: 0,
-    };
-    let empty = BandSection {
-        y1: 0,
-        y2: 0,
-        gain: zero,
-        remainder: 0,
-    };
-    let mut sections = [empty; bands::BAND_COUNT];
-    let mut b = 0;
-    while b < bands::BAND_COUNT {
-        let section = section_at(numbers, start, b);
-        sections[b] = section;
-        b += 1;
+    Channel {
+        x1: i64::from(numbers[0]),
+        x2: i64::from(numbers[1]),
+        flag: i64::from(numbers[FLAG]),
+        sections: sections_of(numbers),
+    }
+}
+
+// Its ten sections.
+#[tactic(auto, using(lists::proofs::Loops::tabulated_begin, lists::proofs::Loops::tabulated_next, lists::proofs::Loops::tabulated_done))]
+fn sections_of(numbers: &[i32]) -> [BandSection; bands::BAND_COUNT]
+    requires { channel_size ≤ length numbers.now }
+    ensures { result ≡ (channel_of numbers.now).sections }
+{
+    let mut sections = [BandSection::default(); bands::BAND_COUNT];
+    for b in 0..bands::BAND_COUNT {
+        sections[b] = section_at(numbers, b);
     }
     sections
 }
 
-// Section b of the channel whose numbers begin at start.
-fn section_at(numbers: &[i32; UNIT_SIZE], start: usize, b: usize) -> BandSection
-    requires { (start ≤ right_place) × (b < band_count) }
-    ensures { result ≡ section_at (drop start numbers.now) b }
+// Section b of it.
+fn section_at(numbers: &[i32], b: usize) -> BandSection
+    requires { (channel_size ≤ length numbers.now) × (b < band_count) }
+    ensures { result ≡ section_at numbers.now b }
 {
-    let at = start + SECTION_SIZE * b + HEAD_SIZE;
-    let y1 = number_at(numbers, at);
-    let y2 = number_at(numbers, at + 1);
-    let present = number_at(numbers, at + 2);
-    let target = number_at(numbers, at + 3);
-    let gain = Level { present, target };
-    let remainder = number_at(numbers, at + 4);
+    let at = SECTION_SIZE * b + HEAD_SIZE;
     BandSection {
-        y1,
-        y2,
-        gain,
-        remainder,
+        y1: i64::from(numbers[at]),
+        y2: i64::from(numbers[at + 1]),
+        gain: Level {
+            present: i64::from(numbers[at + 2]),
+            target: i64::from(numbers[at + 3]),
+        },
+        remainder: i64::from(numbers[at + 4]),
     }
-}
-
-// The number at a place.
-fn number_at(numbers: &[i32; UNIT_SIZE], at: usize) -> i64
-    requires { at < unit_size }
-    ensures { result ≡ get_or numbers.now at (pos 0) }
-{
-    numbers[at] as i64
 }
 
 // The numbers of a fit unit.
@@ -125,77 +104,71 @@ pub fn numbers_of(unit: Unit) -> [i32; UNIT_SIZE]
     requires { Fit unit }
     ensures { result ≡ numbers_of unit }
 {
-    let volume = unit.volume;
-    let bands = unit.bands;
-    let channels = unit.channels;
-    let mut out = [0i32; UNIT_SIZE];
-    put_volume(&mut out, volume);
-    put_bands(&mut out, bands);
-    put_channels(&mut out, channels);
+    let mut out = [0; UNIT_SIZE];
+    put_row(&mut out, 0, &volume_row(unit.volume));
+    put_bands(&mut out, unit.bands);
+    put_channels(&mut out, unit.channels);
     out
 }
 
-// Stores the volume.
-fn put_volume(out: &mut [i32; UNIT_SIZE], volume: Level)
-    requires { (length out.old ≡ unit_size) × VolumeFit volume }
-    ensures { PutGives out.old 0 (volume_numbers volume) bands_place out.new }
+// Stores numbers from place at on.
+fn put_row(out: &mut [i32; UNIT_SIZE], at: usize, row: &[i32])
+    requires { at + length row.now ≤ unit_size }
+    ensures { PutGives out.old at row.now (at + length row.now) out.new }
 {
-    let present = volume.present as i32;
-    let target = volume.target as i32;
-    out[0] = present;
-    out[1] = target;
+    out[at..at + row.len()].copy_from_slice(row);
+}
+
+// The volume's numbers.
+#[tactic(auto, using(words::proofs::Laws::narrow_need, words::proofs::Laws::narrow_reads, unit::proofs::Ranges::volume_size))]
+fn volume_row(volume: Level) -> [i32; BANDS]
+    requires { VolumeFit volume }
+    ensures { result ≡ volume_numbers volume }
+{
+    [volume.present as i32, volume.target as i32]
 }
 
 // Stores the ten bands.
 fn put_bands(out: &mut [i32; UNIT_SIZE], bands: [Band; bands::BAND_COUNT])
-    requires { length out.old ≡ unit_size }
     ensures { PutGives out.old bands_place (joined band_numbers bands) left_place out.new }
 {
-    let mut b = 0;
-    while b < bands::BAND_COUNT {
-        let band = bands[b];
-        put_band(out, bands::BAND_SIZE * b + BANDS, band);
-        b += 1;
+    for (b, &band) in bands.iter().enumerate() {
+        put_row(out, bands::BAND_SIZE * b + BANDS, &band_row(band));
     }
 }
 
-// Stores a band from place at on.
-fn put_band(out: &mut [i32; UNIT_SIZE], at: usize, band: Band)
-    requires { (length out.old ≡ unit_size) × (at + band_size ≤ unit_size) }
-    ensures { PutGives out.old at (band_numbers band) (at + band_size) out.new }
+// A band's numbers.
+fn band_row(band: Band) -> [i32; bands::BAND_SIZE]
+    ensures { result ≡ band_numbers band }
 {
-    let alpha = band.alpha;
-    let beta = band.beta;
-    let gamma = band.gamma;
-    out[at] = alpha;
-    out[at + 1] = beta;
-    out[at + 2] = gamma;
+    [band.alpha, band.beta, band.gamma]
 }
 
 // Stores both channels.
 fn put_channels(out: &mut [i32; UNIT_SIZE], channels: [Channel; unit::CHANNEL_COUNT])
-    requires { (length out.old ≡ unit_size) × Each ChannelFit channels }
+    requires { Each ChannelFit channels }
     ensures { PutGives out.old left_place (joined channel_numbers channels) unit_size out.new }
 {
-    let left = channels[0];
-    let right = channels[1];
-    put_channel(out, LEFT, left);
-    put_channel(out, RIGHT, right);
+    put_channel(out, LEFT, channels[0]);
+    put_channel(out, RIGHT, channels[1]);
 }
 
 // Stores a channel from place start on.
 fn put_channel(out: &mut [i32; UNIT_SIZE], start: usize, channel: Channel)
-    requires { (length out.old ≡ unit_size) × (start ≤ right_place) × ChannelFit channel }
+    requires { (start ≤ right_place) × ChannelFit channel }
     ensures { PutGives out.old start (channel_numbers channel) (start + channel_size) out.new }
 {
-    let x1 = channel.x1 as i32;
-    let x2 = channel.x2 as i32;
-    let flag = channel.flag as i32;
-    let sections = channel.sections;
-    out[start] = x1;
-    out[start + 1] = x2;
-    out[start + FLAG] = flag;
-    put_sections(out, start + HEAD_SIZE, sections);
+    put_row(out, start, &head_row(channel));
+    put_sections(out, start + HEAD_SIZE, channel.sections);
+}
+
+// A channel's own numbers.
+#[tactic(auto, using(words::proofs::Laws::narrow_need, unit::proofs::Ranges::input_size, crate::proofs::Sizes::flag_small))]
+fn head_row(channel: Channel) -> [i32; HEAD_SIZE]
+    requires { ChannelFit channel }
+    ensures { result ≡ head_numbers channel }
+{
+    [channel.x1 as i32, channel.x2 as i32, channel.flag as i32]
 }
 
 // Stores ten sections from place start on.
@@ -204,30 +177,25 @@ fn put_sections(
     start: usize,
     sections: [BandSection; bands::BAND_COUNT],
 )
-    requires { (length out.old ≡ unit_size) × (start + section_size * band_count ≤ unit_size) × Each SectionFit sections }
+    requires { (start + section_size * band_count ≤ unit_size) × Each SectionFit sections }
     ensures { PutGives out.old start (joined section_numbers sections) (start + section_size * band_count) out.new }
 {
-    let mut b = 0;
-    while b < bands::BAND_COUNT {
-        let section = sections[b];
-        put_section(out, start + SECTION_SIZE * b, section);
-        b += 1;
+    for (b, &section) in sections.iter().enumerate() {
+        put_row(out, start + SECTION_SIZE * b, &section_row(section));
     }
 }
 
-// Stores a section from place at on.
-fn put_section(out: &mut [i32; UNIT_SIZE], at: usize, section: BandSection)
-    requires { (length out.old ≡ unit_size) × (at + section_size ≤ unit_size) × SectionFit section }
-    ensures { PutGives out.old at (section_numbers section) (at + section_size) out.new }
+// A section's numbers.
+#[tactic(auto, using(words::proofs::Laws::narrow_need, words::proofs::Laws::word_size_lem, crate::proofs::Sizes::remainder_small))]
+fn section_row(section: BandSection) -> [i32; SECTION_SIZE]
+    requires { SectionFit section }
+    ensures { result ≡ section_numbers section }
 {
-    let y1 = section.y1 as i32;
-    let y2 = section.y2 as i32;
-    let present = section.gain.present as i32;
-    let target = section.gain.target as i32;
-    let remainder = section.remainder as i32;
-    out[at] = y1;
-    out[at + 1] = y2;
-    out[at + 2] = present;
-    out[at + 3] = target;
-    out[at + 4] = remainder;
+    [
+        section.y1 as i32,
+        section.y2 as i32,
+        section.gain.present as i32,
+        section.gain.target as i32,
+        section.remainder as i32,
+    ]
 }

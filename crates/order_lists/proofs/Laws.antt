@@ -1,57 +1,13 @@
--- The laws of lists of level orders: the next one of a list, and that a fit unit stays fit.
-use mathlib.Core.Path.{◌≡◌, refl, sym, ap, ◌∙◌}
+-- The laws of lists of level orders: a fit unit stays fit.
 use mathlib.Core.Bool.{Bool, true, false, cond}
 use mathlib.Core.List.{List, [], ◌∷◌}
-use Prim.Native.Nat.{ℕ, suc, ◌+◌, ◌≤◌, ◌<◌}
-use native.Mathlib.Omega.{arith}
-use lib.ListN.{length, get_or, drop}
-use lib.Seq.{drop-cons}
 use Rattle.refusals.specs.Numbers.{is_accepted}
 use Rattle.unit.specs.declared.Unit.{Unit}
 use Rattle.unit.specs.Fit.{Fit}
 use Rattle.unit.specs.Sizes.{channel_count}
 use Rattle.orders.proofs.Laws.{order_fit}
 use Rattle.order_lists.specs.declared.DeskOrder.{DeskOrder}
-use Rattle.order_lists.specs.Lists.{order_size, are_orders, orders_in, ordered_one, ordered_all}
-
--- ---- the numbers
-
--- a number, and what follows it
-cons_next : (l : List ℕ) (at next : ℕ) → next ≡ suc at → at < length l → drop at l ≡ get_or l at 0 ∷ drop next l
-cons_next l at next e h = drop-cons l at 0 h ∙ ap (λ (k : ℕ). get_or l at 0 ∷ drop k l) (sym e)
-
--- three numbers, and what follows them
-pub three_next : (l : List ℕ) (at : ℕ) → at + order_size ≤ length l → drop at l ≡ get_or l at 0 ∷ get_or l (at + 1) 0 ∷ get_or l (at + 2) 0 ∷ drop (at + order_size) l
-three_next l at h =
-    cons_next l at (at + 1) (omega arith) (omega (arith, h))
-    ∙ ap (λ (k : List ℕ). get_or l at 0 ∷ k)
-    (cons_next l (at + 1) (at + 2) (omega arith) (omega (arith, h))
-    ∙ ap (λ (k : List ℕ). get_or l (at + 1) 0 ∷ k) (cons_next l (at + 2) (at + 3) (omega arith) (omega (arith, h))))
-
--- fewer than three are no order
-pub few : (l : List ℕ) → length l < order_size → orders_in l ≡ []
-few [] h = refl
-few (a ∷ []) h = refl
-few (a ∷ b ∷ []) h = refl
-few (a ∷ b ∷ c ∷ l) h = absurd (omega (arith, h))
-
--- one or two are left over
-pub left_over : (l : List ℕ) → 0 < length l → length l < order_size → are_orders l ≡ false
-left_over [] some h = absurd (omega (arith, some))
-left_over (a ∷ []) some h = refl
-left_over (a ∷ b ∷ []) some h = refl
-left_over (a ∷ b ∷ c ∷ l) some h = absurd (omega (arith, h))
-
--- ---- the unit
-
-module _ (u : Unit) (order : DeskOrder) (rest : List DeskOrder) where
-  -- an accepted order, and then the others
-  pub all_accepted : is_accepted (ordered_one u order).verdict ≡ true → ordered_all u (order ∷ rest) ≡ ordered_all (ordered_one u order).unit rest
-  all_accepted e = simp e
-
-  -- a refused one ends the list
-  pub all_refused : is_accepted (ordered_one u order).verdict ≡ false → ordered_all u (order ∷ rest) ≡ ordered_one u order
-  all_refused e = simp e
+use Rattle.order_lists.specs.Lists.{ordered_one, ordered_all}
 
 -- orders in turn keep a fit unit fit
 pub all_fit : (u : Unit) (l : List DeskOrder) → Fit u → Fit (ordered_all u l).unit

@@ -1,17 +1,16 @@
-// Level orders as a list of numbers, three for each: which lists are orders, and all of them given to a unit in turn.
+// Level orders as a list of words, three for each: which lists are orders, and all of them given to a unit in turn.
 #![tactic(auto)]
 
-ghost use Rattle.std.specs.Prelude.{◌≡◌, ◌+◌, ◌≤◌, length, get_or};
-ghost use Rattle.unit.specs.Sizes.{channel_count};
-ghost use Rattle.orders.specs.Orders.{ordered};
-ghost use Rattle.order_lists.specs.Lists.{order_size, is_order, are_orders, byte_of, setting_of, orders_in, ordered_all};
+ghost use Rattle.std.specs.Prelude.{◌≡◌};
+ghost use Rattle.unit.specs.Answered.{answered};
+ghost use Rattle.order_lists.specs.Lists.{are_orders, byte_of, is_number, is_order, place_of, setting_of, order_in, orders_in, ordered_all};
 
-use orders::Ordered;
-use refusals::Verdict;
+use arguments::Word;
+use refusals::Refusal;
 use settings::Setting;
 use unit::Unit;
 
-// How many numbers an order has: side, band and level.
+// How many words an order has: side, band and level.
 const ORDER_SIZE: usize = 3;
 
 // As many orders as there are places: every band on either side and on both, and the volume.
@@ -19,6 +18,9 @@ const PLACES: usize = (settings::BOTH_SIDES as usize + 1) * bands::BAND_COUNT + 
 
 // The room that a list of so many orders needs.
 pub const LIST_ROOM: usize = ORDER_SIZE * PLACES;
+
+// No side and no band has this number.
+const NO_PLACE: u32 = 1_000_000_000;
 
 // A level order.
 #[derive(Clone, Copy)]
@@ -28,78 +30,83 @@ pub struct DeskOrder {
     pub setting: Setting,
 }
 
-// Whether the numbers are orders, one behind the other, and nothing is left over.
-pub fn are_orders(numbers: &[u32]) -> bool
-    ensures { result ≡ are_orders numbers.now }
+// Whether the words are orders, one behind the other, and nothing is left over.
+pub fn are_orders(words: &[Word]) -> bool
+    ensures { result ≡ are_orders words.now }
 {
-    let mut at = 0;
-    while at < numbers.len() {
-        if numbers.len() - at < ORDER_SIZE {
+    let mut rest = words;
+    while let [side, band, level, after @ ..] = rest {
+        if !is_order(*side, *band, *level) {
             return false;
         }
-        if !is_order(numbers[at], numbers[at + 1], numbers[at + 2]) {
-            return false;
-        }
-        at += ORDER_SIZE;
+        rest = after;
     }
-    true
-}
-
-// Whether side and band are numbers, and the level is a number or mute.
-fn is_order(side: u32, band: u32, level: u32) -> bool
-    ensures { result ≡ is_order side band level }
-{
-    (side < arguments::NONE)
-        & (band < arguments::NONE)
-        & ((level < arguments::NONE) | (level == arguments::MUTE))
+    rest.is_empty()
 }
 
 // Gives the orders to the unit in turn, up to the first that is refused, whose answer counts.
-pub fn order_all(unit: Unit, numbers: &[u32]) -> Ordered
-    ensures { result ≡ ordered_all unit (orders_in numbers.now) }
+pub fn order_all(unit: &mut Unit, words: &[Word]) -> Result<(), Refusal>
+    ensures { answered result unit.new ≡ ordered_all unit.old (orders_in words.now) }
 {
-    let mut ordered = Ordered {
-        verdict: Verdict::Accepted,
-        unit,
-    };
-    let mut at = 0;
-    while numbers.len() - at >= ORDER_SIZE {
-        let before = ordered.unit;
-        ordered = order_at(before, numbers, at);
-        let verdict = ordered.verdict;
-        if !refusals::accepted(verdict) {
-            return ordered;
-        }
-        at += ORDER_SIZE;
+    let mut rest = words;
+    while let [side, band, level, after @ ..] = rest {
+        let order = order_in(*side, *band, *level);
+        orders::order(unit, order.side, order.band, order.setting)?;
+        rest = after;
     }
-    ordered
+    Ok(())
 }
 
-// Gives the order at this place of the list to the unit.
-fn order_at(unit: Unit, numbers: &[u32], at: usize) -> Ordered
-    requires { at + order_size ≤ length numbers.now }
-    ensures { result ≡ ordered channel_count unit (get_or numbers.now at 0) (get_or numbers.now (at + 1) 0) (setting_of (get_or numbers.now (at + 2) 0)) }
+// Whether three words are an order: side and band are numbers, and the level is a number or mute.
+fn is_order(side: Word, band: Word, level: Word) -> bool
+    ensures { result ≡ is_order side band level }
 {
-    let setting = setting_of(numbers[at + 2]);
-    orders::order(unit, numbers[at], numbers[at + 1], setting)
+    is_number(side) && is_number(band) && level != Word::Other
 }
 
-// The level that a number means: mute, or a position.
-fn setting_of(level: u32) -> Setting
+// Whether a word is a number.
+fn is_number(word: Word) -> bool
+    ensures { result ≡ is_number word }
+{
+    matches!(word, Word::Number(_))
+}
+
+// The order of three words.
+fn order_in(side: Word, band: Word, level: Word) -> DeskOrder
+    ensures { result ≡ order_in side band level }
+{
+    DeskOrder {
+        side: place_of(side),
+        band: place_of(band),
+        setting: setting_of(level),
+    }
+}
+
+// The number of a word as a side or a band; a word that is none stands for a place that is not there.
+fn place_of(word: Word) -> u32
+    ensures { result ≡ place_of word }
+{
+    match word {
+        Word::Number(number) => number,
+        Word::Mute | Word::Other => NO_PLACE,
+    }
+}
+
+// The level that a word means: mute, or a position; a word that is neither stands for a position that is not there.
+fn setting_of(level: Word) -> Setting
     ensures { result ≡ setting_of level }
 {
-    if level == arguments::MUTE {
-        return Setting::Mute;
+    match level {
+        Word::Number(number) => Setting::Position(byte(number)),
+        Word::Mute => Setting::Mute,
+        Word::Other => Setting::Position(byte(NO_PLACE)),
     }
-    Setting::Position(byte(level))
 }
 
 // A number as a byte; one that is too large is the largest.
+#[tactic(auto, unfolding(crate::specs::Lists::byte_of))]
 fn byte(number: u32) -> u8
     ensures { result ≡ byte_of number }
 {
-    if number > 255 {
-        return 255;
-    }
-    number as u8
+    u8::try_from(number).unwrap_or(255)
 }

@@ -7,9 +7,11 @@ use lib.IntN.{ℤ}
 use borrow.Author.Tests.{eqb-true}
 use Rattle.lists.proofs.Changed.{changed-length, changed-each, changed-drop}
 use Rattle.words.specs.Words.{is_word}
+use Rattle.std.specs.Prelude.{Err}
 use Rattle.refusals.specs.Numbers.{is_accepted}
-use Rattle.refusals.specs.declared.Verdict.TheVariants.{Unfit}
+use Rattle.refusals.specs.declared.Refusal.TheVariants.{Unfit}
 use Rattle.refusals.proofs.Laws.{unless_accepted}
+use Rattle.unit.specs.Answered.{answered}
 use Rattle.unit.specs.Frame.{feedback_count}
 use Rattle.unit.specs.Fit.{is_volume, is_plain, SectionFit, Plain, ChannelFit, Fit, unit_fits}
 use Rattle.unit.specs.Shaped.{TenSections, Shaped}
@@ -69,17 +71,17 @@ aimed_fit channels u side band setting e f = go (eqb band volume_band) refl
 
 module _ (channels : ℕ) (u : Unit) (side band : ℕ) (setting : Setting) where
   -- an unfit unit
-  pub ordered_unfit : unit_fits u ≡ false → ordered channels u side band setting ≡ record { verdict = Unfit; unit = u }
+  pub ordered_unfit : unit_fits u ≡ false → ordered channels u side band setting ≡ answered (Err Unfit) u
   unfolding ordered order_verdict
   ordered_unfit e = simp e
 
   -- refused arguments
-  pub ordered-refused : unit_fits u ≡ true → is_accepted (order_arguments channels side band setting) ≡ false → ordered channels u side band setting ≡ record { verdict = order_arguments channels side band setting; unit = u }
+  pub ordered-refused : unit_fits u ≡ true → is_accepted (order_arguments channels side band setting) ≡ false → ordered channels u side band setting ≡ answered (order_arguments channels side band setting) u
   unfolding ordered order_verdict
   ordered-refused f e = simp (f, e)
 
   -- an accepted order
-  pub ordered_accepted : unit_fits u ≡ true → is_accepted (order_arguments channels side band setting) ≡ true → ordered channels u side band setting ≡ record { verdict = order_arguments channels side band setting; unit = aimed_unit side band (target_of band setting) u }
+  pub ordered_accepted : unit_fits u ≡ true → is_accepted (order_arguments channels side band setting) ≡ true → ordered channels u side band setting ≡ answered (order_arguments channels side band setting) (aimed_unit side band (target_of band setting) u)
   unfolding ordered order_verdict
   ordered_accepted f e = simp (f, e)
 
@@ -91,7 +93,7 @@ order_accepts channels u side band setting f = simp (test_of_fit u f)
 -- an accepted order is one on a fit unit
 pub accepted_fit : (channels : ℕ) (u : Unit) (side band : ℕ) (setting : Setting) → is_accepted (ordered channels u side band setting).verdict ≡ true → Fit u
 unfolding ordered order_verdict
-accepted_fit channels u side band setting e = fit_of_test u (unless_accepted (unit_fits u) Unfit (order_arguments channels side band setting) (λ t. refl) e).0
+accepted_fit channels u side band setting e = fit_of_test u (unless_accepted (unit_fits u) Unfit (order_arguments channels side band setting) e).0
 
 -- an order keeps a fit unit fit
 pub order_fit : (channels : ℕ) (u : Unit) (side band : ℕ) (setting : Setting) → Fit u → Fit (ordered channels u side band setting).unit
@@ -99,7 +101,7 @@ unfolding ordered order_verdict
 order_fit channels u side band setting f = go (is_accepted (order_verdict channels u side band setting)) refl
   where
     go : (t : Bool) → is_accepted (order_verdict channels u side band setting) ≡ t → Fit (cond t (aimed_unit side band (target_of band setting) u) u)
-    go true e = aimed_fit channels u side band setting (unless_accepted (unit_fits u) Unfit (order_arguments channels side band setting) (λ t. refl) e).1 f
+    go true e = aimed_fit channels u side band setting (unless_accepted (unit_fits u) Unfit (order_arguments channels side band setting) e).1 f
     go false e = f
 
 -- ---- the shape

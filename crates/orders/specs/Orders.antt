@@ -1,17 +1,16 @@
 -- What a level order sets, and its answer, for any number of channels. Definitions only, by docs/SPECIFICATION.md, Levels.
 use Rattle.std.specs.Prelude.{cond, ℕ, eqb, ℤ}
 use Rattle.lists.specs.Lists.{changed}
-use Rattle.refusals.specs.Numbers.{unless, is_accepted}
-use Rattle.refusals.specs.declared.Verdict.{Verdict}
-use Rattle.refusals.specs.declared.Verdict.TheVariants.{Unfit}
+use Rattle.refusals.specs.Numbers.{unless, is_accepted, Verdict}
+use Rattle.refusals.specs.declared.Refusal.TheVariants.{Unfit}
 use Rattle.levels.specs.Levels.{aimed}
+use Rattle.unit.specs.Answered.{Answered, answered}
 use Rattle.unit.specs.Fit.{unit_fits}
 use Rattle.unit.specs.declared.BandSection.{BandSection}
 use Rattle.unit.specs.declared.Channel.{Channel}
 use Rattle.unit.specs.declared.Unit.{Unit}
 use Rattle.settings.specs.declared.Setting.{Setting}
 use Rattle.settings.specs.Settings.{volume_band, names, target_of, order_arguments}
-use Rattle.orders.specs.declared.Ordered.{Ordered}
 
 -- "Orders and blocks test the unit ahead of all else: an unfit one is 14"
 unfoldable pub order_verdict : ℕ → Unit → ℕ → ℕ → Setting → Verdict
@@ -39,9 +38,7 @@ unfoldable pub aimed_unit : ℕ → ℕ → ℤ → Unit → Unit
 aimed_unit side band target u = cond (eqb band volume_band) (aimed_volume target u) (aimed_band side band target u)
 
 -- the answer: accepted, the unit with the named targets set; refused, "the unit comes back unchanged"
-unfoldable pub ordered : ℕ → Unit → ℕ → ℕ → Setting → Ordered
+unfoldable pub ordered : ℕ → Unit → ℕ → ℕ → Setting → Answered
 ordered channels u side band setting =
-    record {
-      verdict = order_verdict channels u side band setting;
-      unit = cond (is_accepted (order_verdict channels u side band setting)) (aimed_unit side band (target_of band setting) u) u;
-    }
+    answered (order_verdict channels u side band setting)
+    (cond (is_accepted (order_verdict channels u side band setting)) (aimed_unit side band (target_of band setting) u) u)

@@ -26,7 +26,7 @@ pub record Exact (band : Band) : Type 0 where
   pub gamma : nat_abs band.gamma ≤ largest
 
 -- a coefficient on both sides
-abbrev pub twice : ℤ → Sides
+abbrev pub twice : ℤ → Sides Float
 twice z = float_sides z z
 
 twice_whole : (z : ℤ) → nat_abs z ≤ largest → IsWhole (float z) × IsWhole (float z)
@@ -76,8 +76,8 @@ module _ (l : List Float) (at : ℕ) (band : Band) where
         λ i.
         record {
           alpha = (alphas i).second;
-          beta = (ap (float_at with_band) (along 2) ∙ ap (λ (s : Sides). s.second) betas) i;
-          gamma = (ap (float_at with_band) (along 4) ∙ ap (λ (s : Sides). s.second) gammas) i;
+          beta = (ap (float_at with_band) (along 2) ∙ ap (λ (s : Sides Float). s.second) betas) i;
+          gamma = (ap (float_at with_band) (along 4) ∙ ap (λ (s : Sides Float). s.second) gammas) i;
         }
       where
         along : (k : ℕ) → at + 1 + k ≡ at + k + 1

@@ -63,17 +63,17 @@ module _ (a b : Channel) where
             first =
                 λ i.
                 record {
-                  x1 = whole_is (float_at l x1_place) a.x1 (stored.behind x1_place (lit≤ tt) ∙ ap (λ (s : Sides). s.first) x1s) a-exact.x1 i;
-                  x2 = whole_is (float_at l x2_place) a.x2 (stored.behind x2_place (lit≤ tt) ∙ ap (λ (s : Sides). s.first) x2s) a-exact.x2 i;
-                  flag = whole_is (float_at l flag_place) a.flag (stored.behind flag_place (lit≤ tt) ∙ ap (λ (s : Sides). s.first) flags) a-exact.flag i;
+                  x1 = whole_is (float_at l x1_place) a.x1 (stored.behind x1_place (lit≤ tt) ∙ ap (λ (s : Sides Float). s.first) x1s) a-exact.x1 i;
+                  x2 = whole_is (float_at l x2_place) a.x2 (stored.behind x2_place (lit≤ tt) ∙ ap (λ (s : Sides Float). s.first) x2s) a-exact.x2 i;
+                  flag = whole_is (float_at l flag_place) a.flag (stored.behind flag_place (lit≤ tt) ∙ ap (λ (s : Sides Float). s.first) flags) a-exact.flag i;
                   sections = stored.first i;
                 };
             second =
                 λ i.
                 record {
-                  x1 = whole_is (float_at l (x1_place + 1)) b.x1 (stored.behind (x1_place + 1) (lit≤ tt) ∙ ap (λ (s : Sides). s.second) x1s) b-exact.x1 i;
-                  x2 = whole_is (float_at l (x2_place + 1)) b.x2 (stored.behind (x2_place + 1) (lit≤ tt) ∙ ap (λ (s : Sides). s.second) x2s) b-exact.x2 i;
-                  flag = whole_is (float_at l (flag_place + 1)) b.flag (stored.behind (flag_place + 1) (lit≤ tt) ∙ ap (λ (s : Sides). s.second) flags) b-exact.flag i;
+                  x1 = whole_is (float_at l (x1_place + 1)) b.x1 (stored.behind (x1_place + 1) (lit≤ tt) ∙ ap (λ (s : Sides Float). s.second) x1s) b-exact.x1 i;
+                  x2 = whole_is (float_at l (x2_place + 1)) b.x2 (stored.behind (x2_place + 1) (lit≤ tt) ∙ ap (λ (s : Sides Float). s.second) x2s) b-exact.x2 i;
+                  flag = whole_is (float_at l (flag_place + 1)) b.flag (stored.behind (flag_place + 1) (lit≤ tt) ∙ ap (λ (s : Sides Float). s.second) flags) b-exact.flag i;
                   sections = stored.second i;
                 };
           }

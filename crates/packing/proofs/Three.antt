@@ -12,7 +12,7 @@ use Rattle.engine.proofs.Store.{IsWhole, sides-length, sides_outside, sides_same
 use Rattle.engine.proofs.Read.{sides_other}
 use Rattle.packing.specs.Packing.{put_three}
 
-module _ (l : List Float) (at : ℕ) (a b c : Sides) where
+module _ (l : List Float) (at : ℕ) (a b c : Sides Float) where
   abbrev one : List Float
   one = put_sides l at a
 

@@ -41,11 +41,11 @@ pub record LevelFloatsAsks (level : Level) : Type 0 where
   pub target_size : nat_abs level.target ≤ word_size
 
 -- a number of each side, as floats
-abbrev pub float_sides : ℤ → ℤ → Sides
+abbrev pub float_sides : ℤ → ℤ → Sides Float
 float_sides first second = record { first = float first; second = float second }
 
 -- the floats with three numbers of each side replaced, from place at on
-unfoldable pub put_three : List Float → ℕ → Sides → Sides → Sides → List Float
+unfoldable pub put_three : List Float → ℕ → Sides Float → Sides Float → Sides Float → List Float
 put_three l at a b c = put_sides (put_sides (put_sides l at a) (at + 2) b) (at + 4) c
 
 pub record PutSectionsAsks (l : List Float) (a b : List BandSection) : Type 0 where

@@ -20,8 +20,7 @@ pub fn band_floats(bands: [Band; bands::BAND_COUNT]) -> [f64; engine::SET_FLOATS
     ensures { BandFloatsGives bands result }
 {
     let mut floats = [0.0; engine::SET_FLOATS];
-    let mut b = 0;
-    while b < bands::BAND_COUNT {
+    for b in 0..bands::BAND_COUNT {
         let band = bands[b];
         put_three(
             &mut floats,
@@ -30,13 +29,12 @@ pub fn band_floats(bands: [Band; bands::BAND_COUNT]) -> [f64; engine::SET_FLOATS
             both(band.beta),
             both(band.gamma),
         );
-        b += 1;
     }
     floats
 }
 
 // Stores three numbers of each side, from place at on.
-fn put_three(floats: &mut [f64], at: usize, a: Sides, b: Sides, c: Sides)
+fn put_three(floats: &mut [f64], at: usize, a: Sides<f64>, b: Sides<f64>, c: Sides<f64>)
     requires { at + 5 < length floats.old }
     ensures { floats.new ≡ put_three floats.old at a b c }
 {
@@ -46,7 +44,7 @@ fn put_three(floats: &mut [f64], at: usize, a: Sides, b: Sides, c: Sides)
 }
 
 // A coefficient, on both sides.
-fn both(coefficient: i32) -> Sides
+fn both(coefficient: i32) -> Sides<f64>
     ensures { result ≡ float_sides coefficient coefficient }
 {
     let float = coefficient as f64;
@@ -69,9 +67,7 @@ pub fn pair_floats(first: Channel, second: Channel) -> [f64; engine::PAIR_FLOATS
         sides_of(first.x2, second.x2),
         sides_of(first.flag, second.flag),
     );
-    let first_sections = first.sections;
-    let second_sections = second.sections;
-    put_sections(&mut pair, first_sections, second_sections);
+    put_sections(&mut pair, first.sections, second.sections);
     pair
 }
 
@@ -84,17 +80,15 @@ fn put_sections(
     requires { PutSectionsAsks pair.old first second }
     ensures { PutSectionsGives pair.old first second pair.new }
 {
-    let mut b = 0;
-    while b < bands::BAND_COUNT {
+    for b in 0..bands::BAND_COUNT {
         let at = engine::SECTION_FLOATS * b;
         engine::put_section(pair, at, section_floats(first[b]));
         engine::put_section(pair, at + 1, section_floats(second[b]));
-        b += 1;
     }
 }
 
 // A number of each side.
-fn sides_of(first: i64, second: i64) -> Sides
+fn sides_of(first: i64, second: i64) -> Sides<f64>
     requires { (nat_abs first ≤ word_size) × (nat_abs second ≤ word_size) }
     ensures { result ≡ float_sides first second }
 {
@@ -109,12 +103,10 @@ fn section_floats(section: BandSection) -> FloatSection
     requires { SectionFit section }
     ensures { result ≡ float_section section }
 {
-    let level = section.gain;
-    let gain = level_floats(level);
     FloatSection {
         y1: float_of(section.y1),
         y2: float_of(section.y2),
-        gain,
+        gain: level_floats(section.gain),
         remainder: float_of(section.remainder),
     }
 }
@@ -143,22 +135,9 @@ pub fn channel_of(pair: &[f64], side: usize) -> Channel
     requires { ChannelOfAsks pair.now side }
     ensures { result ≡ channel_at_side pair.now (pair_side side) }
 {
-    let zero = Level {
-        present: 0,
-        target: 0,
-    };
-    let empty = BandSection {
-        y1: 0,
-        y2: 0,
-        gain: zero,
-        remainder: 0,
-    };
-    let mut sections = [empty; bands::BAND_COUNT];
-    let mut b = 0;
-    while b < bands::BAND_COUNT {
-        let section = section_of(engine::section_at(pair, engine::SECTION_FLOATS * b + side));
-        sections[b] = section;
-        b += 1;
+    let mut sections = [BandSection::default(); bands::BAND_COUNT];
+    for b in 0..bands::BAND_COUNT {
+        sections[b] = section_of(engine::section_at(pair, engine::SECTION_FLOATS * b + side));
     }
     let x1 = whole_of(pair[engine::X1 + side]);
     let x2 = whole_of(pair[engine::X2 + side]);
@@ -176,12 +155,10 @@ fn section_of(section: FloatSection) -> BandSection
     requires { SectionOfAsks section }
     ensures { result ≡ band_section_in section }
 {
-    let level = section.gain;
-    let gain = level_of(level);
     BandSection {
         y1: whole_of(section.y1),
         y2: whole_of(section.y2),
-        gain,
+        gain: level_of(section.gain),
         remainder: whole_of(section.remainder),
     }
 }

@@ -1,27 +1,29 @@
 -- The data of a wave file, played: what the front has of it, and what comes behind.
-use mathlib.Core.Path.{◌≡◌, refl, sym, ap, ap₂, ◌∙◌, subst}
-use mathlib.Core.Bool.{true, not}
+use mathlib.Core.Path.{◌≡◌, refl, sym, ap, ap₂, ◌∙◌}
+use mathlib.Core.Bool.{true, false, not}
 use mathlib.Core.List.{List, [], ◌∷◌, ◌++◌}
 use Prim.Native.Nat.{ℕ, zero, suc, ◌+◌, ◌-◌, ◌≤◌, ◌<◌}
 use native.Mathlib.Omega.{arith}
 use borrow.Author.Tests.{not-true}
 use lib.ListN.{length, take, drop, length-append, length-take, length-drop}
 use lib.Seq.{take-add, take_all, take-append-le, drop-append-le}
+use Rattle.std.specs.Prelude.{Result, Ok, Err}
 use Rattle.integers.proofs.Order.{both_true}
-use Rattle.refusals.specs.Numbers.{is_accepted, first_of}
-use Rattle.refusals.proofs.Laws.{first_both}
+use Rattle.refusals.specs.Numbers.{is_accepted}
+use Rattle.refusals.specs.declared.Refusal.{Refusal}
+use Rattle.refusals.proofs.Laws.{never, first_both}
 use Rattle.unit.specs.declared.Unit.{Unit}
 use Rattle.stream.specs.Claim.{one_block}
 use Rattle.playing.specs.declared.Progress.{Progress}
 use Rattle.playing.specs.Turns.{PlayAsks, PlayGives}
 use Rattle.wave_reading.specs.declared.Located.{Located}
-use Rattle.wave_reading.specs.Walk.{located}
+use Rattle.wave_reading.specs.Walk.{place_of, located}
 use Rattle.wave_reading.specs.Reading.{missing_of, data_verdict, read_verdict, data_of}
-use Rattle.wave_reading.proofs.Inside.{located-within, accepted_whole}
+use Rattle.wave_reading.proofs.Inside.{located_within, accepted_whole}
 use Rattle.wave_reading.proofs.Front.{located_front, verdict_front, data_front}
 use Rattle.wave_writing.specs.Writing.{most_data, size_verdict}
 use Rattle.wave_writing.proofs.Buffer.{size_fits}
-use Rattle.decisions.specs.Decisions.{wave_verdict, wave_ending_of}
+use Rattle.decisions.specs.Decisions.{can_play, wave_verdict, wave_ending_of}
 use Rattle.play.specs.Waves.{PlayDataAsks, WaveGives, SaveWaveAsks}
 
 -- ---- a part of a list that ends behind it
@@ -44,18 +46,25 @@ spread d behind n more h e full =
 
 -- ---- data that can be played
 
+-- what can be played is data that the walk leads to
+pub leads : (found : Result Located Refusal) → can_play found ≡ true → found ≡ Ok (place_of found)
+leads (Ok place) e = refl
+leads (Err refusal) e = never false refl e
+
+-- it begins within the front
+pub begins_in : (front : List ℕ) → (place_of (located front)).from ≤ length front
+begins_in front = go (located front) refl
+  where
+    go : (found : Result Located Refusal) → located front ≡ found → (place_of found).from ≤ length front
+    go (Ok place) e = located_within front place e
+    go (Err refusal) e = omega arith
+
 module _ (u : Unit) (front : List ℕ) (place : Located) (ahead : ℕ) (asks : PlayDataAsks u front place ahead) where
-  can : (is_accepted place.verdict ≡ true) × (is_accepted (size_verdict place.size) ≡ true)
-  can = both_true (is_accepted place.verdict) _ asks.can_play
-
-  leads : is_accepted (located front).verdict ≡ true
-  leads = sym (ap (λ (p : Located). is_accepted p.verdict) asks.place_is) ∙ can.0
-
   pub size_few : place.size ≤ most_data
-  size_few = (size_fits place.size can.1).1
+  size_few = (size_fits place.size asks.can_play).1
 
-  pub begins_within : place.from ≤ length front
-  begins_within = subst (λ (p : Located). p.from ≤ length front) (sym asks.place_is) (located-within front)
+  begins_within : place.from ≤ length front
+  begins_within = located_within front place asks.place_is
 
   -- what the front has of the data
   abbrev first : List ℕ
@@ -81,7 +90,7 @@ module _ (u : Unit) (front : List ℕ) (place : Located) (ahead : ℕ) (asks : P
             );
       }
 
-  module _ (after : Progress) (gives : PlayGives u first ahead after) where
+  module _ (u' : Unit) (after : Progress) (gives : PlayGives u first ahead u' after) where
     abbrev file : List ℕ
     file = front ++ gives.bytes
 
@@ -91,14 +100,13 @@ module _ (u : Unit) (front : List ℕ) (place : Located) (ahead : ℕ) (asks : P
     -- the data of an accepted file is what was played
     data_is : is_accepted (read_verdict file) ≡ true → data_of file ≡ first ++ gives.bytes
     data_is e =
-        data_front front gives.bytes leads e
-        ∙ ap (λ (p : Located). take p.size (drop p.from file)) (sym asks.place_is)
+        data_front front gives.bytes place asks.place_is e
         ∙ ap₂ take parts (drop-append-le place.from front gives.bytes begins_within)
         ∙ spread (drop place.from front) gives.bytes (place.from + (place.size - ahead) - place.from) ahead
         (omega (arith, length-drop place.from front, ends_within)) all_came (λ some. omega (arith, some, length-drop place.from front, asks.ahead_is, begins_within))
       where
         whole : place.from + place.size ≤ length file
-        whole = subst (λ (p : Located). p.from + p.size ≤ length file) (located_front front gives.bytes leads ∙ sym asks.place_is) (accepted_whole file e).0
+        whole = (accepted_whole file place (located_front front gives.bytes place asks.place_is) e).0
 
         all_came : length gives.bytes ≡ ahead
         all_came = omega (arith, gives.left_is, left_is, whole)
@@ -106,7 +114,7 @@ module _ (u : Unit) (front : List ℕ) (place : Located) (ahead : ℕ) (asks : P
         parts : place.size ≡ place.from + (place.size - ahead) - place.from + ahead
         parts = omega (arith, ahead_few)
 
-    pub wave_gives : WaveGives u front place after
+    pub wave_gives : WaveGives u front place u' after
     wave_gives =
         record {
           place_is = asks.place_is;
@@ -118,9 +126,9 @@ module _ (u : Unit) (front : List ℕ) (place : Located) (ahead : ℕ) (asks : P
 
 -- ---- the end
 
-module _ (u : Unit) (front : List ℕ) (place : Located) (p : Progress) (w : WaveGives u front place p) where
+module _ (u : Unit) (front : List ℕ) (place : Located) (u' : Unit) (p : Progress) (w : WaveGives u front place u' p) where
   -- a sheet is saved where no sound was lost, and after an accepted file
-  pub can_save : (wave_ending_of p.is_lost place p.left).is_saved ≡ true → SaveWaveAsks u front p
+  pub can_save : (wave_ending_of p.is_lost (Ok place) p.left).is_saved ≡ true → SaveWaveAsks u front u' p
   unfolding wave_ending_of
   can_save e =
       record {
@@ -131,17 +139,11 @@ module _ (u : Unit) (front : List ℕ) (place : Located) (p : Progress) (w : Wav
         unit_is = w.unit_is (ap is_accepted verdict ∙ kept.0);
       }
     where
-      tests : (not p.is_lost ≡ true) × (is_accepted (wave_verdict place p.left) ≡ true)
+      tests : (not p.is_lost ≡ true) × (is_accepted (wave_verdict (Ok place) p.left) ≡ true)
       tests = both_true (not p.is_lost) _ e
 
-      walked : (is_accepted place.verdict ≡ true) × (is_accepted (first_of (data_verdict p.left place.size) (size_verdict place.size)) ≡ true)
-      walked = first_both place.verdict _ tests.1
-
       kept : (is_accepted (data_verdict p.left place.size) ≡ true) × (is_accepted (size_verdict place.size) ≡ true)
-      kept = first_both (data_verdict p.left place.size) _ walked.1
+      kept = first_both (data_verdict p.left place.size) _ tests.1
 
       verdict : read_verdict (front ++ w.behind) ≡ data_verdict p.left place.size
-      verdict =
-          verdict_front front w.behind (sym (ap (λ (l : Located). is_accepted l.verdict) w.place_is) ∙ walked.0)
-          ∙ ap (λ (l : Located). data_verdict (missing_of l (length (front ++ w.behind))) l.size) (sym w.place_is)
-          ∙ ap (λ (n : ℕ). data_verdict n place.size) (sym w.missing_is)
+      verdict = verdict_front front w.behind place w.place_is ∙ ap (λ (n : ℕ). data_verdict n place.size) (sym w.missing_is)

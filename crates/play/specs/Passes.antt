@@ -12,12 +12,12 @@ pub record OpenAsks (count : ℕ) (first : List ℕ) (wave : Bool) : Type 0 wher
   pub asked : asks_wave count first || is_plain (request_of count first) ≡ true
   pub kind : wave ≡ asks_wave count first
 
--- the stream at the end of a pass that began with this unit: one block of all that was read, however much it was
-pub record PassGives (u : Unit) (after : Progress) : Type 0 where
+-- the unit and the stream at the end of a pass that began with this unit: one block of all that was read, however much it was
+pub record PassGives (u u' : Unit) (after : Progress) : Type 0 where
   pub most : ℕ
-  pub gives : PlayGives u [] most after
+  pub gives : PlayGives u [] most u' after
 
--- what may be saved: a stream whose unit is fit, at an end at which the sheet is written
-pub record SaveAsks (p : Progress) : Type 0 where
-  pub fit : Fit p.unit
+-- what may be saved: a unit that is fit, at an end of the stream at which the sheet is written
+pub record SaveAsks (u : Unit) (p : Progress) : Type 0 where
+  pub fit : Fit u
   pub is_saved : (ending_of p.is_lost p.held).is_saved ≡ true

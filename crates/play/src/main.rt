@@ -14,7 +14,7 @@ mod waves;
 
 use arguments::Request;
 use playing::Progress;
-use refusals::Verdict;
+use refusals::{Refusal, Verdict};
 use std::fs::File;
 use unit::Unit;
 
@@ -76,33 +76,28 @@ fn read_sheet(rt: &HostRuntime, mut file: File, is_wave: bool) {
     let mut bytes = [0u8; sheet::SHEET_ROOM];
     let received = console::receive_all(rt, &mut file, SHEET_NAME, &mut bytes);
     drop(file);
-    if received.is_failed {
-        return;
+    if let Some(count) = received {
+        start(rt, &bytes[..count], is_wave);
     }
-    let count = received.count;
-    start(rt, &bytes[..count], is_wave);
 }
 
 // Plays through the sheet of these bytes. After a refused one nothing is played or written.
 fn start(rt: &HostRuntime, bytes: &[u8], is_wave: bool) {
-    let opening = decisions::opening(bytes);
-    let verdict = opening.verdict;
-    answer_sheet(rt, bytes, verdict);
-    if !refusals::accepted(verdict) {
-        return;
+    match decisions::opening(bytes) {
+        Ok(unit) => {
+            if saving::can_save(rt) {
+                pass(rt, bytes, unit, is_wave);
+            }
+        }
+        Err(refusal) => answer_sheet(rt, bytes, refusal),
     }
-    if !saving::can_save(rt) {
-        return;
-    }
-    let unit = opening.unit;
-    pass(rt, bytes, unit, is_wave);
 }
 
 // What is said of the sheet of these bytes.
-fn answer_sheet(rt: &HostRuntime, bytes: &[u8], verdict: Verdict)
-    requires { verdict ≡ (opened bytes.now).verdict }
+fn answer_sheet(rt: &HostRuntime, bytes: &[u8], refusal: Refusal)
+    requires { Err refusal ≡ opened bytes.now }
 {
-    console::answer(rt, verdict);
+    console::answer(rt, Err(refusal));
 }
 
 // A pass through the unit that the sheet of these bytes carries.
@@ -113,29 +108,26 @@ fn pass(rt: &HostRuntime, bytes: &[u8], unit: Unit, is_wave: bool)
         waves::pass(rt, unit);
         return;
     }
-    let stream = playing::play(rt, unit, b"", usize::MAX);
-    finish(rt, unit, stream);
+    let mut played = unit;
+    let stream = playing::play(rt, &mut played, b"", usize::MAX);
+    finish(rt, unit, played, stream);
 }
 
-// The end of a pass that began with this unit: the sheet, and what is said of a tail.
-fn finish(rt: &HostRuntime, begun: Unit, stream: Progress)
-    requires { PassGives begun stream }
+// The end of a pass that began with one unit and left another: the sheet, and what is said of a tail.
+fn finish(rt: &HostRuntime, begun: Unit, unit: Unit, stream: Progress)
+    requires { PassGives begun unit stream }
 {
-    let is_lost = stream.is_lost;
-    let held = stream.held;
-    let ending = decisions::ending(is_lost, held);
-    let verdict = ending.verdict;
+    let ending = decisions::ending(stream.is_lost, stream.held);
     if ending.is_saved {
-        save(rt, stream);
+        save(rt, unit, stream);
     }
-    answer_end(rt, is_lost, held, verdict);
+    answer_end(rt, stream.is_lost, stream.held, ending.verdict);
 }
 
 // Saves the sheet after a pass.
-fn save(rt: &HostRuntime, stream: Progress)
-    requires { SaveAsks stream }
+fn save(rt: &HostRuntime, unit: Unit, stream: Progress)
+    requires { SaveAsks unit stream }
 {
-    let unit = stream.unit;
     saving::save(rt, unit);
 }
 

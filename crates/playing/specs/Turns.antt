@@ -1,6 +1,6 @@
 -- What playing does with standard input. No contract can say which bytes a read of the system brings; so each says that there are bytes
 -- of which it holds. Definitions only.
-use Rattle.std.specs.Prelude.{◌≡◌, true, List, ◌++◌, ℕ, ◌+◌, ◌≤◌, ◌<◌, length, take}
+use Rattle.std.specs.Prelude.{◌≡◌, List, ◌++◌, ℕ, ◌+◌, ◌≤◌, ◌<◌, length, take}
 use Rattle.unit.specs.declared.Unit.{Unit}
 use Rattle.unit.specs.Sizes.{channel_count}
 use Rattle.unit.specs.Fit.{Fit}
@@ -27,31 +27,31 @@ pub record SoundAsks (u : Unit) (input : List ℕ) (count : ℕ) (output : List 
   pub output_room : length input ≤ length output
 
 -- the piece is one block, and the tail, less than a frame, stands at the front of the input
-pub record SoundGives (u : Unit) (piece : List ℕ) (after : Sounded) (input' : List ℕ) : Type 0 where
-  pub unit_is : after.unit ≡ (one_block u piece).unit
+pub record SoundGives (u : Unit) (piece : List ℕ) (u' : Unit) (after : Sounded) (input' : List ℕ) : Type 0 where
+  pub unit_is : u' ≡ (one_block u piece).unit
   pub held_is : take after.held input' ≡ (one_block u piece).held
   pub held_count : after.held ≡ length (one_block u piece).held
   pub held_few : after.held < frame_size channel_count
-  pub ready : Ready (begun after.unit)
+  pub ready : Ready (begun u')
 
 -- ---- one read
 
 -- it can be read on: the unit is fit and has two channels, there is room behind what is held, and the output has room for all that the input has
-pub record TurnAsks (p : Progress) (input output : List ℕ) : Type 0 where
-  pub ready : Ready (begun p.unit)
+pub record TurnAsks (u : Unit) (p : Progress) (input output : List ℕ) : Type 0 where
+  pub ready : Ready (begun u)
   pub input_room : p.held < length input
   pub output_room : length input ≤ length output
 
--- what was held and what was read, no more bytes than may be, are one block; where more may come, a byte has come
-pub record TurnGives (p : Progress) (input : List ℕ) (after : Progress) (input' : List ℕ) : Type 0 where
+-- what was held and what was read, some bytes and no more than may be, are one block
+pub record TurnGives (u : Unit) (p : Progress) (input : List ℕ) (u' : Unit) (after : Progress) (input' : List ℕ) : Type 0 where
   pub bytes : List ℕ
-  pub unit_is : after.unit ≡ (one_block p.unit (take p.held input ++ bytes)).unit
-  pub held_is : take after.held input' ≡ (one_block p.unit (take p.held input ++ bytes)).held
-  pub held_count : after.held ≡ length (one_block p.unit (take p.held input ++ bytes)).held
+  pub unit_is : u' ≡ (one_block u (take p.held input ++ bytes)).unit
+  pub held_is : take after.held input' ≡ (one_block u (take p.held input ++ bytes)).held
+  pub held_count : after.held ≡ length (one_block u (take p.held input ++ bytes)).held
   pub held_few : after.held < frame_size channel_count
   pub left_is : length bytes + after.left ≡ p.left
-  pub comes : after.is_open ≡ true → 0 < p.left → 0 < length bytes
-  pub ready : Ready (begun after.unit)
+  pub comes : 0 < length bytes
+  pub ready : Ready (begun u')
 
 -- ---- all reads
 
@@ -62,9 +62,9 @@ pub record PlayAsks (u : Unit) (first : List ℕ) : Type 0 where
 
 -- "its sound and sheet are those of one block": the unit at the end is that of one block of the first bytes and all that was read behind them, no
 -- more than may be, and the tail of it is held
-pub record PlayGives (u : Unit) (first : List ℕ) (most : ℕ) (after : Progress) : Type 0 where
+pub record PlayGives (u : Unit) (first : List ℕ) (most : ℕ) (u' : Unit) (after : Progress) : Type 0 where
   pub bytes : List ℕ
-  pub unit_is : after.unit ≡ (one_block u (first ++ bytes)).unit
+  pub unit_is : u' ≡ (one_block u (first ++ bytes)).unit
   pub held_count : after.held ≡ length (one_block u (first ++ bytes)).held
-  pub fit : Fit after.unit
+  pub fit : Fit u'
   pub left_is : length bytes + after.left ≡ most

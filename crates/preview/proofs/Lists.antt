@@ -1,6 +1,6 @@
 -- Laws of the definitions over lists: one word more, one number more stored, what an accepted call tells, and what a
 -- call leaves.
-use mathlib.Core.Path.{◌≡◌, refl, sym, ap, ap₂, ◌∙◌}
+use mathlib.Core.Path.{◌≡◌, sym, ap, ap₂, ◌∙◌}
 use mathlib.Core.Bool.{true, false, ◌&&◌}
 use mathlib.Core.List.{List, [], ◌∷◌, ◌++◌, map, map-append}
 use Prim.Native.Nat.{ℕ, suc, ◌≤◌, ◌<◌}
@@ -12,9 +12,8 @@ use lib.Seq.{drop-cons, set_at, append_snoc}
 use borrow.Author.Tests.{leb-true}
 use Rattle.integers.proofs.Order.{both_true}
 use Rattle.words.specs.Words.{is_word}
-use Rattle.refusals.specs.Numbers.{is_accepted, unless}
-use Rattle.refusals.specs.declared.Verdict.{Verdict}
-use Rattle.refusals.specs.declared.Verdict.TheVariants.{Accepted, OutputShort, NotWord}
+use Rattle.refusals.specs.Numbers.{is_accepted, unless, Verdict, Accepted}
+use Rattle.refusals.specs.declared.Refusal.TheVariants.{OutputShort, NotWord}
 use Rattle.refusals.proofs.Laws.{unless_accepted, first_both}
 use Rattle.bands.specs.Bands.{band_verdict}
 use Rattle.bands.specs.declared.Band.{Band}
@@ -70,14 +69,14 @@ preview_accepted band words results remainders e =
       band_accepted = band_first.0;
       results_have = leb-true (length words) results room.0;
       remainders_have = leb-true (length words) remainders room.1;
-      all_words = (unless_accepted (are_words words) NotWord Accepted (λ t. refl) room_first.1).0;
+      all_words = (unless_accepted (are_words words) NotWord Accepted room_first.1).0;
     }
   where
     band_first : (is_accepted (band_verdict band) ≡ true) × (is_accepted (unless (leb (length words) results && leb (length words) remainders) OutputShort (unless (are_words words) NotWord Accepted)) ≡ true)
     band_first = first_both (band_verdict band) _ e
 
     room_first : (leb (length words) results && leb (length words) remainders ≡ true) × (is_accepted (unless (are_words words) NotWord Accepted) ≡ true)
-    room_first = unless_accepted (leb (length words) results && leb (length words) remainders) OutputShort (unless (are_words words) NotWord Accepted) (λ t. refl) band_first.1
+    room_first = unless_accepted (leb (length words) results && leb (length words) remainders) OutputShort (unless (are_words words) NotWord Accepted) band_first.1
 
     room : (leb (length words) results ≡ true) × (leb (length words) remainders ≡ true)
     room = both_true _ _ room_first.0

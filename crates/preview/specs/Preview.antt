@@ -1,17 +1,16 @@
 -- What the preview gives: the integer section's results and remainders over a list of words. Definitions only, by docs/SPECIFICATION.md, The floating preview.
-use Rattle.std.specs.Prelude.{Bool, true, cond, ◌&&◌, List, [], ◌∷◌, ◌++◌, ℕ, leb, ℤ, length, drop}
+use Rattle.std.specs.Prelude.{Bool, cond, ◌&&◌, List, ◌++◌, ℕ, leb, ℤ, length, drop}
+use Rattle.std.specs.List.{list_all}
 use Rattle.words.specs.Words.{is_word}
-use Rattle.refusals.specs.Numbers.{unless, is_accepted, first_of}
-use Rattle.refusals.specs.declared.Verdict.{Verdict}
-use Rattle.refusals.specs.declared.Verdict.TheVariants.{Accepted, OutputShort, NotWord}
+use Rattle.refusals.specs.Numbers.{unless, is_accepted, first_of, Verdict, Accepted}
+use Rattle.refusals.specs.declared.Refusal.TheVariants.{OutputShort, NotWord}
 use Rattle.bands.specs.Bands.{band_verdict}
 use Rattle.bands.specs.declared.Band.{Band}
 use Rattle.section.specs.Step.{cleared_section, results_over, remainders_over}
 
 -- every number of the list is a word
 unfoldable pub are_words : List ℤ → Bool
-are_words [] = true
-are_words (x ∷ xs) = is_word x && are_words xs
+are_words words = list_all is_word words
 
 -- "8 to 10, then 6 (either buffer shorter than the words), then 15 a number that is no word"
 unfoldable pub preview_verdict : Band → List ℤ → ℕ → ℕ → Verdict

@@ -15,7 +15,7 @@ ghost use Rattle.preview.specs.Preview.{are_words, preview_verdict, previewed, b
 ghost use Rattle.preview.specs.Carried.{carried, carried_step, section_in, StepAsks, LimitWordAsks};
 
 use bands::Band;
-use refusals::Verdict;
+use refusals::{Refusal, Verdict};
 
 // A section's numbers as floats: its three coefficients, the two earlier inputs and the two earlier results ("delayed words").
 #[derive(Clone, Copy)]
@@ -39,48 +39,36 @@ pub struct PreviewStep {
 // Fills the front of one buffer with the section's results over the words, and that of the other with its remainders. 8 to 10 for the band, then
 // 6 for a buffer shorter than the words, then 15 for a number that is no word: refused, both buffers are unchanged. Entries past the results, and
 // past the remainders, keep their contents.
+#[tactic(auto, unfolding(crate::specs::Preview::previewed))]
 pub fn fill(band: Band, words: &[i32], results: &mut [i32], remainders: &mut [i32]) -> Verdict
     ensures { (result ≡ preview_verdict band words.now (length results.old) (length remainders.old)) × (buffers_of results.new remainders.new ≡ previewed band words.now (buffers_of results.old remainders.old)) }
 {
-    let verdict = check(band, words, results.len(), remainders.len());
-    if refusals::accepted(verdict) {
-        run(band, words, results, remainders);
-    }
-    verdict
+    check(band, words, results.len(), remainders.len())?;
+    run(band, words, results, remainders);
+    Ok(())
 }
 
 // Accepted, or the first refusal that applies.
+#[tactic(auto, unfolding(crate::specs::Preview::preview_verdict))]
 fn check(band: Band, words: &[i32], results: usize, remainders: usize) -> Verdict
     ensures { result ≡ preview_verdict band words.now results remainders }
 {
-    let verdict = bands::check_band(band);
-    if !refusals::accepted(verdict) {
-        return verdict;
-    }
-    if results < words.len() {
-        return Verdict::OutputShort;
-    }
-    if remainders < words.len() {
-        return Verdict::OutputShort;
+    bands::check_band(band)?;
+    if !((words.len() <= results) & (words.len() <= remainders)) {
+        return Err(Refusal::OutputShort);
     }
     if !are_words(words) {
-        return Verdict::NotWord;
+        return Err(Refusal::NotWord);
     }
-    Verdict::Accepted
+    Ok(())
 }
 
 // Whether every number is a word.
+#[tactic(auto, unfolding(crate::specs::Preview::are_words))]
 fn are_words(words: &[i32]) -> bool
     ensures { result ≡ are_words words.now }
 {
-    let mut i = 0;
-    while i < words.len() {
-        if !words::is_word(words[i]) {
-            return false;
-        }
-        i += 1;
-    }
-    true
+    words.iter().all(|word| words::is_word(*word))
 }
 
 // An accepted call: each word steps the preview, and the result and the remainder are stored.
@@ -89,13 +77,11 @@ fn run(band: Band, words: &[i32], results: &mut [i32], remainders: &mut [i32])
     ensures { buffers_of results.new remainders.new ≡ section_buffers band words.now (buffers_of results.old remainders.old) }
 {
     let mut preview = cleared(band);
-    let mut i = 0;
-    while i < words.len() {
-        let answer = step(preview, words[i]);
+    for (i, word) in words.iter().enumerate() {
+        let answer = step(preview, *word);
         preview = answer.preview;
         results[i] = preview.y1 as i32;
         remainders[i] = answer.remainder as i32;
-        i += 1;
     }
 }
 
@@ -104,9 +90,9 @@ fn cleared(band: Band) -> Preview
     ensures { result ≡ carried (cleared_section band) }
 {
     Preview {
-        alpha: band.alpha as f64,
-        beta: band.beta as f64,
-        gamma: band.gamma as f64,
+        alpha: f64::from(band.alpha),
+        beta: f64::from(band.beta),
+        gamma: f64::from(band.gamma),
         x1: 0.0,
         x2: 0.0,
         y1: 0.0,
@@ -124,23 +110,17 @@ fn step(preview: Preview, x: i32) -> PreviewStep
     ensures { result ≡ carried_step (stepped (section_in preview) x) }
 {
     let input = x as f64;
-    let alpha = preview.alpha;
-    let beta = preview.beta;
-    let gamma = preview.gamma;
-    let y1 = preview.y1;
-    let sum = 0.0 + alpha * (input - preview.x2) - beta * preview.y2 + gamma * y1;
+    let sum = 0.0 + preview.alpha * (input - preview.x2) - preview.beta * preview.y2
+        + preview.gamma * preview.y1;
     let rounded = floats::nearest_whole(sum / SUM_SCALE);
-    let after = Preview {
-        alpha,
-        beta,
-        gamma,
-        x1: input,
-        x2: preview.x1,
-        y1: limit_word(rounded),
-        y2: y1,
-    };
     PreviewStep {
-        preview: after,
+        preview: Preview {
+            x1: input,
+            x2: preview.x1,
+            y1: limit_word(rounded),
+            y2: preview.y1,
+            ..preview
+        },
         remainder: sum - SUM_SCALE * rounded,
     }
 }
@@ -156,10 +136,10 @@ fn limit_word(rounded: f64) -> f64
     ensures { result ≡ float (limit word_low word_high (whole_of rounded)) }
 {
     if rounded < WORD_LOW {
-        return WORD_LOW;
+        WORD_LOW
+    } else if WORD_HIGH < rounded {
+        WORD_HIGH
+    } else {
+        rounded
     }
-    if WORD_HIGH < rounded {
-        return WORD_HIGH;
-    }
-    rounded
 }

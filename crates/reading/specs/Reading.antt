@@ -2,10 +2,10 @@
 use Rattle.std.specs.Prelude.{cond, List, ℕ}
 use Rattle.refusals.specs.Numbers.{is_accepted}
 use Rattle.unit.specs.declared.Unit.{Unit}
+use Rattle.unit.specs.Answered.{Answered, answered}
 use Rattle.sheet.specs.Sheet.{sheet_verdict, carried_unit}
-use Rattle.reading.specs.declared.SheetRead.{SheetRead}
 
 -- the answer: accepted, the unit that the sheet carries; refused, "the given unit comes back, unexamined"
-unfoldable pub sheet_read : List ℕ → List ℕ → Unit → SheetRead
+unfoldable pub sheet_read : List ℕ → List ℕ → Unit → Answered
 sheet_read letters bytes given =
-    record { verdict = sheet_verdict letters bytes; unit = cond (is_accepted (sheet_verdict letters bytes)) (carried_unit letters bytes) given }
+    answered (sheet_verdict letters bytes) (cond (is_accepted (sheet_verdict letters bytes)) (carried_unit letters bytes) given)

@@ -9,9 +9,8 @@ use lib.Dec.{eqb}
 use lib.ListN.{length}
 use lib.Seq.{take_all}
 use borrow.Author.Tests.{eqb-true, eq-eqb, ne_eqb, le-leb}
-use Rattle.refusals.specs.Numbers.{is_accepted, unless, first_of}
-use Rattle.refusals.specs.declared.Verdict.{Verdict}
-use Rattle.refusals.specs.declared.Verdict.TheVariants.{Accepted, SheetLength, LineMark}
+use Rattle.refusals.specs.Numbers.{is_accepted, unless, first_of, Verdict, Accepted}
+use Rattle.refusals.specs.declared.Refusal.TheVariants.{SheetLength, LineMark}
 use Rattle.refusals.proofs.Laws.{never, unless_accepted, first_both, accepted_only}
 use Rattle.unit.specs.declared.Unit.{Unit}
 use Rattle.unit.specs.Shaped.{Shaped}
@@ -22,7 +21,7 @@ use Rattle.sheet.specs.Sheet.{unit_form, sheet_size, short_size, taken_verdict, 
 use Rattle.sheet.proofs.Sides.{UnitFits, unit_sound, fit_unit, UnitTold, unit_fit}
 use Rattle.sheet.proofs.Sizes.{sheet_length, short_length}
 use Rattle.writing.specs.Written.{writes, filled_part}
-use Rattle.reading.specs.declared.SheetRead.{SheetRead}
+use Rattle.unit.specs.Answered.{Answered}
 use Rattle.reading.specs.Reading.{sheet_read}
 use Rattle.roundtrip.specs.Claim.{HasSheet, ReadsAs, RoundTrip}
 
@@ -112,12 +111,12 @@ module _ (letters : List ℕ) where
 
   -- it reads as one unit
   one_unit : (bytes : List ℕ) (u w : Unit) → ReadsAs letters bytes u → ReadsAs letters bytes w → u ≡ w
-  one_unit bytes u w p q = ap (λ (r : SheetRead). r.unit) (sym (p u) ∙ q u)
+  one_unit bytes u w p q = ap (λ (r : Answered). r.unit) (sym (p u) ∙ q u)
 
   module _ (bytes : List ℕ) (u : Unit) (reads : ReadsAs letters bytes u) where
     verdict_accepted : is_accepted (sheet_verdict letters bytes) ≡ true
     unfolding sheet_read
-    verdict_accepted = ap (λ (r : SheetRead). is_accepted r.verdict) (reads u)
+    verdict_accepted = ap (λ (r : Answered). is_accepted r.verdict) (reads u)
 
     carried_unit_lem : carried_unit letters bytes ≡ u
     carried_unit_lem = one_unit bytes (carried_unit letters bytes) u (accepted_reads bytes verdict_accepted) reads
@@ -126,7 +125,7 @@ module _ (letters : List ℕ) where
     length_and_lines : (right_length bytes ≡ true) × (is_accepted (lines_verdict (is_long letters bytes) letters bytes) ≡ true)
     unfolding sheet_verdict
     length_and_lines =
-        unless_accepted (right_length bytes) SheetLength (lines_verdict (is_long letters bytes) letters bytes) (λ t. refl) verdict_accepted
+        unless_accepted (right_length bytes) SheetLength (lines_verdict (is_long letters bytes) letters bytes) verdict_accepted
 
     accepted_length : (length bytes ≡ sheet_size letters) ⊎ (length bytes ≡ short_size letters)
     accepted_length = go (is_long letters bytes) refl length_and_lines.0
@@ -155,7 +154,7 @@ module _ (letters : List ℕ) where
       all_taken : length bytes ≡ (unit_form long letters).size bytes
       all_taken =
           eqb-true (length bytes) ((read_form letters bytes).size bytes)
-          (unless_accepted (eqb (length bytes) ((read_form letters bytes).size bytes)) LineMark Accepted (λ t. refl) lines_and_end.1).0
+          (unless_accepted (eqb (length bytes) ((read_form letters bytes).size bytes)) LineMark Accepted lines_and_end.1).0
           ∙ ap (λ (f : Form Unit). f.size bytes) form-is
 
       unit_told : UnitTold long letters u

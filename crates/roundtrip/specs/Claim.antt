@@ -13,8 +13,7 @@
 --
 -- Every unit that a program holds is `Shaped (length side_letters)`: ten bands, and two channels of ten sections.
 use Rattle.std.specs.Prelude.{◌≡◌, true, List, ◌⊎◌, ℕ, ◌≤◌, length}
-use Rattle.refusals.specs.Numbers.{is_accepted}
-use Rattle.refusals.specs.declared.Verdict.TheVariants.{Accepted}
+use Rattle.refusals.specs.Numbers.{is_accepted, Accepted}
 use Rattle.unit.specs.declared.Unit.{Unit}
 use Rattle.unit.specs.Fit.{unit_fits}
 use Rattle.unit.specs.Shaped.{Shaped}

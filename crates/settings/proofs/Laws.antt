@@ -13,8 +13,8 @@ use Rattle.integers.proofs.Parts.{linear, var, ◌⊖◌, ◌⊗◌}
 use Rattle.rounding.specs.Rounding.{within}
 use Rattle.rounding.proofs.Limit.{within_bounds, bounds_within}
 use Rattle.words.specs.Words.{word_low, word_high, is_word}
-use Rattle.refusals.specs.Numbers.{unless, is_accepted}
-use Rattle.refusals.specs.declared.Verdict.TheVariants.{Accepted, NoPlace, PositionOver, NotFinite, FactorRange}
+use Rattle.refusals.specs.Numbers.{unless, is_accepted, Accepted}
+use Rattle.refusals.specs.declared.Refusal.TheVariants.{NoPlace, PositionOver, NotFinite, FactorRange}
 use Rattle.refusals.proofs.Laws.{unless_accepted}
 use Rattle.bands.specs.Bands.{band_count}
 use Rattle.floats.proofs.Laws.{volume_band_lem, target_word as factor-word, volume_target_lem}
@@ -104,24 +104,24 @@ volume_word v e = bounds_within word_low word_high v (omega (linear, (within_bou
 
 -- what an accepted order has shown: its place, and its level
 pub place_accepted : (channels side band : ℕ) (setting : Setting) → is_accepted (order_arguments channels side band setting) ≡ true → is_place channels side band ≡ true
-place_accepted channels side band setting e = (unless_accepted (is_place channels side band) NoPlace (level_verdict band setting) (λ t. refl) e).0
+place_accepted channels side band setting e = (unless_accepted (is_place channels side band) NoPlace (level_verdict band setting) e).0
 
 -- and of the level
 pub level_accepted : (channels side band : ℕ) (setting : Setting) → is_accepted (order_arguments channels side band setting) ≡ true → is_accepted (level_verdict band setting) ≡ true
-level_accepted channels side band setting e = (unless_accepted (is_place channels side band) NoPlace (level_verdict band setting) (λ t. refl) e).1
+level_accepted channels side band setting e = (unless_accepted (is_place channels side band) NoPlace (level_verdict band setting) e).1
 
 -- what an accepted position and an accepted factor have shown
 position_accepted : (band p : ℕ) → is_accepted (level_verdict band (Position p)) ≡ true → p ≤ 31
 unfolding level_verdict
-position_accepted band p e = leb-true p 31 (unless_accepted (leb p 31) PositionOver Accepted (λ t. refl) e).0
+position_accepted band p e = leb-true p 31 (unless_accepted (leb p 31) PositionOver Accepted e).0
 
 -- of a factor: finite, and in its range
 factor_accepted : (band : ℕ) (f : Float) → is_accepted (level_verdict band (Factor f)) ≡ true → is_factor (lowest band) f ≡ true
 unfolding level_verdict
-factor_accepted band f e = simp (first.0, (unless_accepted (in_range (lowest band) f) FactorRange Accepted (λ t. refl) first.1).0)
+factor_accepted band f e = simp (first.0, (unless_accepted (in_range (lowest band) f) FactorRange Accepted first.1).0)
   where
     first : (is_finite f ≡ true) × (is_accepted (unless (in_range (lowest band) f) FactorRange Accepted) ≡ true)
-    first = unless_accepted (is_finite f) NotFinite (unless (in_range (lowest band) f) FactorRange Accepted) (λ t. refl) e
+    first = unless_accepted (is_finite f) NotFinite (unless (in_range (lowest band) f) FactorRange Accepted) e
 
 -- a factor that the volume or a band takes is one that a band takes
 pub factor_fits : (band : ℕ) (f : Float) → is_accepted (level_verdict band (Factor f)) ≡ true → is_factor band_lowest f ≡ true
@@ -144,19 +144,20 @@ target_volume channels side band setting e b = go setting (level_accepted channe
     go (Factor f) a = volume_target_lem f (simp is_volume_lem at (factor_accepted band f a))
     go Mute a = simp is_volume_lem refl
 
--- "Gains g are words": so are their targets
-pub target_word : (channels side band : ℕ) (setting : Setting) → is_accepted (order_arguments channels side band setting) ≡ true → is_word (target_of band setting) ≡ true
-unfolding target_of within
-target_word channels side band setting e = go setting (level_accepted channels side band setting e)
-  where
-    either : (t : Bool) (v g : ℤ) → is_word v ≡ true → is_word g ≡ true → is_word (cond t v g) ≡ true
-    either true v g hv hg = hv
-    either false v g hv hg = hg
+-- a word, where both choices of a test are
+either : (t : Bool) (v g : ℤ) → is_word v ≡ true → is_word g ≡ true → is_word (cond t v g) ≡ true
+either true v g hv hg = hv
+either false v g hv hg = hg
 
-    go : (s : Setting) → is_accepted (level_verdict band s) ≡ true → is_word (target_of band s) ≡ true
-    go (Position p) a =
-        either (eqb band volume_band) (volume_position p) (band_position p)
-        (volume_word (volume_position p) (volume_position_lem p (position_accepted band p a)))
-        (band_position_lem p (position_accepted band p a))
-    go (Factor f) a = factor-word f
-    go Mute a = either (eqb band volume_band) (pos 0) word_low refl refl
+-- "Gains g are words": so are their targets
+pub level_word : (band : ℕ) (setting : Setting) → is_accepted (level_verdict band setting) ≡ true → is_word (target_of band setting) ≡ true
+unfolding target_of within
+level_word band (Position p) a =
+    either (eqb band volume_band) (volume_position p) (band_position p)
+    (volume_word (volume_position p) (volume_position_lem p (position_accepted band p a)))
+    (band_position_lem p (position_accepted band p a))
+level_word band (Factor f) a = factor-word f
+level_word band Mute a = either (eqb band volume_band) (pos 0) word_low refl refl
+
+pub target_word : (channels side band : ℕ) (setting : Setting) → is_accepted (order_arguments channels side band setting) ≡ true → is_word (target_of band setting) ≡ true
+target_word channels side band setting e = level_word band setting (level_accepted channels side band setting e)

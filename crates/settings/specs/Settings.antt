@@ -2,9 +2,8 @@
 -- and the target that a level stands for. Definitions only, by docs/SPECIFICATION.md, Levels.
 use Rattle.std.specs.Prelude.{Bool, cond, ◌&&◌, ◌||◌, ℕ, suc, eqb, leb, ltb, ℤ, pos, ◌-ℤ◌, ◌*ℤ◌}
 use Rattle.words.specs.Words.{word_low}
-use Rattle.refusals.specs.Numbers.{unless}
-use Rattle.refusals.specs.declared.Verdict.{Verdict}
-use Rattle.refusals.specs.declared.Verdict.TheVariants.{Accepted, NoPlace, PositionOver, NotFinite, FactorRange}
+use Rattle.refusals.specs.Numbers.{unless, Verdict, Accepted}
+use Rattle.refusals.specs.declared.Refusal.TheVariants.{NoPlace, PositionOver, NotFinite, FactorRange}
 use Rattle.bands.specs.Bands.{band_count}
 use Rattle.floats.specs.Value.{is_finite, in_range, band_lowest, volume_lowest, factor_target}
 use Rattle.settings.specs.declared.Setting.{Setting}

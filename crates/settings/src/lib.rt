@@ -1,13 +1,13 @@
 // What a level order asks: a place and a level. Which are refused, and the target that an accepted level stands for.
 #![tactic(auto)]
 
-ghost use Rattle.std.specs.Prelude.{◌≡◌, true, leb};
-ghost use Rattle.refusals.specs.Numbers.{is_accepted, unless};
+ghost use Rattle.std.specs.Prelude.{◌≡◌, ◌<◌, true, leb};
+ghost use Rattle.refusals.specs.Numbers.{Accepted, is_accepted, unless};
 ghost use Rattle.floats.specs.Value.{is_factor};
 ghost use Rattle.unit.specs.Sizes.{channel_count};
-ghost use Rattle.settings.specs.Settings.{is_place, last_position, band_step, target_of, lowest, level_verdict, order_arguments};
+ghost use Rattle.settings.specs.Settings.{is_place, names, last_position, band_step, target_of, lowest, level_verdict, order_arguments};
 
-use refusals::Verdict;
+use refusals::Refusal;
 
 // The side that names both channels, and the band number that stands for the volume.
 pub const BOTH_SIDES: u32 = 2;
@@ -40,60 +40,66 @@ pub enum Setting {
 }
 
 // Accepted, or the first refusal of the arguments: the place, then the level.
-pub fn check_order(side: u32, band: u32, setting: Setting) -> Verdict
+pub fn check_order(side: u32, band: u32, setting: Setting) -> Result<(), Refusal>
     ensures { result ≡ order_arguments channel_count side band setting }
 {
     if !is_place(side, band) {
-        return Verdict::NoPlace;
+        return Err(Refusal::NoPlace);
     }
     check_level(band, setting)
 }
 
 // Whether there is such a side and band: one of ten bands on side 0, 1 or 2, or the volume on side 2.
+#[tactic(auto, unfolding(crate::specs::Settings::is_place))]
 fn is_place(side: u32, band: u32) -> bool
     ensures { result ≡ is_place channel_count side band }
 {
-    if band < VOLUME_BAND {
-        return side <= BOTH_SIDES;
-    }
-    if band == VOLUME_BAND {
-        return side == BOTH_SIDES;
-    }
-    false
+    (side <= BOTH_SIDES && band < VOLUME_BAND) || (side == BOTH_SIDES && band == VOLUME_BAND)
+}
+
+// Whether an order's side names this channel: its own side, or both.
+#[tactic(auto, unfolding(crate::specs::Settings::names))]
+pub fn names(side: u32, channel: usize) -> bool
+    requires { channel < channel_count }
+    ensures { result ≡ names side channel }
+{
+    side == BOTH_SIDES || side as usize == channel
 }
 
 // Accepted, or the refusal of the level. Mute is always accepted.
-fn check_level(band: u32, setting: Setting) -> Verdict
+#[tactic(auto, unfolding(crate::specs::Settings::level_verdict))]
+fn check_level(band: u32, setting: Setting) -> Result<(), Refusal>
     ensures { result ≡ level_verdict band setting }
 {
     match setting {
         Setting::Position(position) => check_position(position),
         Setting::Factor(factor) => check_factor(band, factor),
-        Setting::Mute => Verdict::Accepted,
+        Setting::Mute => Ok(()),
     }
 }
 
 // Accepted, or that the position is over 31.
-fn check_position(position: u8) -> Verdict
-    ensures { result ≡ unless (leb position last_position) Verdict.PositionOver Verdict.Accepted }
+fn check_position(position: u8) -> Result<(), Refusal>
+    ensures { result ≡ unless (leb position last_position) Refusal.PositionOver Accepted }
 {
-    if position <= LAST_POSITION {
-        return Verdict::Accepted;
+    if position > LAST_POSITION {
+        return Err(Refusal::PositionOver);
     }
-    Verdict::PositionOver
+    Ok(())
 }
 
 // Accepted, or that the factor is not finite, or is outside its range.
-fn check_factor(band: u32, factor: f32) -> Verdict
+#[tactic(auto, unfolding(crate::specs::Settings::level_verdict))]
+fn check_factor(band: u32, factor: f32) -> Result<(), Refusal>
     ensures { result ≡ level_verdict band (Setting.Factor factor) }
 {
     if !floats::is_finite(factor) {
-        return Verdict::NotFinite;
+        return Err(Refusal::NotFinite);
     }
     if !is_factor(band, factor) {
-        return Verdict::FactorRange;
+        return Err(Refusal::FactorRange);
     }
-    Verdict::Accepted
+    Ok(())
 }
 
 // Whether the factor is in its range: -1 ≤ f < 1 for a band, 0 ≤ f < 1 for the volume.
@@ -101,12 +107,14 @@ fn is_factor(band: u32, factor: f32) -> bool
     ensures { result ≡ is_factor (lowest band) factor }
 {
     if band == VOLUME_BAND {
-        return floats::is_volume_factor(factor);
+        floats::is_volume_factor(factor)
+    } else {
+        floats::is_band_factor(factor)
     }
-    floats::is_band_factor(factor)
 }
 
 // The target of an accepted level.
+#[tactic(auto, unfolding(crate::specs::Settings::target_of))]
 pub fn target_of(band: u32, setting: Setting) -> i64
     requires { is_accepted (level_verdict band setting) ≡ true }
     ensures { result ≡ target_of band setting }
@@ -119,25 +127,27 @@ pub fn target_of(band: u32, setting: Setting) -> i64
 }
 
 // The target of a position: a band's is reckoned from the middle, the volume's from 0.
+#[tactic(auto, unfolding(crate::specs::Settings::target_of, crate::specs::Settings::band_position, crate::specs::Settings::volume_position))]
 fn position_target(band: u32, position: u8) -> i64
     ensures { result ≡ target_of band (Setting.Position position) }
 {
-    let p = position as i64;
     if band == VOLUME_BAND {
-        return p * VOLUME_STEP;
+        i64::from(position) * VOLUME_STEP
+    } else {
+        (i64::from(position) - i64::from(MIDDLE_POSITION)) * band_step(position)
     }
-    let step = band_step(position);
-    (p - MIDDLE_POSITION as i64) * step
 }
 
 // The target of mute: a band goes to the lowest gain, the volume to silence.
+#[tactic(auto, unfolding(crate::specs::Settings::target_of))]
 fn muted_target(band: u32) -> i64
     ensures { result ≡ target_of band Setting.Mute }
 {
     if band == VOLUME_BAND {
-        return MUTED_VOLUME;
+        MUTED_VOLUME
+    } else {
+        MUTED_GAIN
     }
-    MUTED_GAIN
 }
 
 // What a position is worth to a band: more above the middle than below it.
@@ -145,7 +155,8 @@ fn band_step(position: u8) -> i64
     ensures { result ≡ band_step position }
 {
     if MIDDLE_POSITION <= position {
-        return STEP_ABOVE;
+        STEP_ABOVE
+    } else {
+        STEP_BELOW
     }
-    STEP_BELOW
 }

@@ -1,8 +1,8 @@
 -- The lines of the strip sheet, each as a form: "V (volume, target)", "C (A, B, G)", "L (x1, x2, flag)", "R as L" and "S (y1, y2, gain, target)",
 -- "a fifth field at the end, the remainder". Definitions only, by docs/SPECIFICATION.md, The strip sheet.
+use Rattle.refusals.specs.Numbers.{Verdict}
 use Rattle.std.specs.Prelude.{Bool, true, cond, List, [], ◌∷◌, ℕ, ℤ, pos, length, get_or}
 use Rattle.words.specs.Words.{is_word}
-use Rattle.refusals.specs.declared.Verdict.{Verdict}
 use Rattle.bands.specs.Bands.{band_verdict, band_at}
 use Rattle.bands.specs.declared.Band.{Band}
 use Rattle.levels.specs.declared.Level.{Level}

@@ -4,9 +4,8 @@
 -- field at the end, the remainder." "A sheet of 1,128 bytes is still read, with remainders 0." "The longer one is always written."
 use Rattle.std.specs.Prelude.{Bool, true, false, ◌&&◌, ◌||◌, List, [], ◌∷◌, ℕ, ◌+◌, ◌*◌, ◌-◌, eqb, ℤ, length, replicate}
 use Rattle.lists.specs.Lists.{tabulate, Each}
-use Rattle.refusals.specs.Numbers.{unless, first_of}
-use Rattle.refusals.specs.declared.Verdict.{Verdict}
-use Rattle.refusals.specs.declared.Verdict.TheVariants.{Accepted, SheetLength, LineMark}
+use Rattle.refusals.specs.Numbers.{unless, first_of, Verdict, Accepted}
+use Rattle.refusals.specs.declared.Refusal.TheVariants.{SheetLength, LineMark}
 use Rattle.bands.specs.Bands.{band_count}
 use Rattle.bands.specs.declared.Band.{Band}
 use Rattle.levels.specs.declared.Level.{Level}

@@ -65,28 +65,19 @@ pub const LINE_FEED: u8 = 10;
 pub fn section_fields(fifth: bool) -> usize
     ensures { result ≡ length (section_ranges fifth) }
 {
-    if fifth {
-        return SECTION_FIELDS;
-    }
-    PLAIN_FIELDS
+    if fifth { SECTION_FIELDS } else { PLAIN_FIELDS }
 }
 
 // The bytes of an S line, with the remainder or without it.
 pub fn section_line(fifth: bool) -> usize
     ensures { result ≡ line_size (length (section_ranges fifth)) }
 {
-    if fifth {
-        return SECTION_LINE;
-    }
-    PLAIN_LINE
+    if fifth { SECTION_LINE } else { PLAIN_LINE }
 }
 
 // The bytes of a side's lines, in the longer sheet or in the short one.
 pub fn side_lines(long: bool) -> usize
     ensures { result ≡ side_size long }
 {
-    if long {
-        return SIDE_LINES;
-    }
-    SHORT_SIDE_LINES
+    if long { SIDE_LINES } else { SHORT_SIDE_LINES }
 }

@@ -4,7 +4,6 @@
 // one that is too short. Of what stands behind the part that `write` hands back its contract says nothing.
 #![tactic(auto)]
 
-use levels::Level;
 use std::io;
 use std::io::Read;
 use unit::Unit;
@@ -22,19 +21,14 @@ const SET: [i32; bands::SET_SIZE] = [
 ];
 
 fn main(rt: HostRuntime) -> io::Result<()> {
-    let set = SET;
-    let loaded = loading::load(&set);
-    let cleared = loaded.unit;
+    let mut cleared = loading::house_unit();
+    let _ = loading::load(&mut cleared, &SET);
     print_sheets(&rt, cleared)?;
     print_longer(&rt, cleared)?;
-    let mut unfit = cleared;
-    let below = Level {
-        present: -1,
-        target: 0,
-    };
-    unfit.volume = below;
     let mut longer = [b'.'; LONGER];
     print_written(&rt, cleared, &mut longer)?;
+    let mut unfit = cleared;
+    unfit.volume.present = -1;
     let mut refused = [b'.'; LONGER];
     print_written(&rt, unfit, &mut refused)?;
     let mut shorter = [b'.'; SHORTER];
@@ -46,14 +40,14 @@ fn print_sheets(rt: &HostRuntime, cleared: Unit) -> io::Result<()> {
     let mut paper = [0u8; sheet::SHEET_SIZE];
     let part = writing::write(cleared, &mut paper);
     rt.write_all(part)?;
+    let mut unit = cleared;
     let mut sound = [0u8; 4];
-    let played = blocks::play(cleared, &[232, 3, 0, 0], &mut sound);
-    let after = played.unit;
+    let _ = blocks::play(&mut unit, &[232, 3, 0, 0], &mut sound);
     let mut sheet = [0u8; sheet::SHEET_SIZE];
-    writing::fill(after, &mut sheet);
+    writing::fill(unit, &mut sheet);
     rt.write_all(&sheet)?;
-    let read = reading::read(&sheet, cleared);
-    let carried = read.unit;
+    let mut carried = cleared;
+    let _ = reading::read(&sheet, &mut carried);
     let again = writing::write(carried, &mut paper);
     rt.write_all(again)
 }
@@ -63,8 +57,8 @@ fn print_longer(rt: &HostRuntime, cleared: Unit) -> io::Result<()> {
     let mut short = [0u8; sheet::SHORT_SIZE];
     // What is missing of it stays 0.
     let _ = rt.stdin().read_exact(&mut short);
-    let read = reading::read(&short, cleared);
-    let carried = read.unit;
+    let mut carried = cleared;
+    let _ = reading::read(&short, &mut carried);
     let mut paper = [0u8; sheet::SHEET_SIZE];
     let part = writing::write(carried, &mut paper);
     rt.write_all(part)

@@ -3,7 +3,7 @@
 --
 -- What it rests on. `advanced` and `advanced_output` (specs/Advance.antt) are what the contract of `stream::advance` promises, for all inputs. Under them stand frames (frames/specs/Played.antt), a block of them (blocks/specs/Block.antt) and fitness (unit/specs/Fit.antt).
 use Rattle.std.specs.Prelude.{◌≡◌, List, [], ◌∷◌, ◌++◌, ℕ, ◌≤◌, length, take, drop}
-use Rattle.refusals.specs.declared.Verdict.TheVariants.{Accepted}
+use Rattle.refusals.specs.Numbers.{Accepted}
 use Rattle.unit.specs.declared.Unit.{Unit}
 use Rattle.unit.specs.Sizes.{channel_count}
 use Rattle.unit.specs.Fit.{Fit}

@@ -2,7 +2,7 @@
 #![tactic(auto)]
 
 ghost use Rattle.std.specs.Prelude.{◌≡◌, ◌+◌, ◌≤◌, ◌<◌, length};
-ghost use Rattle.wave.specs.Chunks.{four_at, two_at, four as four_of, two as two_of, number_end, byte_of};
+ghost use Rattle.wave.specs.Chunks.{four_at, two_at, number_end, byte_of, four_bytes};
 
 // The bytes ahead of the chunks, and of a chunk ahead of its body. A chunk's size stands behind its name.
 pub const FILE_HEADING: usize = 12;
@@ -36,33 +36,29 @@ pub const BYTE_RATE: usize = RATE * FRAME_SIZE;
 pub const FORMAT_SIZE: usize = 16;
 
 // The number of the four bytes from a place on.
+#[tactic(auto, unfolding(crate::specs::Chunks::four_at))]
 pub fn four_at(file: &[u8], at: usize) -> usize
     requires { at + 4 ≤ length file.now }
     ensures { (result ≡ four_at file.now at) × (result < number_end) }
 {
-    four(file[at], file[at + 1], file[at + 2], file[at + 3])
+    u32::from_le_bytes([file[at], file[at + 1], file[at + 2], file[at + 3]]) as usize
 }
 
-// The number of the two bytes from a place on.
+// The number of the two bytes from a place on. A function of its own, since each width has a `from_le_bytes` of its own type.
+#[tactic(auto, unfolding(crate::specs::Chunks::two_at))]
 pub fn two_at(file: &[u8], at: usize) -> usize
     requires { at + 2 ≤ length file.now }
     ensures { result ≡ two_at file.now at }
 {
-    two(file[at], file[at + 1])
+    u16::from_le_bytes([file[at], file[at + 1]]) as usize
 }
 
-// The number of four bytes.
-fn four(a: u8, b: u8, c: u8, d: u8) -> usize
-    ensures { (result ≡ four_of a b c d) × (result < number_end) }
+// The four bytes of a number.
+pub fn four_bytes(number: usize) -> [u8; 4]
+    requires { number < number_end }
+    ensures { result ≡ four_bytes number }
 {
-    a as usize + 256 * (b as usize) + 65536 * (c as usize) + 16777216 * (d as usize)
-}
-
-// The number of two bytes.
-fn two(a: u8, b: u8) -> usize
-    ensures { result ≡ two_of a b }
-{
-    a as usize + 256 * (b as usize)
+    (number as u32).to_le_bytes()
 }
 
 // The byte of a number that counts so many: of 1, 256, 65,536 or 16,777,216.

@@ -7,18 +7,20 @@ use native.Mathlib.Omega.{arith}
 use borrow.Author.Tests.{leb-true, le-leb, le-ltb, ltb-false}
 use lib.Dec.{T, eqb, leb, ltb}
 use lib.ListN.{length, take, drop, length-append, get_or-append}
+use Rattle.std.specs.Prelude.{Result, Ok, Err}
 use Rattle.integers.proofs.Order.{both_true}
 use Rattle.refusals.specs.Numbers.{is_accepted}
-use Rattle.refusals.specs.declared.Verdict.TheVariants.{NoWave, WaveFormat, NoData}
+use Rattle.refusals.specs.declared.Refusal.{Refusal}
+use Rattle.refusals.specs.declared.Refusal.TheVariants.{NoWave, WaveFormat, NoData}
 use Rattle.refusals.proofs.Laws.{first_accepted}
 use Rattle.wave.specs.Chunks.{two_at, four_at, wave, format, data_name, file_heading, format_size}
 use Rattle.wave_reading.specs.declared.Located.{Located}
-use Rattle.wave_reading.specs.Walk.{has_heading, size_at, body_at, end_at, next_at, says_format, format_fits, misfits, data_from, refused, chunk, chunks, located}
-use Rattle.wave_reading.specs.Reading.{missing_of, data_verdict, verdict_at, read_verdict, found, data_of}
+use Rattle.wave_reading.specs.Walk.{has_heading, size_at, body_at, end_at, next_at, says_format, format_fits, misfits, data_from, place_of, chunk, chunks, located}
+use Rattle.wave_reading.specs.Reading.{missing_of, data_verdict, read_verdict, found, data_of}
 
 -- a walk that was accepted
-abbrev Leads : Located → Type 0
-Leads p = is_accepted p.verdict ≡ true
+abbrev Leads : Result Located Refusal → Type 0
+Leads r = is_accepted r ≡ true
 
 module _ (front rest : List ℕ) where
   abbrev file : List ℕ
@@ -92,19 +94,19 @@ module _ (front rest : List ℕ) where
     next_front = rw size_front
 
   -- a chunk that leads to the data leads there in the file too, if those behind it do
-  chunk_front : (at : ℕ) (seen : Bool) (there here : Located) → (body_at at ≤ length front → Leads here → there ≡ here) → Leads (chunk front at seen here) → chunk file at seen there ≡ chunk front at seen here
+  chunk_front : (at : ℕ) (seen : Bool) (there here : Result Located Refusal) → (body_at at ≤ length front → Leads here → there ≡ here) → Leads (chunk front at seen here) → chunk file at seen there ≡ chunk front at seen here
   unfolding chunk
   chunk_front at seen there here same leads = short (ltb (length front) (body_at at)) refl leads
     where
-      other : (h : body_at at ≤ length front) (t : Bool) → misfits front at seen ≡ t → Leads (cond t (refused WaveFormat) here) → cond (misfits file at seen) (refused WaveFormat) there ≡ cond t (refused WaveFormat) here
+      other : (h : body_at at ≤ length front) (t : Bool) → misfits front at seen ≡ t → Leads (cond t (Err WaveFormat) here) → cond (misfits file at seen) (Err WaveFormat) there ≡ cond t (Err WaveFormat) here
       other h true e k = absurd (subst T (sym k) tt)
       other h false e k = simp (misfits_front at h seen e) (same h k)
 
-      name : (h : body_at at ≤ length front) (t : Bool) → eqb (four_at front at) data_name ≡ t → Leads (cond t (data_from (body_at at) (size_at front at) seen) (cond (misfits front at seen) (refused WaveFormat) here)) → cond t (data_from (body_at at) (size_at file at) seen) (cond (misfits file at seen) (refused WaveFormat) there) ≡ cond t (data_from (body_at at) (size_at front at) seen) (cond (misfits front at seen) (refused WaveFormat) here)
+      name : (h : body_at at ≤ length front) (t : Bool) → eqb (four_at front at) data_name ≡ t → Leads (cond t (data_from (body_at at) (size_at front at) seen) (cond (misfits front at seen) (Err WaveFormat) here)) → cond t (data_from (body_at at) (size_at file at) seen) (cond (misfits file at seen) (Err WaveFormat) there) ≡ cond t (data_from (body_at at) (size_at front at) seen) (cond (misfits front at seen) (Err WaveFormat) here)
       name h true e k = ap (λ (n : ℕ). data_from (body_at at) n seen) (size_front at h)
       name h false e k = other h (misfits front at seen) refl k
 
-      short : (t : Bool) → ltb (length front) (body_at at) ≡ t → Leads (cond t (refused NoData) (cond (eqb (four_at front at) data_name) (data_from (body_at at) (size_at front at) seen) (cond (misfits front at seen) (refused WaveFormat) here))) → cond (ltb (length file) (body_at at)) (refused NoData) (cond (eqb (four_at file at) data_name) (data_from (body_at at) (size_at file at) seen) (cond (misfits file at seen) (refused WaveFormat) there)) ≡ cond t (refused NoData) (cond (eqb (four_at front at) data_name) (data_from (body_at at) (size_at front at) seen) (cond (misfits front at seen) (refused WaveFormat) here))
+      short : (t : Bool) → ltb (length front) (body_at at) ≡ t → Leads (cond t (Err NoData) (cond (eqb (four_at front at) data_name) (data_from (body_at at) (size_at front at) seen) (cond (misfits front at seen) (Err WaveFormat) here))) → cond (ltb (length file) (body_at at)) (Err NoData) (cond (eqb (four_at file at) data_name) (data_from (body_at at) (size_at file at) seen) (cond (misfits file at seen) (Err WaveFormat) there)) ≡ cond t (Err NoData) (cond (eqb (four_at front at) data_name) (data_from (body_at at) (size_at front at) seen) (cond (misfits front at seen) (Err WaveFormat) here))
       short true e k = absurd (subst T (sym k) tt)
       short false e k =
           let h = ltb-false (length front) (body_at at) e in
@@ -121,25 +123,26 @@ module _ (front rest : List ℕ) where
       (λ h leads. ap₂ (chunks (k + n) file) (next_front at h) (ap (λ (m : ℕ). seen || eqb m format) (name_front at h))
       ∙ chunks_front n k (next_at front at) (seen || eqb (four_at front at) format) leads) e
 
-  pub located_front : Leads (located front) → located file ≡ located front
+  leads_front : Leads (located front) → located file ≡ located front
   unfolding located
-  located_front e = go (has_heading front) refl e
+  leads_front e = go (has_heading front) refl e
     where
       size : length file ≡ length rest + length front
       size = omega (arith, length-append front rest)
 
-      go : (t : Bool) → has_heading front ≡ t → Leads (cond t (chunks (length front) front file_heading false) (refused NoWave)) → cond (has_heading file) (chunks (length file) file file_heading false) (refused NoWave) ≡ cond t (chunks (length front) front file_heading false) (refused NoWave)
+      go : (t : Bool) → has_heading front ≡ t → Leads (cond t (chunks (length front) front file_heading false) (Err NoWave)) → cond (has_heading file) (chunks (length file) file file_heading false) (Err NoWave) ≡ cond t (chunks (length front) front file_heading false) (Err NoWave)
       go true h k = simp (heading_front h) (ap (λ (n : ℕ). chunks n file file_heading false) size ∙ chunks_front (length front) (length rest) file_heading false k)
       go false h k = absurd (subst T (sym k) tt)
 
-  -- so the front tells the verdict on the file, and what the data is
-  module _ (e : Leads (located front)) where
-    pub verdict_front : read_verdict file ≡ data_verdict (missing_of (located front) (length file)) (located front).size
-    unfolding read_verdict
-    verdict_front =
-        ap (λ (p : Located). verdict_at p (length file)) (located_front e)
-        ∙ first_accepted (located front).verdict (data_verdict (missing_of (located front) (length file)) (located front).size) e
+  -- so the front tells where the data lies, the verdict on the file, and what the data is
+  module _ (place : Located) (e : located front ≡ Ok place) where
+    pub located_front : located file ≡ Ok place
+    located_front = leads_front (ap is_accepted e) ∙ e
 
-    pub data_front : is_accepted (read_verdict file) ≡ true → data_of file ≡ take (located front).size (drop (located front).from file)
+    pub verdict_front : read_verdict file ≡ data_verdict (missing_of place (length file)) place.size
+    unfolding read_verdict
+    verdict_front = rw located_front
+
+    pub data_front : is_accepted (read_verdict file) ≡ true → data_of file ≡ take place.size (drop place.from file)
     unfolding data_of found
-    data_front k = simp k (ap (λ (p : Located). take p.size (drop p.from file)) (located_front e))
+    data_front k = ap (λ (r : Result Located Refusal). take (place_of r).size (drop (place_of r).from file)) (first_accepted (read_verdict file) (located file) k ∙ located_front)

@@ -1,10 +1,10 @@
 -- What is found in small files, at the corners of docs/SPECIFICATION.md, Wave files. Definitions only; `Examples`, at the end, is proved in
 -- proofs/Examples.antt.
-use Rattle.std.specs.Prelude.{◌≡◌, List, [], ◌∷◌, ◌++◌, ℕ, take}
-use Rattle.refusals.specs.declared.Verdict.TheVariants.{Accepted, NoWave, WaveFormat, NoData, InputLength}
+use Rattle.std.specs.Prelude.{◌≡◌, List, [], ◌∷◌, ◌++◌, ℕ, take, Result, Ok, Err}
+use Rattle.refusals.specs.declared.Refusal.{Refusal}
+use Rattle.refusals.specs.declared.Refusal.TheVariants.{NoWave, WaveFormat, NoData, InputLength}
 use Rattle.wave.specs.Chunks.{two_bytes, four_bytes, riff, wave, format, data_name}
 use Rattle.wave_reading.specs.declared.Located.{Located}
-use Rattle.wave_reading.specs.Walk.{refused}
 use Rattle.wave_reading.specs.Reading.{found}
 
 -- a file of these chunks; the RIFF size is wrong in all of them
@@ -37,8 +37,8 @@ abbrev pub largest : ℕ
 largest = 4294967295
 
 -- accepted, with so many bytes from a place on
-abbrev pub at : ℕ → ℕ → Located
-at from size = record { verdict = Accepted; from = from; size = size }
+abbrev pub at : ℕ → ℕ → Result Located Refusal
+at from size = Ok (record { from = from; size = size })
 
 pub record Examples : Type 0 where
   -- ---- accepted
@@ -49,18 +49,18 @@ pub record Examples : Type 0 where
   pub second_format : found (file_of (format_chunk ++ (chunk_of format 2 (9 ∷ 9 ∷ []) ++ data_chunk))) ≡ at 54 8
   pub second_data : found (file_of (format_chunk ++ (data_chunk ++ chunk_of data_name 4 (9 ∷ 9 ∷ 9 ∷ 9 ∷ [])))) ≡ at 44 8
   -- ---- 16
-  pub other_wave : found (four_bytes riff ++ (four_bytes 7 ++ (four_bytes list ++ (format_chunk ++ data_chunk)))) ≡ refused NoWave
-  pub eleven_bytes : found (take 11 (file_of [])) ≡ refused NoWave
+  pub other_wave : found (four_bytes riff ++ (four_bytes 7 ++ (four_bytes list ++ (format_chunk ++ data_chunk)))) ≡ Err NoWave
+  pub eleven_bytes : found (take 11 (file_of [])) ≡ Err NoWave
   -- ---- 17
-  pub data_first : found (file_of (data_chunk ++ format_chunk)) ≡ refused WaveFormat
-  pub data_first_and_past : found (file_of (chunk_of data_name largest [])) ≡ refused WaveFormat
-  pub short_format : found (file_of (chunk_of format 15 fitting ++ data_chunk)) ≡ refused WaveFormat
-  pub format_past : found (file_of (chunk_of format largest (fitting ++ data_chunk))) ≡ refused WaveFormat
+  pub data_first : found (file_of (data_chunk ++ format_chunk)) ≡ Err WaveFormat
+  pub data_first_and_past : found (file_of (chunk_of data_name largest [])) ≡ Err WaveFormat
+  pub short_format : found (file_of (chunk_of format 15 fitting ++ data_chunk)) ≡ Err WaveFormat
+  pub format_past : found (file_of (chunk_of format largest (fitting ++ data_chunk))) ≡ Err WaveFormat
   -- ---- 18
-  pub no_chunks : found (file_of []) ≡ refused NoData
-  pub seven_bytes : found (file_of (format_chunk ++ (four_bytes data_name ++ (0 ∷ 0 ∷ 0 ∷ [])))) ≡ refused NoData
-  pub chunk_past : found (file_of (format_chunk ++ chunk_of list largest data_chunk)) ≡ refused NoData
-  pub data_past : found (file_of (format_chunk ++ chunk_of data_name 9 frames)) ≡ refused NoData
+  pub no_chunks : found (file_of []) ≡ Err NoData
+  pub seven_bytes : found (file_of (format_chunk ++ (four_bytes data_name ++ (0 ∷ 0 ∷ 0 ∷ [])))) ≡ Err NoData
+  pub chunk_past : found (file_of (format_chunk ++ chunk_of list largest data_chunk)) ≡ Err NoData
+  pub data_past : found (file_of (format_chunk ++ chunk_of data_name 9 frames)) ≡ Err NoData
   -- ---- 5
-  pub six_bytes : found (file_of (format_chunk ++ chunk_of data_name 6 frames)) ≡ refused InputLength
-  pub seven_and_no_pad : found (file_of (format_chunk ++ chunk_of data_name 7 (take 7 frames))) ≡ refused InputLength
+  pub six_bytes : found (file_of (format_chunk ++ chunk_of data_name 6 frames)) ≡ Err InputLength
+  pub seven_and_no_pad : found (file_of (format_chunk ++ chunk_of data_name 7 (take 7 frames))) ≡ Err InputLength

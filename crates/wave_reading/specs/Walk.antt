@@ -1,13 +1,15 @@
 -- The walk over the chunks of a wave file, up to the data. Definitions only, by docs/SPECIFICATION.md, Wave files.
-use Rattle.std.specs.Prelude.{Bool, false, cond, not, ◌&&◌, ◌||◌, List, ℕ, zero, suc, ◌+◌, ◌%◌, eqb, leb, ltb, length}
-use Rattle.refusals.specs.declared.Verdict.{Verdict}
-use Rattle.refusals.specs.declared.Verdict.TheVariants.{Accepted, NoWave, WaveFormat, NoData}
+use Rattle.std.specs.Prelude.{Bool, false, cond, not, ◌&&◌, ◌||◌, List, ℕ, zero, suc, ◌+◌, ◌%◌, eqb, leb, ltb, length, Result, Ok, Err}
+use Rattle.refusals.specs.declared.Refusal.{Refusal}
+use Rattle.refusals.specs.declared.Refusal.TheVariants.{NoWave, WaveFormat, NoData}
+use Rattle.refusals.specs.Numbers.{unless}
 use Rattle.wave.specs.Chunks.{two_at, four_at, riff, wave, format, data_name, file_heading, chunk_heading, name_size, pcm, sides, rate, byte_rate, frame_bytes, bits, format_size}
 use Rattle.wave_reading.specs.declared.Located.{Located}
 
--- a refusal, with no data
-abbrev pub refused : Verdict → Located
-refused v = record { verdict = v; from = 0; size = 0 }
+-- where the data lies; none, and at the front, after a refusal
+abbrev pub place_of : Result Located Refusal → Located
+place_of (Ok place) = place
+place_of (Err refusal) = record { from = 0; size = 0 }
 
 -- "16 no RIFF or WAVE heading"; what stands between the two, "the RIFF size", "is not used"
 unfoldable pub has_heading : List ℕ → Bool
@@ -47,22 +49,22 @@ misfits b at seen = not seen && eqb (four_at b at) format && not (format_fits b 
 -- ---- the walk
 
 -- data from a place on, of a size: "17" where the `fmt ` "is missing when the data comes"
-abbrev pub data_from : ℕ → ℕ → Bool → Located
-data_from from size seen = cond seen (record { verdict = Accepted; from = from; size = size }) (refused WaveFormat)
+abbrev pub data_from : ℕ → ℕ → Bool → Result Located Refusal
+data_from from size seen = unless seen WaveFormat (Ok (record { from = from; size = size }))
 
 -- the chunk at a place, where `behind` is what the chunks behind it give: "18 no `data` before the file ends"; "a chunk heading of under eight bytes
 -- is none"
-unfoldable pub chunk : List ℕ → ℕ → Bool → Located → Located
+unfoldable pub chunk : List ℕ → ℕ → Bool → Result Located Refusal → Result Located Refusal
 chunk b at seen behind =
-    cond (ltb (length b) (body_at at)) (refused NoData)
+    cond (ltb (length b) (body_at at)) (Err NoData)
     (cond (eqb (four_at b at) data_name) (data_from (body_at at) (size_at b at) seen)
-    (cond (misfits b at seen) (refused WaveFormat) behind))
+    (cond (misfits b at seen) (Err WaveFormat) behind))
 
 -- the chunks from a place on, so many at most
-unfoldable pub chunks : ℕ → List ℕ → ℕ → Bool → Located
-chunks zero b at seen = refused NoData
+unfoldable pub chunks : ℕ → List ℕ → ℕ → Bool → Result Located Refusal
+chunks zero b at seen = Err NoData
 chunks (suc n) b at seen = chunk b at seen (chunks n b (next_at b at) (seen || eqb (four_at b at) format))
 
 -- where the data lies, by the chunks: a file has fewer of them than bytes
-unfoldable pub located : List ℕ → Located
-located b = cond (has_heading b) (chunks (length b) b file_heading false) (refused NoWave)
+unfoldable pub located : List ℕ → Result Located Refusal
+located b = cond (has_heading b) (chunks (length b) b file_heading false) (Err NoWave)

@@ -2,14 +2,13 @@
 use mathlib.Core.Path.{◌≡◌, refl, sym, ap, ◌∙◌, subst}
 use mathlib.Core.Bool.{true, false, not}
 use mathlib.Core.List.{List, [], ◌++◌, append-nil, append_assoc}
-use Prim.Native.Nat.{ℕ, ◌+◌, ◌*◌, ◌-◌, ◌≤◌, ◌<◌, ◌%◌, ◌/◌}
-use native.Mathlib.Nat.{div-div-eq-div-mul, div-add-mod', mod-eq_of_lt, div-one}
+use Prim.Native.Nat.{ℕ, ◌+◌, ◌-◌, ◌≤◌, ◌<◌, ◌%◌}
 use native.Mathlib.Omega.{arith}
 use borrow.Author.Tests.{le-leb, eq-eqb}
-use lib.Dec.{eqb}
 use lib.ListN.{length, take, drop, length-append}
 use lib.Seq.{take_at, drop_at}
-use Rattle.refusals.specs.declared.Verdict.TheVariants.{Accepted}
+use Rattle.std.specs.Prelude.{Ok}
+use Rattle.refusals.specs.Numbers.{Accepted}
 use Rattle.wave.specs.Chunks.{four, byte_of, two_at, four_at, data_name, number_end}
 use Rattle.wave_reading.specs.declared.Located.{Located}
 use Rattle.wave_reading.specs.Walk.{has_heading, size_at, says_format, format_fits, misfits, chunks, located, data_from}
@@ -21,15 +20,7 @@ use Rattle.wave_roundtrip.specs.Claim.{ReadsAs, WaveRoundTrip}
 
 -- the four bytes of a number give it back
 four_back : (n : ℕ) → n < number_end → four (byte_of n 1) (byte_of n 256) (byte_of n 65536) (byte_of n 16777216) ≡ n
-four_back n h =
-    combine n (n / 256) (n / 65536) (n / 16777216) (byte_of n 1) (byte_of n 256) (byte_of n 65536) (byte_of n 16777216)
-    (rw (div-one n) (div-add-mod' n 256))
-    (rw (div-div-eq-div-mul n 256 256) at (div-add-mod' (n / 256) 256))
-    (rw (div-div-eq-div-mul n 65536 256) at (div-add-mod' (n / 65536) 256))
-    (mod-eq_of_lt (omega arith))
-  where
-    combine : (n p q r a b c e : ℕ) → p * 256 + a ≡ n → q * 256 + b ≡ p → r * 256 + c ≡ q → e ≡ r → four a b c e ≡ n
-    combine n p q r a b c e f g h k = omega arith
+four_back n h = omega arith
 
 -- a heading and the frames, with anything behind
 unfoldable before : List ℕ → List ℕ → List ℕ
@@ -63,16 +54,16 @@ module _ (d rest : List ℕ) (whole : length d % 4 ≡ 0) (fits : length d ≤ m
 
   first : chunks (length file) file 12 false ≡ chunks (length file) file 36 true
   unfolding before heading four_at
-  first = walk_next file 12 false (omega (arith, long)) refl fitting
+  first = sym (walk_next file 12 false 36 refl (omega (arith, long)) (λ e. omega (arith, e)) fitting)
 
-  named : eqb (four_at file 36) data_name ≡ true
+  named : four_at file 36 ≡ data_name
   unfolding before heading four_at
   named = refl
 
   abbrev place : Located
-  place = record { verdict = Accepted; from = 44; size = length d }
+  place = record { from = 44; size = length d }
 
-  leads : located file ≡ place
+  leads : located file ≡ Ok place
   unfolding located
   leads = simp headed (first ∙ walk_data file 36 true (omega (arith, long)) named ∙ ap (λ (n : ℕ). data_from 44 n true) size)
 
@@ -80,7 +71,7 @@ module _ (d rest : List ℕ) (whole : length d % 4 ≡ 0) (fits : length d ≤ m
   unfolding read_verdict
   accepted = rw leads (simp (eq-eqb (44 + length d - length file) 0 (omega (arith, long)), eq-eqb (length d % 4) 0 whole))
 
-  found-place : found file ≡ place
+  found-place : found file ≡ Ok place
   unfolding found
   found-place = simp accepted leads
 

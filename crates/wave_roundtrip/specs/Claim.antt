@@ -7,15 +7,14 @@
 -- and `data_of` (wave_reading/specs/Reading.antt) what those of `wave_reading::find` and `wave_reading::data` promise, for all inputs. Under
 -- them stand: the walk over the chunks (wave_reading/specs/Walk.antt), numbers in bytes, names and sizes (wave/specs/Chunks.antt) and the
 -- refusals' numbers (refusals/specs/Numbers.antt).
-use Rattle.std.specs.Prelude.{◌≡◌, true, List, ◌++◌, ℕ, ◌+◌, length}
+use Rattle.std.specs.Prelude.{◌≡◌, true, List, ◌++◌, ℕ, ◌+◌, length, Ok}
 use Rattle.refusals.specs.Numbers.{is_accepted}
-use Rattle.refusals.specs.declared.Verdict.TheVariants.{Accepted}
 use Rattle.wave_reading.specs.Reading.{found, data_of}
 use Rattle.wave_writing.specs.Writing.{heading_size, size_verdict, write_verdict, wave_of, written}
 
 -- the bytes are accepted as a wave file, and these frames are its data, behind a plain heading
 pub record ReadsAs (b frames : List ℕ) : Type 0 where
-  pub found_is : found b ≡ record { verdict = Accepted; from = heading_size; size = length frames }
+  pub found_is : found b ≡ Ok (record { from = heading_size; size = length frames })
   pub frames_are : data_of b ≡ frames
 
 pub record WaveRoundTrip : Type 0 where

@@ -1,8 +1,7 @@
 -- What the writer of wave files makes. Definitions only, by docs/SPECIFICATION.md, Wave files.
 use Rattle.std.specs.Prelude.{cond, List, ◌++◌, ℕ, ◌+◌, ◌-◌, ◌%◌, eqb, leb, length, drop}
-use Rattle.refusals.specs.Numbers.{is_accepted, unless, first_of}
-use Rattle.refusals.specs.declared.Verdict.{Verdict}
-use Rattle.refusals.specs.declared.Verdict.TheVariants.{Accepted, InputLength, OutputShort}
+use Rattle.refusals.specs.Numbers.{is_accepted, unless, first_of, Verdict, Accepted}
+use Rattle.refusals.specs.declared.Refusal.TheVariants.{InputLength, OutputShort}
 use Rattle.wave.specs.Chunks.{two_bytes, four_bytes, riff, wave, format, data_name, chunk_heading, format_size, pcm, sides, rate, byte_rate, frame_bytes, bits}
 
 -- "the plain 44-byte heading"

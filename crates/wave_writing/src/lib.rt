@@ -4,7 +4,7 @@
 ghost use Rattle.std.specs.Prelude.{◌≡◌, length, ◌≤◌};
 ghost use Rattle.wave_writing.specs.Writing.{heading, most_data, size_verdict, write_verdict, written};
 
-use refusals::Verdict;
+use refusals::Refusal;
 
 // The bytes of the heading.
 pub const HEADING_SIZE: usize = 44;
@@ -16,34 +16,27 @@ const RIFF_REST: usize = HEADING_SIZE - wave::CHUNK_HEADING;
 pub const MOST_DATA: usize = 4_294_967_256;
 
 // Writes the wave file of the frames to the front of the buffer: 5, 6, or accepted. A refusal writes nothing, and bytes behind the file stay.
-pub fn write(frames: &[u8], buffer: &mut [u8]) -> Verdict
+#[tactic(auto, unfolding(crate::specs::Writing::write_verdict, crate::specs::Writing::written))]
+pub fn write(frames: &[u8], buffer: &mut [u8]) -> Result<(), Refusal>
     ensures { (result ≡ write_verdict (length frames.now) (length buffer.old)) × (buffer.new ≡ written frames.now buffer.old) }
 {
-    let size = frames.len();
-    let verdict = check_size(size);
-    if !refusals::accepted(verdict) {
-        return verdict;
+    check_size(frames.len())?;
+    if buffer.len() < HEADING_SIZE + frames.len() {
+        return Err(Refusal::OutputShort);
     }
-    if buffer.len() < HEADING_SIZE + size {
-        return Verdict::OutputShort;
-    }
-    let front = heading(size);
-    copying::put_front(&front, buffer);
+    copying::put_front(&heading(frames.len()), buffer);
     copying::put_front(frames, &mut buffer[HEADING_SIZE..]);
-    Verdict::Accepted
+    Ok(())
 }
 
 // Whether a wave file can hold so many bytes of frames: 5, or accepted.
-pub fn check_size(size: usize) -> Verdict
+pub fn check_size(size: usize) -> Result<(), Refusal>
     ensures { result ≡ size_verdict size }
 {
-    if size % wave::FRAME_SIZE != 0 {
-        return Verdict::InputLength;
+    if size % wave::FRAME_SIZE != 0 || size > MOST_DATA {
+        return Err(Refusal::InputLength);
     }
-    if size > MOST_DATA {
-        return Verdict::InputLength;
-    }
-    Verdict::Accepted
+    Ok(())
 }
 
 // The heading of a file with no frames, both sizes 0: `fmt ` has 16 bytes, and says PCM, two sides, 44,100, 176,400, four bytes a frame, 16 bits.
@@ -51,19 +44,13 @@ const PLAIN: [u8; HEADING_SIZE] =
     *b"RIFF\0\0\0\0WAVEfmt \x10\0\0\0\x01\0\x02\0\x44\xac\0\0\x10\xb1\x02\0\x04\0\x10\0data\0\0\0\0";
 
 // The heading of a file with so many bytes of frames.
+#[tactic(auto, unfolding(crate::specs::Writing::heading))]
 pub fn heading(size: usize) -> [u8; HEADING_SIZE]
     requires { size ≤ most_data }
     ensures { result ≡ heading size }
 {
-    let rest = RIFF_REST + size;
     let mut bytes = PLAIN;
-    bytes[4] = wave::byte_of(rest, 1);
-    bytes[5] = wave::byte_of(rest, 256);
-    bytes[6] = wave::byte_of(rest, 65536);
-    bytes[7] = wave::byte_of(rest, 16777216);
-    bytes[40] = wave::byte_of(size, 1);
-    bytes[41] = wave::byte_of(size, 256);
-    bytes[42] = wave::byte_of(size, 65536);
-    bytes[43] = wave::byte_of(size, 16777216);
+    bytes[4..8].copy_from_slice(&wave::four_bytes(RIFF_REST + size));
+    bytes[40..].copy_from_slice(&wave::four_bytes(size));
     bytes
 }

@@ -4,6 +4,8 @@
 ghost use Rattle.std.specs.Prelude.{◌≡◌};
 ghost use Rattle.words.specs.Words.{is_word};
 
+use rounding::Whole;
+
 // The ends of a word: 24 bits, signed.
 pub const WORD_LOW: i64 = -8388608;
 
@@ -15,8 +17,8 @@ pub const WORD_LEAST: i32 = WORD_LOW as i32;
 pub const WORD_MOST: i32 = WORD_HIGH as i32;
 
 // Whether v is a word.
-pub fn is_word(v: i32) -> bool
-    ensures { result ≡ is_word v }
+pub fn is_word<T: Whole>(v: T) -> bool
+    ensures { result ≡ is_word (T.whole v) }
 {
-    rounding::in_range_i32(WORD_LEAST, WORD_MOST, v)
+    rounding::in_range(T::of(WORD_LEAST), T::of(WORD_MOST), v)
 }

@@ -18,6 +18,7 @@ use unit::{BandSection, Channel, Unit};
 
 // Writes the unit's sheet to the front of the buffer, and hands back that part: 1,200 bytes, or an empty part from a shorter buffer or for
 // an unfit unit.
+#[tactic(auto, using(crate::proofs::Filled::part_filled))]
 pub fn write<'a>(unit: Unit, out: &'a mut [u8]) -> &'a mut [u8]
     ensures { (result.now ≡ filled_part side_letters unit (length out.old)) × (result.ref_ptr ≡ out.entry.ref_ptr) }
 {
@@ -45,66 +46,66 @@ pub fn put_sheet(out: &mut [u8], unit: Unit)
     requires { (sheet_size side_letters ≤ length out.old) × Fit unit }
     ensures { out.new ≡ sets out.old 0 (sheet_of side_letters unit) }
 {
-    let volume = unit.volume;
-    let bands = unit.bands;
-    let channels = unit.channels;
     let letters = [sheet::LEFT_LETTER, sheet::RIGHT_LETTER];
-    line_writing::put_volume(out, 0, volume);
-    put_bands(out, sheet::BANDS_AT, bands);
-    put_sides(out, sheet::SIDES_AT, &letters, channels);
+    line_writing::put_volume(out, 0, unit.volume);
+    put_bands(out, sheet::BANDS_AT, unit.bands);
+    put_sides(out, sheet::SIDES_AT, letters, unit.channels);
 }
 
 // Writes ten C lines from place at on.
+#[tactic(auto, using(forms::proofs::Texts::onward_begin, forms::proofs::Texts::onward_size, forms::proofs::Texts::onward_done))]
 fn put_bands(out: &mut [u8], at: usize, bands: [Band; bands::BAND_COUNT])
     requires { at + line_size (length band_ranges) * band_count ≤ length out.old }
     ensures { out.new ≡ sets out.old at (bands_form.text bands) }
 {
-    let mut i = 0;
-    while i < bands::BAND_COUNT {
-        let band = bands[i];
+    for (i, &band) in bands.iter().enumerate() {
         line_writing::put_band(out, at + sheet::BAND_LINE * i, band);
-        i += 1;
     }
 }
 
 // Writes the side of each fit channel from place at on, each behind a letter.
-fn put_sides(out: &mut [u8], at: usize, letters: &[u8], channels: [Channel; unit::CHANNEL_COUNT])
-    requires { (at + side_size true * channel_count ≤ length out.old) × (length letters.now ≡ channel_count) × Each ChannelFit channels }
-    ensures { out.new ≡ sets out.old at ((sides_form true letters.now).text channels) }
+#[tactic(auto, using(forms::proofs::Texts::onward_begin, forms::proofs::Texts::onward_size, forms::proofs::Texts::onward_done))]
+fn put_sides(
+    out: &mut [u8],
+    at: usize,
+    letters: [u8; unit::CHANNEL_COUNT],
+    channels: [Channel; unit::CHANNEL_COUNT],
+)
+    requires { (at + side_size true * channel_count ≤ length out.old) × Each ChannelFit channels }
+    ensures { out.new ≡ sets out.old at ((sides_form true letters).text channels) }
 {
     let mut next = at;
-    let mut i = 0;
-    while i < unit::CHANNEL_COUNT {
-        let channel = channels[i];
+    for (i, &channel) in channels.iter().enumerate() {
         next = put_side(out, next, letters[i], channel);
-        i += 1;
     }
 }
 
 // Writes the side of a fit channel from place at on, a head and ten S lines, and gives the place behind it.
+#[tactic(auto, using(words::proofs::Laws::narrow_need, unit::proofs::Ranges::input_size))]
 fn put_side(out: &mut [u8], at: usize, letter: u8, channel: Channel) -> usize
     requires { (at + side_size true ≤ length out.old) × ChannelFit channel }
     ensures { (out.new ≡ sets out.old at ((side_form true letter).text channel)) × (result ≡ at + side_size true) }
 {
-    let x1 = channel.x1 as i32;
-    let x2 = channel.x2 as i32;
-    let flag = channel.flag as i32;
-    let sections = channel.sections;
-    line_writing::put_head(out, at, letter, x1, x2, flag);
-    put_sections(out, at + sheet::HEAD_LINE, sections);
+    line_writing::put_head(
+        out,
+        at,
+        letter,
+        channel.x1 as i32,
+        channel.x2 as i32,
+        channel.flag as i32,
+    );
+    put_sections(out, at + sheet::HEAD_LINE, channel.sections);
     at + sheet::SIDE_LINES
 }
 
 // Writes ten S lines of fit sections from place at on, with the remainder in those of the bands that feed it back.
+#[tactic(auto, using(forms::proofs::Texts::onward_begin, forms::proofs::Texts::onward_size, forms::proofs::Texts::onward_done))]
 fn put_sections(out: &mut [u8], at: usize, sections: [BandSection; bands::BAND_COUNT])
     requires { (at + sections_size true ≤ length out.old) × Each SectionFit sections }
     ensures { out.new ≡ sets out.old at ((sections_form true).text sections) }
 {
     let mut next = at;
-    let mut i = 0;
-    while i < bands::BAND_COUNT {
-        let section = sections[i];
+    for (i, &section) in sections.iter().enumerate() {
         next = line_writing::put_section(out, next, i < unit::FEEDBACK_COUNT, section);
-        i += 1;
     }
 }

@@ -9,6 +9,5 @@ use Rattle.desk.proofs.order.Goals as goal
 
 pub hand_out-requires : goal.hand_out-requires
 hand_out-requires c =
-    hands_out c.args.bytes.now (orders_in c.args.numbers.now)
-    (ap is_accepted (sym c.order-verdict.ensures.0) ∙ sym c.accepted.ensures ∙ c.if-not-accepted.false)
+    hands_out c.args.bytes.now (orders_in c.args.words.now) (ap is_accepted (sym c.order-verdict.ensures.0) ∙ sym c.is_ok.ensures.value ∙ c.if-is_ok.true)
     (replicate (sheet_size side_letters) 0) c.order-verdict.new.sheet refl c.order-verdict.ensures.1

@@ -9,8 +9,8 @@ use Rattle.engine.proofs.carried.Goals as goal
 pub returns-then-feeds : goal.returns-then-feeds
 unfolding of_bits of_int
 returns-then-feeds c =
-    c.unless_limited.ensures ∙ sym (ap (λ (t : Bool). carried_by t (whole_of c.before.before.args.rounded) c.before.before.args.taken) c.before.if-feeds.true)
+    c.unless_limited.ensures ∙ sym (ap (λ (t : Bool). carried_by t (whole_of c.args.rounded) c.args.taken) c.if-feeds.true)
 
-pub returns : goal.returns
+pub returns-else-feeds : goal.returns-else-feeds
 unfolding of_bits of_int
-returns c = sym (ap (λ (t : Bool). carried_by t (whole_of c.before.args.rounded) c.before.args.taken) c.if-feeds.false)
+returns-else-feeds c = sym (ap (λ (t : Bool). carried_by t (whole_of c.args.rounded) c.args.taken) c.if-feeds.false)

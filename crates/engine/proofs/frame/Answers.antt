@@ -9,7 +9,7 @@ use borrow.Author.Tests.{lt-ltb, le-ltb}
 use Rattle.bands.specs.Bands.{band_count}
 use Rattle.unit.specs.Frame.{feedback_count}
 use Rattle.engine.specs.declared.Sides.{Sides}
-use Rattle.engine.specs.declared.Tallies.{Tallies}
+use Rattle.engine.specs.declared.Tally.{Tally}
 use Rattle.engine.specs.Layout.{x1_place, x2_place, flag_place, pair_floats, sides_at, put_sides}
 use Rattle.engine.specs.Frame.{between, FrameGives}
 use Rattle.engine.proofs.Store.{sides-length}
@@ -38,21 +38,21 @@ module _ (c : After-sides_at-flags) where
   abbrev l : List Float
   l = s.args.pair.now
 
-  abbrev x : Sides
+  abbrev x : Sides Float
   x = s.args.x
 
-  abbrev d : Sides
+  abbrev d : Sides Float
   d = record { first = sub binary64 x.first c.before.sides_at-x2.result.first; second = sub binary64 x.second c.before.sides_at-x2.result.second }
 
   ways-are : d ≡ ways bands l x
   ways-are = λ i. record { first = sub binary64 x.first (c.before.sides_at-x2.ensures i).first; second = sub binary64 x.second (c.before.sides_at-x2.ensures i).second }
 
   -- the tallies with these flags
-  abbrev tallied : Sides → Tallies
+  abbrev tallied : Sides Float → Sides Tally
   tallied flags = record { first = record { total = (tallies_before bands l x).first.total; flag = flags.first }; second = record { total = (tallies_before bands l x).second.total; flag = flags.second } }
 
   begun : Turning bands l x 0 l (tallied c.sides_at-flags.result)
-  begun = subst (λ (flags : Sides). Turning bands l x 0 l (tallied flags)) (sym c.sides_at-flags.ensures) (begins bands l x s.requires)
+  begun = subst (λ (flags : Sides Float). Turning bands l x 0 l (tallied flags)) (sym c.sides_at-flags.ensures) (begins bands l x s.requires)
 
 pub turn_bands-fed-requires : goal.turn_bands-fed-requires
 turn_bands-fed-requires c =
@@ -94,7 +94,7 @@ module _ (c : After-turn_bands-tallies) where
   abbrev M : List Float
   M = c.turn_bands-tallies.new.pair
 
-  abbrev last-tallies : Tallies
+  abbrev last-tallies : Sides Tally
   last-tallies = c.turn_bands-tallies.result
 
   all : Turning (bands e) (l e) (x e) band_count M last-tallies
@@ -120,7 +120,7 @@ module _ (c : After-put_sides-2) where
   h = c.before.before.before.before
 
   two_is : c.put_sides-2.new.floats ≡ put_sides (put_sides (M (g h)) x1_place (x (e (g h)))) x2_place (sides_at (l (e (g h))) x1_place)
-  two_is = c.put_sides-2.ensures ∙ ap₂ (λ (a : List Float) (t : Sides). put_sides a x2_place t) h.put_sides.ensures (e (g h)).sides_at-x1.ensures
+  two_is = c.put_sides-2.ensures ∙ ap₂ (λ (a : List Float) (t : Sides Float). put_sides a x2_place t) h.put_sides.ensures (e (g h)).sides_at-x1.ensures
 
   two_size : length c.put_sides-2.new.floats ≡ pair_floats
   two_size =

@@ -29,7 +29,7 @@ use Rattle.engine.specs.Floats.{largest, Carries, band_in, band_section_in}
 use Rattle.engine.specs.Frame.{LimitAsks, unless_limited, increased_by, carried_by, turned}
 use Rattle.engine.proofs.Carry.{carries, whole_is, limited_is}
 use Rattle.engine.proofs.Sum.{float_sum, Sizes, fed_sum, sum_on, sum-size, sum_whole, carried_is}
-use Rattle.engine.proofs.turn.Goals.{After-increased-sum, After-limited-y, After-nearest_whole-rounded, Start}
+use Rattle.engine.proofs.turn.Goals.{After-increased-sum, After-limited-y, After-nearest_whole-rounded}
 use Rattle.engine.proofs.turn.Goals as goal
 
 -- the ends of a word, and 2^22
@@ -57,23 +57,20 @@ scale-is = refl
 -- ---- S
 
 module _ (a : After-increased-sum) where
-  abbrev s : Start
-  s = a.before.before.before.before.before
-
   abbrev feeds : Bool
-  feeds = s.args.feeds
+  feeds = a.args.feeds
 
   abbrev band : Band
-  band = band_in s.args.band
+  band = band_in a.args.band
 
   abbrev section : BandSection
-  section = band_section_in s.args.section
+  section = band_section_in a.args.section
 
   abbrev d : ℤ
-  d = whole_of s.args.d
+  d = whole_of a.args.d
 
   coefficients : Accepts band
-  coefficients = band_sizes band s.requires.band_fit
+  coefficients = band_sizes band a.requires.band_fit
 
   sizes : Sizes band d section.y1 section.y2 section.remainder
   sizes =
@@ -81,10 +78,10 @@ module _ (a : After-increased-sum) where
         alpha_size = le_trans coefficients.alpha_size (lit≤ tt);
         beta_size = le_trans coefficients.beta_size (lit≤ tt);
         gamma_size = le_trans coefficients.gamma_size (lit≤ tt);
-        d_size = s.requires.d_carries.small;
-        y1_size = word_size_lem section.y1 s.requires.section_fit.y1;
-        y2_size = word_size_lem section.y2 s.requires.section_fit.y2;
-        small_remainder = remainder-size section.remainder s.requires.section_fit.remainder;
+        d_size = a.requires.d_carries.small;
+        y1_size = word_size_lem section.y1 a.requires.section_fit.y1;
+        y2_size = word_size_lem section.y2 a.requires.section_fit.y2;
+        small_remainder = remainder-size section.remainder a.requires.section_fit.remainder;
       }
 
   -- S with what is fed back
@@ -101,8 +98,8 @@ module _ (a : After-increased-sum) where
   sum-float =
       a.increased-sum.ensures
       ∙ (λ i. increased_by feeds
-      (float_sum (s.requires.band_carries i).alpha (s.requires.band_carries i).beta (s.requires.band_carries i).gamma (s.requires.d_carries.whole i) (s.requires.section_carries i).y1 (s.requires.section_carries i).y2)
-      (s.requires.section_carries i).remainder)
+      (float_sum (a.requires.band_carries i).alpha (a.requires.band_carries i).beta (a.requires.band_carries i).gamma (a.requires.d_carries.whole i) (a.requires.section_carries i).y1 (a.requires.section_carries i).y2)
+      (a.requires.section_carries i).remainder)
 
   sum_is : Whole sum S
   sum_is = subst (λ (x : Float). Whole x S) (sym sum-float) (sum_whole band d section.y1 section.y2 section.remainder sizes feeds)
@@ -117,10 +114,10 @@ module _ (a : After-increased-sum) where
   gain = ramp gain_slope section.gain.present section.gain.target
 
   present-size : nat_abs section.gain.present ≤ word_size
-  present-size = word_size_lem section.gain.present s.requires.section_fit.present
+  present-size = word_size_lem section.gain.present a.requires.section_fit.present
 
   target-size : nat_abs section.gain.target ≤ word_size
-  target-size = word_size_lem section.gain.target s.requires.section_fit.target
+  target-size = word_size_lem section.gain.target a.requires.section_fit.target
 
   gain-size : nat_abs gain ≤ word_size
   gain-size = ramp-size gain_slope section.gain.present section.gain.target present-size target-size
@@ -173,18 +170,18 @@ module _ (c : After-limited-y) where
 pub moved-gain-requires : goal.moved-gain-requires
 moved-gain-requires c =
     record {
-      present_carries = carries (s n).args.section.gain.present (section n).gain.present (ap (λ h. h.gain.present) (s n).requires.section_carries) (present-size n) (lit≤ tt);
-      target_carries = carries (s n).args.section.gain.target (section n).gain.target (ap (λ h. h.gain.target) (s n).requires.section_carries) (target-size n) (lit≤ tt);
+      present_carries = carries n.args.section.gain.present (section n).gain.present (ap (λ h. h.gain.present) n.requires.section_carries) (present-size n) (lit≤ tt);
+      target_carries = carries n.args.section.gain.target (section n).gain.target (ap (λ h. h.gain.target) n.requires.section_carries) (target-size n) (lit≤ tt);
     }
   where
     n : After-increased-sum
-    n = a c.before.before
+    n = (goal.at.moved-gain-requires c).After-increased-sum
 
 pub carried-requires : goal.carried-requires
-carried-requires c = limit-asks c.before.before
+carried-requires c = limit-asks (goal.at.carried-requires c).After-limited-y
 
 pub unless_limited-requires : goal.unless_limited-requires
-unless_limited-requires c = limit-asks c.before.before.before.before
+unless_limited-requires c = limit-asks (goal.at.unless_limited-requires c).After-limited-y
 
 pub returns : goal.returns
 unfolding turned section_frame worked of_bits of_int
@@ -194,19 +191,19 @@ returns c =
       section =
           record {
             y1 = y-is l i;
-            y2 = ((s n).requires.section_carries i).y1;
-            gain = c.before.before.before.moved-gain.ensures i;
-            remainder = (c.before.before.carried.ensures ∙ carried-taken l.before) i;
+            y2 = (n.requires.section_carries i).y1;
+            gain = c.moved-gain.ensures i;
+            remainder = (c.carried.ensures ∙ carried-taken l.before) i;
           };
       tally =
           record {
             total = total-is i;
-            flag = (c.unless_limited.ensures ∙ ap (λ (z : ℤ). unless_limited z (s n).args.tally.flag (float (pos 1))) (rounded-whole l.before)) i;
+            flag = (c.unless_limited.ensures ∙ ap (λ (z : ℤ). unless_limited z n.args.tally.flag (float (pos 1))) (rounded-whole l.before)) i;
           };
     }
   where
     l : After-limited-y
-    l = c.before.before.before.before.before
+    l = (goal.at.returns c).After-limited-y
 
     n : After-increased-sum
     n = a l.before
@@ -214,9 +211,9 @@ returns c =
     y : ℤ
     y = (worked (S n)).y
 
-    total-is : add binary64 (s n).args.tally.total (mul binary64 c.before.before.before.moved-gain.result.present l.limited-y.result) ≡ float (whole_of (s n).args.tally.total +ℤ gain n *ℤ y)
+    total-is : add binary64 n.args.tally.total (mul binary64 c.moved-gain.result.present l.limited-y.result) ≡ float (whole_of n.args.tally.total +ℤ gain n *ℤ y)
     total-is =
-        (λ i. add binary64 ((s n).requires.total_carries.whole i) (mul binary64 (c.before.before.before.moved-gain.ensures i).present (y-is l i)))
-        ∙ add_whole binary64 (whole_of (s n).args.tally.total) (le_trans (s n).requires.total_carries.small (lit≤ tt))
+        (λ i. add binary64 (n.requires.total_carries.whole i) (mul binary64 (c.moved-gain.ensures i).present (y-is l i)))
+        ∙ add_whole binary64 (whole_of n.args.tally.total) (le_trans n.requires.total_carries.small (lit≤ tt))
         (mul_whole binary64 (of_whole binary64 (gain n) (le_trans (gain-size n) (lit≤ tt))) (of_whole binary64 y (le_trans (worked-size (S n)) (lit≤ tt)))
         (le_trans (product_sized (gain n) y (gain-size n) (worked-size (S n))) (lit≤ tt)))

@@ -6,8 +6,8 @@ use Rattle.engine.proofs.unless_limited.Goals as goal
 
 pub returns-then-rounded-y : goal.returns-then-rounded-y
 returns-then-rounded-y c =
-    sym (ap (λ (t : Bool). cond (not t) c.before.args.other c.before.args.kept) (same_word c.before.args.rounded c.before.args.y c.before.requires c.if-rounded-y.true))
+    sym (ap (λ (t : Bool). cond (not t) c.args.other c.args.kept) (same_word c.args.rounded c.args.y c.requires c.if-rounded-y.true))
 
-pub returns : goal.returns
-returns c =
-    sym (ap (λ (t : Bool). cond (not t) c.before.args.other c.before.args.kept) (other_word c.before.args.rounded c.before.args.y c.before.requires c.if-rounded-y.false))
+pub returns-else-rounded-y : goal.returns-else-rounded-y
+returns-else-rounded-y c =
+    sym (ap (λ (t : Bool). cond (not t) c.args.other c.args.kept) (other_word c.args.rounded c.args.y c.requires c.if-rounded-y.false))

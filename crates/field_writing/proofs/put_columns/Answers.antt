@@ -1,55 +1,31 @@
--- `field_writing::put_columns` meets its contract. The loop's invariant: the columns from i on are stored, and those before i are the columns of
--- what is left.
+-- `field_writing::put_columns` meets its contract. The loop's invariant: with the columns of what is left before column i all columns are stored.
 use mathlib.Core.Bool.{Bool}
-use mathlib.Core.List.{List, [], ◌∷◌, ◌++◌, append_assoc, append-nil}
-use mathlib.Core.Path.{◌≡◌, refl, sym, ap, ap₂, ◌∙◌}
+use mathlib.Core.List.{List}
+use mathlib.Core.Path.{◌≡◌, sym, ap, ◌∙◌}
 use Prim.Native.Nat.{ℕ, suc, ◌+◌, ◌-◌, ◌/◌}
 use native.Mathlib.Omega.{arith}
-use lib.ListN.{set, length-set}
+use lib.ListN.{set}
 use lib.Seq.{sets}
-use Rattle.lists.proofs.Stores.{sets_cons}
-use Rattle.fields.specs.Fields.{last_column, column, owed_still, columns}
-use Rattle.field_writing.proofs.put_columns.Invariants.{Stored}
+use Rattle.lists.proofs.Stores.{sets_snoc}
+use Rattle.fields.specs.Fields.{column, owed_still, columns}
+use Rattle.fields.proofs.Columns.{columns-length}
 use Rattle.field_writing.proofs.put_columns.Goals as goal
 
--- the columns from i on are stored
-
-module _ {whole before : List ℕ} {at : ℕ} {after : List ℕ} {left : ℕ} {owed : Bool} {j : ℕ} (s : Stored whole before at after left owed j) where
-  -- one column more
-  store : (i : ℕ) → j ≡ suc i → {byte : ℕ} → byte ≡ column left owed → Stored whole before at (set after (at + i) byte) (left / 10) (owed_still left owed) i
-  unfolding columns
-  store i e b =
-      record {
-        tail = column left owed ∷ s.tail;
-        split =
-            s.split ∙ ap (λ (k : ℕ). columns k left owed ++ s.tail) e
-            ∙ append_assoc (columns i (left / 10) (owed_still left owed)) (column left owed ∷ []) s.tail;
-        stored =
-            ap₂ (λ (l : List ℕ) (a : ℕ). set l (at + i) a) s.stored b
-            ∙ sets_cons s.tail before (at + i) (at + j) (column left owed) (omega arith);
-      }
-
-  -- all are stored
-  stored-all : j ≡ 0 → after ≡ sets before at whole
-  unfolding columns
-  stored-all e =
-      let start : at + j ≡ at = omega arith in
-      s.stored ∙ ap₂ (λ (i : ℕ) (l : List ℕ). sets before i l) start (sym (s.split ∙ ap (λ (k : ℕ). columns k left owed ++ s.tail) e))
-
-pub loop-i-init : goal.loop-i-init
-loop-i-init c =
-    (omega arith, refl, record { tail = []; split = sym (append-nil (columns last_column _ _)); stored = refl })
+-- a column is stored, and those of what is then left before it
+one_more : (out : List ℕ) (at i j left : ℕ) (owed : Bool) {byte : ℕ} → i ≡ suc j → byte ≡ column left owed → sets (set out (at + j) byte) at (columns j (left / 10) (owed_still left owed)) ≡ sets out at (columns i left owed)
+unfolding columns
+one_more out at i j left owed e b =
+    ap (λ (a : ℕ). sets (set out (at + j) a) at (columns j (left / 10) (owed_still left owed))) b
+    ∙ sets_snoc (columns j (left / 10) (owed_still left owed)) out at (at + j) (column left owed) (ap (λ (k : ℕ). at + k) (sym (columns-length j (left / 10) (owed_still left owed))))
+    ∙ ap (λ (k : ℕ). sets out at (columns k left owed)) (sym e)
 
 pub loop-i-preserved : goal.loop-i-preserved
 unfolding owed_still
-loop-i-preserved c = (
-  omega arith,
-  length-set c.loop-i.out _ _ ∙ c.loop-i.invariant.1,
-  store c.loop-i.invariant.2 (c.loop-i.i - 1) (omega arith) c.column.ensures,
-)
-
-pub shape_of-out : goal.shape_of-out
-shape_of-out c = c.loop-i.invariant.1
+loop-i-preserved c =
+    one_more c.loop-i.out c.args.at c.loop-i.i (c.loop-i.i - 1) c.loop-i.left c.loop-i.owed (omega arith) c.column.ensures ∙ c.loop-i.invariant
 
 pub returns : goal.returns
-returns c = stored-all c.loop-i.invariant.2 (omega arith)
+unfolding columns
+returns c =
+    let none : 0 ≡ c.loop-i.i = omega arith in
+    ap (λ (k : ℕ). sets c.loop-i.out c.args.at (columns k c.loop-i.left c.loop-i.owed)) none ∙ c.loop-i.invariant

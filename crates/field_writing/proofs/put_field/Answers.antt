@@ -1,21 +1,25 @@
 -- `field_writing::put_field` meets its contract.
 use mathlib.Core.Bool.{Bool, true, false}
-use mathlib.Core.List.{List, [], ◌∷◌, ◌++◌}
+use mathlib.Core.List.{List, [], ◌∷◌, ◌++◌, append_assoc}
 use mathlib.Core.Path.{◌≡◌, refl, sym, ap, ap₂, ◌∙◌}
-use Prim.Native.Nat.{ℕ, ◌+◌, ◌/◌, ◌%◌, ◌<◌}
+use Prim.Native.Nat.{ℕ, ◌+◌, ◌-◌, ◌/◌, ◌%◌, ◌≤◌, ◌<◌}
 use native.Mathlib.Omega.{arith}
 use lib.IntN.{ℤ, pos, nat_abs}
-use lib.ListN.{length, set, replicate, length-set}
+use lib.ListN.{length, set, take, drop, replicate, length-take, length-drop}
 use lib.Signed.{lt_z}
-use lib.Seq.{sets}
+use lib.Seq.{sets, sets-eq, drop-drop}
+use borrow.Rule.Slice.PartMut.{put_mid}
 use mir.Facts.{to_z-of_z}
 use mir.Syntax.{w32}
 use mir.Val.{to_z, of_z}
 use Rattle.lists.proofs.Stores.{sets_append, sets_snoc}
 use Rattle.fields.specs.Fields.{last_column, blank, digit, column, owed_still, columns, field}
 use Rattle.fields.proofs.Columns.{columns-length}
-use Rattle.field_writing.specs.Front.{front_columns}
 use Rattle.field_writing.proofs.put_field.Goals as goal
+
+-- the columns before the one in front of the last: blanks where a number has one digit
+abbrev front_columns : ℕ
+front_columns = 7
 
 -- where nothing is left all along, the columns are blanks and the minus that is owed, or one blank more
 columns-blank : (owed : Bool) → columns last_column 0 owed ≡ replicate front_columns blank ++ (column 0 owed ∷ [])
@@ -53,25 +57,26 @@ module _ (before : List ℕ) (at : ℕ) (number : ℤ) {size : ℕ} (e : size �
       ∙ sets_append (front 0) (digit size ∷ []) before at (at + last_column) (behind 0)
       ∙ ap₂ (λ (k d : ℕ). sets before at (front k ++ (digit d ∷ []))) none all
 
-pub bounds-out-at-then-size-lt10 : goal.bounds-out-at-then-size-lt10
-bounds-out-at-then-size-lt10 c = simp length-set (omega (arith, c.put_blanks.auto.out))
+-- blanks in the place of n bytes from a place on are a run of stores
+blanks-stored : (out : List ℕ) (at n : ℕ) {filled : List ℕ} → n ≡ front_columns → at + front_columns ≤ length out → filled ≡ replicate (length (take n (drop at out))) blank → put_mid at n out filled ≡ sets out at (replicate front_columns blank)
+blanks-stored out at n {filled} seven h e =
+    ap₂ (λ (k : ℕ) (ys : List ℕ). put_mid at k out ys) seven (e ∙ ap (λ (k : ℕ). replicate k blank) long)
+    ∙ ap (λ (r : List ℕ). take at out ++ (replicate front_columns blank ++ r)) (drop-drop front_columns at out)
+    ∙ sym (append_assoc (take at out) (replicate front_columns blank) (drop (at + front_columns) out))
+    ∙ sym (sets-eq (replicate front_columns blank) out at h)
+  where
+    long : length (take n (drop at out)) ≡ front_columns
+    long = simp (length-take, length-drop) (omega arith)
 
 pub returns-then-size-lt10 : goal.returns-then-size-lt10
 returns-then-size-lt10 c =
-    stored_short c.args.out.now c.args.at (to_z w32 (of_z w32 c.args.number))
-    c.magnitude-size.ensures
-    c.put_blanks.ensures c.column.ensures c.if-size-lt10.true
+    stored_short c.args.out.now c.args.at (to_z w32 (of_z w32 c.args.number)) c.unsigned_abs-size.ensures.value
+    (blanks-stored c.args.out.now c.args.at (c.args.at + 7 - c.args.at) (omega arith) (omega arith) (c.fill.ensures.after (λ y h. h)))
+    c.column.ensures c.if-size-lt10.true
     ∙ ap (λ (z : ℤ). sets c.args.out.now c.args.at (field z)) (to_z-of_z c.ranges.number)
-
-pub put_columns-requires : goal.put_columns-requires
-put_columns-requires c = simp length-set (omega arith)
-
-pub shape_of-out : goal.shape_of-out
-shape_of-out c = c.put_columns.auto.out ∙ simp length-set
 
 pub returns : goal.returns
 returns c =
     c.put_columns.ensures
-    ∙ stored-field c.args.out.now c.args.at (to_z w32 (of_z w32 c.args.number))
-    c.magnitude-size.ensures
+    ∙ stored-field c.args.out.now c.args.at (to_z w32 (of_z w32 c.args.number)) c.unsigned_abs-size.ensures.value
     ∙ ap (λ (z : ℤ). sets c.args.out.now c.args.at (field z)) (to_z-of_z c.ranges.number)

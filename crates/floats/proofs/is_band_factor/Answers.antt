@@ -8,8 +8,8 @@ use Rattle.floats.proofs.is_band_factor.Goals as goal
 
 pub returns-then-f : goal.returns-then-f
 unfolding of_bits neg
-returns-then-f c = sym (ap (λ (b : Bool). b && lt c.before.args.f (fin false 1 (pos 0))) c.if-f.true) ∙ band_tests c.before.args.f c.before.well_formed.0.1
+returns-then-f c = sym (ap (λ (b : Bool). b && lt c.args.f (fin false 1 (pos 0))) c.if-f.true) ∙ band_tests c.args.f c.well_formed.0.1
 
-pub returns : goal.returns
+pub returns-else-f : goal.returns-else-f
 unfolding of_bits neg
-returns c = sym (ap (λ (b : Bool). b && lt c.before.args.f (fin false 1 (pos 0))) c.if-f.false) ∙ band_tests c.before.args.f c.before.well_formed.0.1
+returns-else-f c = c.if-f.false ∙ sym (ap (λ (b : Bool). b && lt c.args.f (fin false 1 (pos 0))) c.if-f.false) ∙ band_tests c.args.f c.well_formed.0.1

@@ -10,11 +10,12 @@ pub returns-then-f : goal.returns-then-f
 unfolding of_bits
 returns-then-f c =
     c.is_band_factor.ensures
-    ∙ sym (ap (λ (b : Bool). b && is_factor band_lowest c.before.before.args.f) c.before.if-f.true)
-    ∙ volume_tests c.before.before.args.f c.before.before.well_formed.0.1
+    ∙ sym (ap (λ (b : Bool). b && is_factor band_lowest c.args.f) c.if-f.true)
+    ∙ volume_tests c.args.f c.well_formed.0.1
 
-pub returns : goal.returns
+pub returns-else-f : goal.returns-else-f
 unfolding of_bits
-returns c =
-    sym (ap (λ (b : Bool). b && is_factor band_lowest c.before.args.f) c.if-f.false)
-    ∙ volume_tests c.before.args.f c.before.well_formed.0.1
+returns-else-f c =
+    c.if-f.false
+    ∙ sym (ap (λ (b : Bool). b && is_factor band_lowest c.args.f) c.if-f.false)
+    ∙ volume_tests c.args.f c.well_formed.0.1

@@ -11,7 +11,7 @@ use Rattle.engine.specs.Layout.{pair_floats}
 use Rattle.frames.specs.Run.{FramesGives}
 use Rattle.frames.proofs.Pairs.{Paired, paired_begins, sides-length, pair_asks, paired_next, paired_ends}
 use Rattle.frames.proofs.Sound.{pairs_length}
-use Rattle.frames.proofs.frames.Goals.{After-loop-p, In-loop-p, Start}
+use Rattle.frames.proofs.frames.Goals.{After-loop-p, In-loop-p}
 use Rattle.frames.proofs.frames.Goals as goal
 
 pub overflow_mul-size : goal.overflow_mul-size
@@ -21,15 +21,9 @@ pub overflow_mul-size-2 : goal.overflow_mul-size-2
 overflow_mul-size-2 c = omega (arith, c.requires.size)
 
 pub loop-p-init : goal.loop-p-init
-loop-p-init c = paired_begins z.args.bands.now z.args.sides.now z.args.pairs z.args.volume z.args.count z.args.input.now z.args.output.now z.requires
-  where
-    z : Start
-    z = c.before.before.before.before
+loop-p-init c = paired_begins c.args.bands.now c.args.sides.now c.args.pairs c.args.volume c.args.count c.args.input.now c.args.output.now c.requires
 
 module _ (c : In-loop-p) where
-  abbrev s : Start
-  s = c.before.before.before.before.before.before
-
   abbrev p : ℕ
   p = c.loop-p.p
 
@@ -39,14 +33,14 @@ module _ (c : In-loop-p) where
   abbrev out : List ℕ
   out = c.loop-p.output
 
-  inv : Paired s.args.bands.now s.args.sides.now s.args.pairs s.args.volume s.args.count s.args.input.now s.args.output.now sides out c.loop-p.level p
+  inv : Paired c.args.bands.now c.args.sides.now c.args.pairs c.args.volume c.args.count c.args.input.now c.args.output.now sides out c.loop-p.level p
   inv = c.loop-p.invariant
 
-  below : p < s.args.pairs
+  below : p < c.args.pairs
   below = c.loop-p-test.true
 
-  has : pair_floats * p + pair_floats ≤ length s.args.sides.now
-  has = omega (arith, below, s.requires.size)
+  has : pair_floats * p + pair_floats ≤ length c.args.sides.now
+  has = omega (arith, below, c.requires.size)
 
 pub overflow_mul-from : goal.overflow_mul-from
 overflow_mul-from c = omega (arith, has c)
@@ -64,42 +58,33 @@ pub slice_bounds-pair_frames-start : goal.slice_bounds-pair_frames-start
 slice_bounds-pair_frames-start c = omega arith
 
 pub slice_bounds-pair_frames-end : goal.slice_bounds-pair_frames-end
-slice_bounds-pair_frames-end c = omega (arith, has c, sides-length (s c).args.bands.now (s c).args.sides.now (s c).args.pairs (s c).args.volume (s c).args.count (s c).args.input.now (s c).args.output.now (s c).requires (sides c) (out c) c.loop-p.level (p c) (below c) (inv c))
+slice_bounds-pair_frames-end c = omega (arith, has c, sides-length c.args.bands.now c.args.sides.now c.args.pairs c.args.volume c.args.count c.args.input.now c.args.output.now c.requires (sides c) (out c) c.loop-p.level (p c) (below c) (inv c))
 
 pub overflow_mul-p : goal.overflow_mul-p
 overflow_mul-p c = omega (arith, has (goal.at.overflow_mul-p c).In-loop-p)
 
 pub pair_frames-level-requires : goal.pair_frames-level-requires
-pair_frames-level-requires c = pair_asks (s i).args.bands.now (s i).args.sides.now (s i).args.pairs (s i).args.volume (s i).args.count (s i).args.input.now (s i).args.output.now (s i).requires (sides i) (out i) i.loop-p.level (p i) (below i) (inv i)
+pair_frames-level-requires c = pair_asks i.args.bands.now i.args.sides.now i.args.pairs i.args.volume i.args.count i.args.input.now i.args.output.now i.requires (sides i) (out i) i.loop-p.level (p i) (below i) (inv i)
   where
     i : In-loop-p
     i = (goal.at.pair_frames-level-requires c).In-loop-p
 
-pub overflow_add-p : goal.overflow_add-p
-overflow_add-p c = omega (arith, has (goal.at.overflow_add-p c).In-loop-p)
-
-pub loop-p-smaller : goal.loop-p-smaller
-loop-p-smaller c = omega (arith, below (goal.at.loop-p-smaller c).In-loop-p)
-
 pub loop-p-preserved : goal.loop-p-preserved
 loop-p-preserved c =
-    subst (λ (j : ℕ). Paired (s i).args.bands.now (s i).args.sides.now (s i).args.pairs (s i).args.volume (s i).args.count (s i).args.input.now (s i).args.output.now (put_mid (pair_floats * p i) (pair_floats * p i + pair_floats - pair_floats * p i) (sides i) c.pair_frames-level.new.pair) c.pair_frames-level.new.output c.pair_frames-level.result j) (sym (add-one (p i)))
-    (paired_next (s i).args.bands.now (s i).args.sides.now (s i).args.pairs (s i).args.volume (s i).args.count (s i).args.input.now (s i).args.output.now (s i).requires (sides i) (out i) i.loop-p.level (p i) (below i) (inv i) c.pair_frames-level.result c.pair_frames-level.new.pair c.pair_frames-level.new.output c.pair_frames-level.ensures)
+    subst (λ (j : ℕ). Paired i.args.bands.now i.args.sides.now i.args.pairs i.args.volume i.args.count i.args.input.now i.args.output.now (put_mid (pair_floats * p i) (pair_floats * p i + pair_floats - pair_floats * p i) (sides i) c.pair_frames-level.new.pair) c.pair_frames-level.new.output c.pair_frames-level.result j) (sym (add-one (p i)))
+    (paired_next i.args.bands.now i.args.sides.now i.args.pairs i.args.volume i.args.count i.args.input.now i.args.output.now i.requires (sides i) (out i) i.loop-p.level (p i) (below i) (inv i) c.pair_frames-level.result c.pair_frames-level.new.pair c.pair_frames-level.new.output c.pair_frames-level.ensures)
   where
     i : In-loop-p
     i = (goal.at.loop-p-preserved c).In-loop-p
 
 module _ (c : After-loop-p) where
-  abbrev e : Start
-  e = c.before.before.before.before.before.before
-
-  given : FramesGives e.args.bands.now e.args.sides.now e.args.pairs e.args.volume e.args.count e.args.input.now e.args.output.now c.loop-p.level c.loop-p.sides c.loop-p.output
+  given : FramesGives c.args.bands.now c.args.sides.now c.args.pairs c.args.volume c.args.count c.args.input.now c.args.output.now c.loop-p.level c.loop-p.sides c.loop-p.output
   given =
-      paired_ends e.args.bands.now e.args.sides.now e.args.pairs e.args.volume e.args.count e.args.input.now e.args.output.now e.requires c.loop-p.sides c.loop-p.output c.loop-p.level
-      (subst (λ (j : ℕ). Paired e.args.bands.now e.args.sides.now e.args.pairs e.args.volume e.args.count e.args.input.now e.args.output.now c.loop-p.sides c.loop-p.output c.loop-p.level j) (omega (arith, c.loop-p.invariant.most, c.loop-p-test.false)) c.loop-p.invariant)
+      paired_ends c.args.bands.now c.args.sides.now c.args.pairs c.args.volume c.args.count c.args.input.now c.args.output.now c.requires c.loop-p.sides c.loop-p.output c.loop-p.level
+      (subst (λ (j : ℕ). Paired c.args.bands.now c.args.sides.now c.args.pairs c.args.volume c.args.count c.args.input.now c.args.output.now c.loop-p.sides c.loop-p.output c.loop-p.level j) (omega (arith, c.loop-p.invariant.most, c.loop-p-test.false)) c.loop-p.invariant)
 
 pub shape_of-sides : goal.shape_of-sides
-shape_of-sides c = (given c).size ∙ sym (e c).requires.size
+shape_of-sides c = (given c).size ∙ sym c.requires.size
 
 pub shape_of-output : goal.shape_of-output
 shape_of-output c = ap length c.loop-p.invariant.bytes ∙ pairs_length _ _ _ _ _ _

@@ -10,27 +10,21 @@ use Rattle.engine.specs.declared.Sides.{Sides}
 use Rattle.engine.specs.Layout.{sides_at}
 use Rattle.engine.specs.Frame.{FrameAsks, FrameGives}
 use Rattle.frames.proofs.Mixing.{Mixing, mixing_begins, frame_asks, room, mixing_next, mixing_ends}
-use Rattle.frames.proofs.mix_words.Goals.{After-loop-k, After-sides_at-x, In-loop-k, Start}
+use Rattle.frames.proofs.mix_words.Goals.{After-loop-k, After-sides_at-x, In-loop-k}
 use Rattle.frames.proofs.mix_words.Goals as goal
 
 pub loop-k-init : goal.loop-k-init
-loop-k-init c = mixing_begins s.args.bands.now s.args.pair.now s.args.words.now s.args.count s.requires
-  where
-    s : Start
-    s = c.before.before.before
+loop-k-init c = mixing_begins c.args.bands.now c.args.pair.now c.args.words.now c.args.count c.requires
 
 module _ (c : In-loop-k) where
-  abbrev s : Start
-  s = c.before.before.before.before
-
   abbrev bands : List Float
-  bands = s.args.bands.now
+  bands = c.args.bands.now
 
   abbrev l : List Float
-  l = s.args.pair.now
+  l = c.args.pair.now
 
   abbrev words : List Float
-  words = s.args.words.now
+  words = c.args.words.now
 
   abbrev k : ℕ
   k = c.loop-k.k
@@ -41,17 +35,17 @@ module _ (c : In-loop-k) where
   abbrev w : List Float
   w = c.loop-k.words
 
-  inv : Mixing bands l words s.args.count m w k
+  inv : Mixing bands l words c.args.count m w k
   inv = c.loop-k.invariant
 
-  below : k < s.args.count
+  below : k < c.args.count
   below = c.loop-k-test.true
 
   has : 2 * k + 1 < length w
-  has = room bands l words s.args.count s.requires m w k below inv
+  has = room bands l words c.args.count c.requires m w k below inv
 
 pub overflow_mul-k : goal.overflow_mul-k
-overflow_mul-k c = omega (arith, below c, (s c).requires.few)
+overflow_mul-k c = omega (arith, below c, c.requires.few)
 
 pub sides_at-x-requires : goal.sides_at-x-requires
 sides_at-x-requires c = omega (arith, has c)
@@ -65,35 +59,29 @@ module _ (c : After-sides_at-x) where
 
 pub frame-totals-requires : goal.frame-totals-requires
 frame-totals-requires c =
-    subst (λ (x : Sides). FrameAsks (bands (n e)) (m (n e)) x) (sym (x-is e)) (frame_asks (bands (n e)) (l (n e)) (words (n e)) (s (n e)).args.count (s (n e)).requires (m (n e)) (w (n e)) (k (n e)) (below (n e)) (inv (n e)))
+    subst (λ (x : Sides Float). FrameAsks (bands (n e)) (m (n e)) x) (sym (x-is e)) (frame_asks (bands (n e)) (l (n e)) (words (n e)) (n e).args.count (n e).requires (m (n e)) (w (n e)) (k (n e)) (below (n e)) (inv (n e)))
   where
     e : After-sides_at-x
     e = c.before
 
 pub overflow_mul-k-in-loop-k : goal.overflow_mul-k-in-loop-k
-overflow_mul-k-in-loop-k c = omega (arith, below c.before.before.before.before.before.before.before, (s c.before.before.before.before.before.before.before).requires.few)
+overflow_mul-k-in-loop-k c = omega (arith, below (goal.at.overflow_mul-k-in-loop-k c).In-loop-k, c.requires.few)
 
 pub put_sides-requires : goal.put_sides-requires
-put_sides-requires c = omega (arith, has c.before.before.before.before.before.before.before)
-
-pub overflow_add-k : goal.overflow_add-k
-overflow_add-k c = omega (arith, below c.before.before.before.before.before.before.before.before.before.before, (s c.before.before.before.before.before.before.before.before.before.before).requires.few)
-
-pub loop-k-smaller : goal.loop-k-smaller
-loop-k-smaller c = omega (arith, below c.before.before.before.before.before.before.before.before.before.before)
+put_sides-requires c = omega (arith, has (goal.at.put_sides-requires c).In-loop-k)
 
 pub loop-k-preserved : goal.loop-k-preserved
 loop-k-preserved c =
-    subst (λ (j : ℕ). Mixing (bands i) (l i) (words i) (s i).args.count after c.put_sides.new.floats j) (sym (add-one (k i)))
-    (subst (λ (z : List Float). Mixing (bands i) (l i) (words i) (s i).args.count after z (suc (k i))) (sym c.put_sides.ensures)
-    (mixing_next (bands i) (l i) (words i) (s i).args.count (s i).requires (m i) (w i) (k i) (below i) (inv i) after c.frame-totals.result
-    (subst (λ (x : Sides). FrameGives (bands i) (m i) x after c.frame-totals.result) (x-is e) c.frame-totals.ensures)))
+    subst (λ (j : ℕ). Mixing (bands i) (l i) (words i) i.args.count after c.put_sides.new.floats j) (sym (add-one (k i)))
+    (subst (λ (z : List Float). Mixing (bands i) (l i) (words i) i.args.count after z (suc (k i))) (sym c.put_sides.ensures)
+    (mixing_next (bands i) (l i) (words i) i.args.count i.requires (m i) (w i) (k i) (below i) (inv i) after c.frame-totals.result
+    (subst (λ (x : Sides Float). FrameGives (bands i) (m i) x after c.frame-totals.result) (x-is e) c.frame-totals.ensures)))
   where
     i : In-loop-k
-    i = c.before.before.before.before.before.before.before.before.before.before
+    i = (goal.at.loop-k-preserved c).In-loop-k
 
     e : After-sides_at-x
-    e = c.before.before.before.before.before.before.before.before.before
+    e = (goal.at.loop-k-preserved c).After-sides_at-x
 
     after : List Float
     after = c.frame-totals.new.pair
@@ -109,8 +97,5 @@ shape_of-words c = c.loop-k.invariant.words_size ∙ sym c.requires.words_size
 
 pub returns : goal.returns
 returns c =
-    mixing_ends s'.args.bands.now s'.args.pair.now s'.args.words.now s'.args.count s'.requires c.loop-k.pair c.loop-k.words
-    (subst (λ (j : ℕ). Mixing s'.args.bands.now s'.args.pair.now s'.args.words.now s'.args.count c.loop-k.pair c.loop-k.words j) (all c) c.loop-k.invariant)
-  where
-    s' : Start
-    s' = c.before.before.before.before
+    mixing_ends c.args.bands.now c.args.pair.now c.args.words.now c.args.count c.requires c.loop-k.pair c.loop-k.words
+    (subst (λ (j : ℕ). Mixing c.args.bands.now c.args.pair.now c.args.words.now c.args.count c.loop-k.pair c.loop-k.words j) (all c) c.loop-k.invariant)

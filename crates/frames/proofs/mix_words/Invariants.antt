@@ -1,10 +1,6 @@
 -- `frames::mix_words` meets its contract: a frame of the engine for each (proofs/Mixing.antt).
-use Prim.Native.Nat.{◌-◌}
 use Rattle.frames.proofs.Mixing.{Mixing}
 use Rattle.frames.proofs.mix_words.Given as goal
 
 abbrev pub invariant-loop-k : goal.invariant-loop-k
 invariant-loop-k l = Mixing l.bands l.initial.pair l.initial.words l.count l.pair l.words l.k
-
-abbrev pub decreases-loop-k : goal.decreases-loop-k
-decreases-loop-k l = l.count - l.k

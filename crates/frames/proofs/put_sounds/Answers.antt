@@ -124,7 +124,7 @@ output-asks c t h u e = record { volume_carries = present-carries c.before; tota
 
 pub output-requires : goal.output-requires
 output-requires c =
-    output-asks c.before.before (float_at (totals i) (2 * k i)) ((s i).requires.first_totals (k i) (below i)) c.sides_at-total.result.first (ap (λ (x : Sides). x.first) c.sides_at-total.ensures)
+    output-asks c.before.before (float_at (totals i) (2 * k i)) ((s i).requires.first_totals (k i) (below i)) c.sides_at-total.result.first (ap (λ (x : Sides Float). x.first) c.sides_at-total.ensures)
   where
     i : lts.In-loop tie.the-claims reads.Pre reads.Post goal.the-invariant-loop-k goal.the-decreases-loop-k
     i = c.before.before.before.before
@@ -179,7 +179,7 @@ overflow_add-size-in-loop-k c = omega (arith, here c.before.before.before.before
 
 pub output-requires-in-loop-k : goal.output-requires-in-loop-k
 output-requires-in-loop-k c =
-    output-asks c.before.before.before.before.before.before.before (float_at (totals i) (2 * k i + 1)) ((s i).requires.second_totals (k i) (below i)) c.sides_at-total.result.second (ap (λ (x : Sides). x.second) c.sides_at-total.ensures)
+    output-asks c.before.before.before.before.before.before.before (float_at (totals i) (2 * k i + 1)) ((s i).requires.second_totals (k i) (below i)) c.sides_at-total.result.second (ap (λ (x : Sides Float). x.second) c.sides_at-total.ensures)
   where
     i : lts.In-loop tie.the-claims reads.Pre reads.Post goal.the-invariant-loop-k goal.the-decreases-loop-k
     i = c.before.before.before.before.before.before.before.before.before
@@ -200,12 +200,6 @@ put_sample-requires-in-loop-k c = (
   subst (λ (z : ℤ). sample_low ≤ℤ z) (sym (second_is c.before)) (output-low _ _),
   subst (λ (z : ℤ). z ≤ℤ sample_high) (sym (second_is c.before)) (output-high _ _),
 )
-
-pub overflow_add-k : goal.overflow_add-k
-overflow_add-k c = omega (arith, below c.before.before.before.before.before.before.before.before.before.before.before.before.before, (s c.before.before.before.before.before.before.before.before.before.before.before.before.before).requires.few)
-
-pub loop-k-smaller : goal.loop-k-smaller
-loop-k-smaller c = omega (arith, below c.before.before.before.before.before.before.before.before.before.before.before.before.before)
 
 pub loop-k-preserved : goal.loop-k-preserved
 unfolding columns_stored

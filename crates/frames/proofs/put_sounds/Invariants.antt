@@ -1,7 +1,7 @@
 -- `frames::put_sounds` meets its contract: in each frame the volume moves, and two samples are stored.
 use mathlib.Core.Path.{◌≡◌}
 use mathlib.Core.List.{List}
-use Prim.Native.Nat.{ℕ, ◌-◌, ◌≤◌}
+use Prim.Native.Nat.{ℕ, ◌≤◌}
 use lib.Ieee.{Float}
 use Rattle.engine.specs.declared.FloatLevel.{FloatLevel}
 use Rattle.engine.specs.Floats.{float_level, level_in}
@@ -16,6 +16,3 @@ pub record Sounding (totals : List Float) (volume : FloatLevel) (room : List ℕ
 
 abbrev pub invariant-loop-k : goal.invariant-loop-k
 invariant-loop-k l = Sounding l.totals l.initial.level l.initial.output l.size l.at l.count l.output l.level l.k
-
-abbrev pub decreases-loop-k : goal.decreases-loop-k
-decreases-loop-k l = l.count - l.k

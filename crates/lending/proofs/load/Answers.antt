@@ -2,17 +2,17 @@
 use mathlib.Core.Path.{sym, ap, ◌∙◌, subst}
 use Rattle.refusals.specs.Numbers.{number_of}
 use Rattle.unit.specs.Fit.{Fit}
-use Rattle.loading.specs.declared.Loaded.{Loaded}
+use Rattle.unit.specs.Answered.{Answered}
 use Rattle.loading.proofs.Laws.{loaded_fit}
 use Rattle.numbers.specs.Layout.{numbers_of}
 use Rattle.lending.proofs.load.Goals as goal
 
 pub numbers_of-requires : goal.numbers_of-requires
 numbers_of-requires c =
-    subst (λ (l : Loaded). Fit l.unit) (sym c.load-answer.ensures) (loaded_fit c.args.set.now)
+    subst (λ (l : Answered). Fit l.unit) (sym c.load-verdict.ensures) (loaded_fit c.args.set.now)
 
 pub returns : goal.returns
 returns c = (
-  c.number.ensures ∙ ap (λ (l : Loaded). number_of l.verdict) c.load-answer.ensures,
-  c.numbers_of.ensures ∙ ap (λ (l : Loaded). numbers_of l.unit) c.load-answer.ensures,
+  c.number.ensures ∙ ap (λ (l : Answered). number_of l.verdict) c.load-verdict.ensures,
+  c.numbers_of.ensures ∙ ap (λ (l : Answered). numbers_of l.unit) c.load-verdict.ensures,
 )

@@ -33,7 +33,7 @@ module _ (z : lts.Start tie.the-claims reads.Pre reads.Post) where
   room = z.args.output.now
 
   accepts : BlockAccepts 2 (unit_of l) (length input) (length room)
-  accepts = block_accepted 2 (unit_of l) (length input) (length room) z.requires.accepted
+  accepts = block_accepted 2 (unit_of l) (length input) (length room) z.requires
 
 module _ (c : lts.After-pair_floats_at tie.the-claims reads.Pre reads.Post) where
   abbrev s : lts.Start tie.the-claims reads.Pre reads.Post
@@ -82,7 +82,7 @@ module _ (c : lts.After-frames tie.the-claims reads.Pre reads.Post) where
 pub store-requires : goal.store-requires
 store-requires c =
     record {
-      numbers_size = (s (p f)).requires.size;
+      numbers_size = (s (p f)).told-numbers;
       volume_carries = volume_after (unit_of (l (s (p f)))) (input (s (p f))) (room (s (p f))) (accepts (s (p f))) (level (p f)) (bands (p f)) (pair (p f)) (packed (p f)) f.frames-level.result (after f) (filled f) f.frames-level.ensures;
       size = f.frames-level.ensures.size;
       whole = f.frames-level.ensures.whole;

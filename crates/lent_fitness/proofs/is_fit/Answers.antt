@@ -1,54 +1,74 @@
 -- `lent_fitness::is_fit` meets its contract: its tests are those of the definition, in that order, of the unit that the numbers stand for.
-use mathlib.Core.Path.{◌≡◌, sym, ap, ◌∙◌}
-use mathlib.Core.Bool.{and-true}
+use mathlib.Core.Path.{◌≡◌, refl, sym, ap, ◌∙◌}
+use mathlib.Core.Bool.{Bool, and-true, ◌&&◌}
 use mathlib.Core.List.{List}
-use Prim.Native.Nat.{◌-◌}
+use Prim.Native.Nat.{ℕ, ◌+◌}
 use native.Mathlib.Omega.{arith}
 use lib.IntN.{ℤ}
-use lib.ListN.{length, drop, length-drop}
+use lib.ListN.{length, take, drop, length-drop}
 use lib.Seq.{take_all}
-use Rattle.integers.proofs.Order.{and_fails, and_passes}
-use Rattle.lists.specs.Lists.{every}
+use Rattle.std.specs.List.{list_all}
 use Rattle.unit.specs.Cleared.{bands_of}
-use Rattle.unit.specs.Fit.{band_fits, unit_fits}
-use Rattle.numbers.specs.Layout.{bands_place, unit_of}
-use Rattle.lent_fitness.proofs.is_fit.Goals.{After-bands_fit}
+use Rattle.unit.specs.Fit.{volume_fits, band_fits, channel_fits, unit_fits}
+use Rattle.numbers.specs.Layout.{bands_place, left_place, right_place, channel_of, unit_of}
+use Rattle.lent_fitness.proofs.Laws.{in_row}
+use Rattle.lent_fitness.proofs.is_fit.Goals.{Joined-volume_fits, Joined-bands_fit, then-volume_fits, else-volume_fits, then-bands_fit, else-bands_fit}
 use Rattle.lent_fitness.proofs.is_fit.Goals as goal
 
--- the bands tested are those of the unit
-module _ (c : After-bands_fit) where
-  abbrev l : List ℤ
-  l = c.args.numbers.now
+-- what stands from a place on
+onward : {B : Type 0} (f : List ℤ → B) (l : List ℤ) (place rest : ℕ) → place + rest ≡ length l → f (take rest (drop place l)) ≡ f (drop place l)
+onward f l place rest e = ap f (take_all rest (drop place l) (omega (arith, length-drop place l)))
 
-  bands-test : c.bands_fit.result ≡ every band_fits (bands_of (drop bands_place l))
-  bands-test =
-      c.bands_fit.ensures
-      ∙ ap (λ (m : List ℤ). every band_fits (bands_of m)) (take_all (length l - bands_place) (drop bands_place l) (simp length-drop (omega arith)))
+-- the four tests
+module _ (l : List ℤ) where
+  abbrev volume-test : Bool
+  volume-test = volume_fits (unit_of l).volume
 
-pub returns-then-not-volume_fits : goal.returns-then-not-volume_fits
-unfolding unit_fits
-returns-then-not-volume_fits c = and_fails c.volume_fits.ensures _ c.if-not-volume_fits.true-raw
+  abbrev bands-test : Bool
+  bands-test = list_all band_fits (bands_of (drop bands_place l))
 
-pub returns-then-not-bands_fit : goal.returns-then-not-bands_fit
-unfolding unit_fits unit_of
-returns-then-not-bands_fit c =
-    let v = c.before.before.before in
-    and_passes v.volume_fits.ensures v.if-not-volume_fits.false-raw (and_fails (bands-test c.before) _ c.if-not-bands_fit.true-raw)
+  abbrev channel-test : ℕ → Bool
+  channel-test place = channel_fits (channel_of (drop place l))
 
-pub returns-then-not-channel_fits : goal.returns-then-not-channel_fits
-unfolding unit_fits unit_of
-returns-then-not-channel_fits c =
-    let b = c.before.before in
-    let v = b.before.before.before in
-    and_passes v.volume_fits.ensures v.if-not-volume_fits.false-raw
-    (and_passes (bands-test b.before) b.if-not-bands_fit.false-raw (and_fails c.channel_fits.ensures _ c.if-not-channel_fits.true-raw))
+  whole : volume-test && bands-test && channel-test left_place && channel-test right_place ≡ unit_fits (unit_of l)
+  unfolding unit_fits unit_of
+  whole =
+      in_row {a = volume-test} {b = bands-test} {c = channel-test left_place} refl refl refl (sym (and-true (channel-test right_place)))
 
-pub returns : goal.returns
-unfolding unit_fits unit_of
-returns c =
-    let s = c.before in
-    let b = s.before.before in
-    let v = b.before.before.before in
-    and_passes v.volume_fits.ensures v.if-not-volume_fits.false-raw
-    (and_passes (bands-test b.before) b.if-not-bands_fit.false-raw
-    (and_passes s.channel_fits.ensures s.if-not-channel_fits.false-raw (c.channel_fits-2.ensures ∙ sym (and-true _))))
+first-two : (c : Joined-volume_fits) → c.if-volume_fits.value ≡ volume-test c.args.numbers.now && bands-test c.args.numbers.now
+unfolding unit_of
+first-two c =
+    let l = c.args.numbers.now in
+    elim c.if-volume_fits.branch [
+      | then-volume_fits w ↦
+          w.value-is
+          ∙ w.bands_fit.ensures
+          ∙ onward (λ m. list_all band_fits (bands_of m)) l bands_place 136 (omega arith)
+          ∙ ap (λ (t : Bool). t && bands-test l) w.if-volume_fits.ensures
+      | else-volume_fits w ↦ w.value-is ∙ w.if-volume_fits.false ∙ ap (λ (t : Bool). t && bands-test l) w.if-volume_fits.ensures
+    ]
+
+first-three : (c : Joined-bands_fit) → c.if-bands_fit.value ≡ volume-test c.args.numbers.now && bands-test c.args.numbers.now && channel-test c.args.numbers.now left_place
+first-three c =
+    let l = c.args.numbers.now in
+    elim c.if-bands_fit.branch [
+      | then-bands_fit w ↦
+          w.value-is
+          ∙ w.channel_fits.ensures
+          ∙ onward (λ m. channel_fits (channel_of m)) l left_place 106 (omega arith)
+          ∙ ap (λ (t : Bool). t && channel-test l left_place) (sym w.if-bands_fit.true ∙ first-two c.before)
+      | else-bands_fit w ↦ w.value-is ∙ w.if-bands_fit.false ∙ ap (λ (t : Bool). t && channel-test l left_place) (sym w.if-bands_fit.false ∙ first-two c.before)
+    ]
+
+-- and the right channel's
+all-four : (c : Joined-bands_fit) {t : Bool} → c.if-bands_fit.value ≡ t → t && channel-test c.args.numbers.now right_place ≡ unit_fits (unit_of c.args.numbers.now)
+all-four c e = ap (λ (t : Bool). t && channel-test c.args.numbers.now right_place) (sym e ∙ first-three c) ∙ whole c.args.numbers.now
+
+pub returns-then-channel_fits : goal.returns-then-channel_fits
+returns-then-channel_fits c =
+    c.channel_fits-then-channel_fits.ensures
+    ∙ onward (λ m. channel_fits (channel_of m)) c.args.numbers.now right_place 53 (omega arith)
+    ∙ all-four (goal.at.returns-then-channel_fits c).Joined-bands_fit c.if-channel_fits.true
+
+pub returns-else-channel_fits : goal.returns-else-channel_fits
+returns-else-channel_fits c = c.if-channel_fits.false ∙ all-four c.before c.if-channel_fits.false

@@ -17,5 +17,5 @@ unfolding unit_of is_volume
 returns c =
     let l = c.args.numbers.now in
     ap₂ ◌&&◌
-    (test_back (within (pos 0) word_high) w32 (get_or l 0 (pos 0)) (omega arith) c.in_range_i32-present.ensures)
-    (test_back (within (pos 0) word_high) w32 (get_or l 1 (pos 0)) (omega arith) c.in_range_i32-target.ensures)
+    (test_back (within (pos 0) word_high) w32 (get_or l 0 (pos 0)) (omega arith) c.in_range-present.ensures)
+    (test_back (within (pos 0) word_high) w32 (get_or l 1 (pos 0)) (omega arith) c.in_range-target.ensures)

@@ -19,30 +19,29 @@ all-carry s = pair_carries s.args.pair.now s.requires.size s.requires.whole s.re
 
 pub take_runs-requires : goal.take_runs-requires
 take_runs-requires c =
+    let p = (goal.at.take_runs-requires c).Start in
     record {
       size = simp length-set c.requires.numbers_size;
       apart = lit≤ tt;
       inside = lit≤ tt;
       room = omega (arith, c.requires.size);
-      carries = λ j u v. all-carry c.before.before.before.before.before j (omega arith);
+      carries = λ j u v. all-carry p j (omega arith);
     }
 
 pub take_runs-requires-2 : goal.take_runs-requires-2
 take_runs-requires-2 c =
+    let p = (goal.at.take_runs-requires-2 c).Start in
     record {
       size = c.take_runs.ensures.size;
       apart = lit≤ tt;
       inside = lit≤ tt;
       room = omega (arith, c.requires.size);
-      carries = λ j u v. all-carry c.before.before.before.before.before.before.before j (omega arith);
+      carries = λ j u v. all-carry p j (omega arith);
     }
 
 pub returns : goal.returns
 returns c =
-    stored s.args.numbers.now s.requires.numbers_size s.args.volume s.args.pair.now _ _
-    (reads_back w32 c.whole_of-present.result (omega arith) ∙ c.whole_of-present.ensures)
-    (reads_back w32 c.whole_of-target.result (omega arith) ∙ c.whole_of-target.ensures)
+    stored c.args.numbers.now c.requires.numbers_size c.args.volume c.args.pair.now _ _
+    (reads_back w32 c.whole_of.result (omega arith) ∙ c.whole_of.ensures)
+    (reads_back w32 c.whole_of-2.result (omega arith) ∙ c.whole_of-2.ensures)
     c.take_runs.new.numbers c.take_runs-2.new.numbers c.take_runs.ensures c.take_runs-2.ensures
-  where
-    s : Start
-    s = c.before.before.before.before.before.before.before.before

@@ -1,23 +1,18 @@
 -- `line_reading::read_remainder` meets its contract: the fifth field, or 0 where the line has none.
-use mathlib.Core.Path.{◌≡◌, ap}
+use mathlib.Core.Path.{sym, ap, ◌∙◌}
 use mathlib.Core.Bool.{Bool}
-use native.Mathlib.Omega.{arith}
-use lib.ListN.{length, drop}
+use Rattle.std.specs.Prelude.{Ok}
+use Rattle.refusals.specs.Numbers.{Accepted}
+use Rattle.refusals.proofs.Laws.{first_assoc}
 use Rattle.unit.specs.Fit.{is_remainder}
-use Rattle.sheet.specs.Lines.{fifth_range}
-use Rattle.line_reading.proofs.Section.{fifth_none, fifth_read}
+use Rattle.fields.specs.Fields.{number_in, field_at}
+use Rattle.forms.specs.Line.{field_verdict}
+use Rattle.line_reading.specs.Gives.{remainder_read}
 use Rattle.line_reading.proofs.read_remainder.Goals as goal
-
-pub returns-then-not-fifth : goal.returns-then-not-fifth
-returns-then-not-fifth c =
-    fifth_none c.args.fifth (drop c.args.at c.args.bytes.now) c.args.slots.now c.args.place (c.if-not-fifth.true)
-
-pub read_fields-requires : goal.read_fields-requires
-read_fields-requires c =
-    let one : length (fifth_range c.args.fifth) ≡ 1 = ap (λ (fifth : Bool). length (fifth_range fifth)) (c.if-not-fifth.false) in
-    (omega (arith, one, c.requires.0), c.requires.1)
 
 pub returns : goal.returns
 unfolding is_remainder
 returns c =
-    fifth_read c.args.fifth (drop c.args.at c.args.bytes.now) c.args.slots.now c.args.place (c.if-not-fifth.false) c.read_fields.ensures
+    let columns = field_at c.args.bytes.now 0 in
+    c.read_number.ensures ∙ sym (first_assoc (field_verdict is_remainder columns) Accepted (Ok (number_in columns)))
+    ∙ ap (λ (fifth : Bool). remainder_read fifth c.args.bytes.now) (sym c.if-not-fifth.false)

@@ -1,66 +1,49 @@
--- `line_reading::read_section` meets its contract: a letter, the fields, a line end.
-use mathlib.Core.Path.{◌≡◌, sym, ◌∙◌}
-use mathlib.Core.Bool.{true}
-use mathlib.Core.List.{List}
-use Prim.Native.Nat.{ℕ, ◌+◌, ◌≤◌}
+-- `line_reading::read_section` meets its contract: a letter, four words and the remainder or 0, a line end.
+use mathlib.Core.Path.{refl}
 use native.Mathlib.Omega.{arith}
-use lib.ListN.{length}
-use Rattle.refusals.specs.Numbers.{is_accepted}
-use Rattle.forms.specs.Line.{line_size, alone}
-use Rattle.sheet.specs.Lines.{section_letter, section_ranges}
-use Rattle.sheet.proofs.Sizes.{few_fields}
-use Rattle.line_reading.specs.Gives.{five_of}
-use Rattle.line_reading.proofs.Line.{room_from, letter_refused, fields_refused, line_ended}
-use Rattle.line_reading.proofs.read_section.Goals.{Else-not-accepted}
+use Prim.Native.Nat.{ℕ}
+use lib.IntN.{pos}
+use lib.ListN.{get_or}
+use Rattle.line_reading.proofs.Results.{handed_on}
+use Rattle.forms.specs.Line.{alone}
+use Rattle.sheet.specs.Lines.{section_letter, fifth_range, section_ranges, section_of_row}
+use Rattle.line_reading.proofs.Fields.{widened, front_off}
+use Rattle.line_reading.proofs.Section.{four_words, remainder_off, remainder_on}
+use Rattle.line_reading.proofs.Line.{letter_off, fields_off, end_off, line_on}
 use Rattle.line_reading.proofs.read_section.Goals as goal
 
-pub check_letter-front-requires : goal.check_letter-front-requires
-check_letter-front-requires c =
-    (c.requires.0, omega (arith, c.section_fields-count.ensures, few_fields c.args.fifth))
+pub returns-in_err-check_letter : goal.returns-in_err-check_letter
+returns-in_err-check_letter c =
+    handed_on c.from_residual.result c.from_residual.ensures.1
+    (letter_off section_letter (section_ranges c.args.fifth) alone c.args.bytes.now section_of_row (simp (c.section_fields-count.ensures) at c.in_err-check_letter.ensures))
 
-pub returns-then-not-accepted : goal.returns-then-not-accepted
-returns-then-not-accepted c =
-    let n = c.section_fields-count in
-    letter_refused section_letter (section_ranges c.args.fifth) alone five_of n.result (sym n.ensures) c.args.bytes.now c.args.at c.args.slots.now c.args.place c.check_letter-front.ensures
-    (sym c.accepted.ensures ∙ c.if-not-accepted.true)
+pub returns-in_err-numbers : goal.returns-in_err-numbers
+returns-in_err-numbers c =
+    handed_on c.from_residual-in_err-numbers.result c.from_residual-in_err-numbers.ensures.1
+    (fields_off section_letter (section_ranges c.args.fifth) alone c.args.bytes.now section_of_row
+    (simp (c.section_fields-count.ensures) at c.in_ok-check_letter.ensures)
+    (front_off four_words (fifth_range c.args.fifth) _ c.in_err-numbers.ensures))
 
--- ---- the letter accepted
+pub returns-in_err-remainder : goal.returns-in_err-remainder
+returns-in_err-remainder c =
+    handed_on c.from_residual-in_err-remainder.result c.from_residual-in_err-remainder.ensures.1
+    (fields_off section_letter (section_ranges c.args.fifth) alone c.args.bytes.now section_of_row
+    (simp (c.section_fields-count.ensures) at c.in_ok-check_letter.ensures)
+    (remainder_off c.args.fifth c.args.bytes.now c.in_ok-numbers.ensures c.in_err-remainder.ensures))
 
-module _ (c : Else-not-accepted) where
-  abbrev bytes : List ℕ
-  bytes = c.args.bytes.now
-
-  abbrev count : ℕ
-  count = c.section_fields-count.result
-
-  count-is : length (section_ranges c.args.fifth) ≡ count
-  count-is = sym c.section_fields-count.ensures
-
-  passed : is_accepted c.check_letter-front.result ≡ true
-  passed = sym c.accepted.ensures ∙ c.if-not-accepted.false
-
-  -- the line's bytes are there
-  room : c.args.at + line_size count ≤ length bytes
-  room = room_from section_letter count bytes c.args.at c.requires.0 c.check_letter-front.ensures passed
-
-pub read_section_fields-middle-requires : goal.read_section_fields-middle-requires
-read_section_fields-middle-requires c =
-    let p = (goal.at.read_section_fields-middle-requires c).Else-not-accepted in
-    (omega (arith, room p, count-is p), c.requires.1)
-
-pub returns-then-not-accepted-2 : goal.returns-then-not-accepted-2
-returns-then-not-accepted-2 c =
-    let p = (goal.at.returns-then-not-accepted-2 c).Else-not-accepted in
-    fields_refused section_letter (section_ranges c.args.fifth) alone five_of (count p) (count-is p) (bytes p) c.args.at c.args.slots.now c.args.place c.check_letter-front.ensures (passed p) c.read_section_fields-middle.ensures
-    (sym c.accepted-2.ensures ∙ c.if-not-accepted-2.true)
-
-pub check_end-requires : goal.check_end-requires
-check_end-requires c =
-    let p = (goal.at.check_end-requires c).Else-not-accepted in
-    room p
+pub returns-in_err-check_end : goal.returns-in_err-check_end
+returns-in_err-check_end c =
+    let both = remainder_on c.args.fifth c.args.bytes.now c.in_ok-numbers.ensures c.in_ok-remainder.ensures in
+    handed_on c.from_residual-in_err-check_end.result c.from_residual-in_err-check_end.ensures.1
+    (end_off section_letter (section_ranges c.args.fifth) alone c.args.bytes.now section_of_row
+    (simp (c.section_fields-count.ensures) at c.in_ok-check_letter.ensures) both.1 refl
+    (simp (c.section_fields-count.ensures) at c.in_err-check_end.ensures))
 
 pub returns : goal.returns
 returns c =
-    let p = (goal.at.returns c).Else-not-accepted in
-    line_ended section_letter (section_ranges c.args.fifth) alone five_of (count p) (count-is p) (bytes p) c.args.at c.args.slots.now c.args.place c.check_letter-front.ensures (passed p) c.read_section_fields-middle.ensures
-    (sym c.accepted-2.ensures ∙ c.if-not-accepted-2.false) c.check_end.ensures
+    let both = remainder_on c.args.fifth c.args.bytes.now c.in_ok-numbers.ensures c.in_ok-remainder.ensures in
+    let number = λ (i : ℕ). get_or c.in_ok-numbers.numbers i (pos 0) in
+    rw (widened (number 0) (omega arith), widened (number 1) (omega arith), widened (number 2) (omega arith), widened (number 3) (omega arith), widened c.in_ok-remainder.remainder (omega arith))
+    (line_on section_letter (section_ranges c.args.fifth) alone c.args.bytes.now section_of_row
+    (simp (c.section_fields-count.ensures) at c.in_ok-check_letter.ensures) both.1 refl
+    (simp (c.section_fields-count.ensures) at c.in_ok-check_end.ensures) both.2)

@@ -1,56 +1,36 @@
 -- `line_reading::read_volume` meets its contract: a letter, two fields of the range of a volume, a line end.
-use mathlib.Core.Path.{◌≡◌, refl, sym, ◌∙◌}
-use mathlib.Core.Bool.{true}
-use mathlib.Core.List.{List}
-use Prim.Native.Nat.{ℕ, ◌+◌, ◌≤◌}
+use mathlib.Core.Path.{refl}
 use native.Mathlib.Omega.{arith}
-use lib.ListN.{length}
-use Rattle.refusals.specs.Numbers.{is_accepted}
-use Rattle.forms.specs.Line.{line_size, alone}
+use lib.IntN.{pos}
+use lib.ListN.{get_or}
+use Rattle.line_reading.proofs.Results.{handed_on}
+use Rattle.forms.specs.Line.{alone}
 use Rattle.unit.specs.Fit.{is_volume}
-use Rattle.sheet.specs.Lines.{volume_letter, volume_ranges}
-use Rattle.line_reading.proofs.Line.{room_from, letter_refused, fields_refused, line_ended}
-use Rattle.line_reading.proofs.read_volume.Goals.{Else-not-accepted}
+use Rattle.sheet.specs.Lines.{volume_letter, volume_ranges, volume_of_row}
+use Rattle.line_reading.proofs.Fields.{widened}
+use Rattle.line_reading.proofs.Line.{letter_off, fields_off, end_off, line_on}
 use Rattle.line_reading.proofs.read_volume.Goals as goal
 
-pub returns-then-not-accepted : goal.returns-then-not-accepted
-returns-then-not-accepted c =
-    letter_refused volume_letter volume_ranges alone (λ l. l) 2 refl c.args.bytes.now c.args.at c.args.slots.now 0 c.check_letter-front.ensures
-    (sym c.accepted.ensures ∙ c.if-not-accepted.true)
+pub returns-in_err-check_letter : goal.returns-in_err-check_letter
+returns-in_err-check_letter c =
+    handed_on c.from_residual.result c.from_residual.ensures.1
+    (letter_off volume_letter volume_ranges alone c.args.bytes.now volume_of_row c.in_err-check_letter.ensures)
 
--- ---- the letter accepted
-
-module _ (c : Else-not-accepted) where
-  abbrev bytes : List ℕ
-  bytes = c.args.bytes.now
-
-  passed : is_accepted c.check_letter-front.result ≡ true
-  passed = sym c.accepted.ensures ∙ c.if-not-accepted.false
-
-  -- the line's bytes are there
-  room : c.args.at + line_size 2 ≤ length bytes
-  room = room_from volume_letter 2 bytes c.args.at c.requires.0 c.check_letter-front.ensures passed
-
-pub read_fields-middle-requires : goal.read_fields-middle-requires
-read_fields-middle-requires c =
-    let p = (goal.at.read_fields-middle-requires c).Else-not-accepted in
-    (omega (arith, room p), omega (arith, c.requires.1))
-
-pub returns-then-not-accepted-2 : goal.returns-then-not-accepted-2
+pub returns-in_err-numbers : goal.returns-in_err-numbers
 unfolding is_volume
-returns-then-not-accepted-2 c =
-    let p = (goal.at.returns-then-not-accepted-2 c).Else-not-accepted in
-    fields_refused volume_letter volume_ranges alone (λ l. l) 2 refl (bytes p) c.args.at c.args.slots.now 0 c.check_letter-front.ensures (passed p) c.read_fields-middle.ensures
-    (sym c.accepted-2.ensures ∙ c.if-not-accepted-2.true)
+returns-in_err-numbers c =
+    handed_on c.from_residual-in_err-numbers.result c.from_residual-in_err-numbers.ensures.1
+    (fields_off volume_letter volume_ranges alone c.args.bytes.now volume_of_row c.in_ok-check_letter.ensures c.in_err-numbers.ensures)
 
-pub check_end-requires : goal.check_end-requires
-check_end-requires c =
-    let p = (goal.at.check_end-requires c).Else-not-accepted in
-    room p
+pub returns-in_err-check_end : goal.returns-in_err-check_end
+unfolding is_volume
+returns-in_err-check_end c =
+    handed_on c.from_residual-in_err-check_end.result c.from_residual-in_err-check_end.ensures.1
+    (end_off volume_letter volume_ranges alone c.args.bytes.now volume_of_row c.in_ok-check_letter.ensures c.in_ok-numbers.ensures refl c.in_err-check_end.ensures)
 
 pub returns : goal.returns
 unfolding is_volume
 returns c =
-    let p = (goal.at.returns c).Else-not-accepted in
-    line_ended volume_letter volume_ranges alone (λ l. l) 2 refl (bytes p) c.args.at c.args.slots.now 0 c.check_letter-front.ensures (passed p) c.read_fields-middle.ensures
-    (sym c.accepted-2.ensures ∙ c.if-not-accepted-2.false) c.check_end.ensures
+    let present = widened (get_or c.in_ok-numbers.numbers 0 (pos 0)) (omega arith) in
+    let target = widened (get_or c.in_ok-numbers.numbers 1 (pos 0)) (omega arith) in
+    line_on volume_letter volume_ranges alone c.args.bytes.now volume_of_row c.in_ok-check_letter.ensures c.in_ok-numbers.ensures refl c.in_ok-check_end.ensures (rw (present, target))

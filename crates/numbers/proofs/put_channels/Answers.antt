@@ -14,16 +14,14 @@ use Rattle.numbers.proofs.put_channels.Goals as goal
 
 pub put_channel-requires : goal.put_channel-requires
 put_channel-requires c = (
-  c.requires.0,
   lit≤ tt,
-  each_get_d ChannelFit c.args.channels zero_channel c.requires.1 0 (omega arith),
+  each_get_d ChannelFit c.args.channels zero_channel c.requires 0 (omega arith),
 )
 
 pub put_channel-requires-2 : goal.put_channel-requires-2
 put_channel-requires-2 c = (
-  c.put_channel.ensures.size,
   lit≤ tt,
-  each_get_d ChannelFit c.args.channels zero_channel c.requires.1 1 (omega arith),
+  each_get_d ChannelFit c.args.channels zero_channel c.requires 1 (omega arith),
 )
 
 pub returns : goal.returns

@@ -1,15 +1,10 @@
 -- `order_lists::order_all` meets its contract: as long as no order is refused, the orders left go to the unit so far.
-use mathlib.Core.Path.{◌≡◌}
-use Prim.Native.Nat.{◌-◌, ◌≤◌}
-use lib.ListN.{length, drop}
-use Rattle.refusals.specs.declared.Verdict.TheVariants.{Accepted}
+use Rattle.std.proofs.Common.{◌≡◌, length}
 use Rattle.order_lists.specs.Lists.{orders_in, ordered_all}
 use Rattle.order_lists.proofs.order_all.Given as goal
 
-abbrev pub invariant-loop-at : goal.invariant-loop-at
-invariant-loop-at l = (l.at ≤ length l.numbers)
-    × (l.ordered.verdict ≡ Accepted)
-    × (ordered_all l.initial.ordered.unit (orders_in l.numbers) ≡ ordered_all l.ordered.unit (orders_in (drop l.at l.numbers)))
+abbrev pub invariant-loop-rest : goal.invariant-loop-rest
+invariant-loop-rest l = ordered_all l.initial.unit (orders_in l.words) ≡ ordered_all l.unit (orders_in l.rest)
 
-abbrev pub decreases-loop-at : goal.decreases-loop-at
-decreases-loop-at l = length l.numbers - l.at
+abbrev pub decreases-loop-rest : goal.decreases-loop-rest
+decreases-loop-rest l = length l.rest

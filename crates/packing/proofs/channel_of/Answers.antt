@@ -11,25 +11,18 @@ use Rattle.engine.specs.Floats.{float_at, band_section_in}
 use Rattle.engine.specs.Layout.{side_count}
 use Rattle.packing.specs.Packing.{SectionOfAsks}
 use Rattle.packing.proofs.Sides.{places, section_asks, section_is, x1_carries, x2_carries, flag_carries}
-use Rattle.packing.proofs.channel_of.Goals.{Start}
 use Rattle.packing.proofs.channel_of.Goals as goal
 
-pub section_of-section-requires : goal.section_of-section-requires
-section_of-section-requires c =
+pub section_of-requires : goal.section_of-requires
+section_of-requires c =
     subst SectionOfAsks (sym c.section_at.ensures)
-    (section_asks s.args.pair.now s.args.side s.requires c.loop-b.b (omega arith))
-  where
-    s : Start
-    s = c.before.before.before.before.before
+    (section_asks c.args.pair.now c.args.side c.requires c.loop-b.b (omega arith))
 
 pub loop-b-preserved : goal.loop-b-preserved
 loop-b-preserved c =
     tabulated_next c.loop-b.invariant (omega arith)
-    (c.section_of-section.ensures ∙ ap band_section_in c.section_at.ensures
-    ∙ section_is s.args.pair.now s.args.side s.requires c.loop-b.b (omega arith))
-  where
-    s : Start
-    s = c.before.before.before.before.before.before
+    (c.section_of.ensures ∙ ap band_section_in c.section_at.ensures
+    ∙ section_is c.args.pair.now c.args.side c.requires c.loop-b.b (omega arith))
 
 pub whole_of-x1-requires : goal.whole_of-x1-requires
 whole_of-x1-requires c = x1_carries c.args.pair.now c.args.side c.requires
@@ -50,17 +43,14 @@ returns c =
       sections = tabulated_done c.loop-b.invariant (omega arith) i;
     }
   where
-    s : Start
-    s = c.before.before.before.before.before.before.before.before.before.before
-
     side : ℕ
-    side = s.args.side
+    side = c.args.side
 
     below : side < side_count
-    below = s.requires.below
+    below = c.requires.below
 
     number : ℕ → ℤ
-    number k = whole_of (float_at s.args.pair.now k)
+    number k = whole_of (float_at c.args.pair.now k)
 
 pub loop-b-init : goal.loop-b-init
 loop-b-init c =

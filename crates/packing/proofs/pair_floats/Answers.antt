@@ -17,7 +17,7 @@ use Rattle.unit.proofs.Ranges.{input_size, flag-size}
 use Rattle.engine.specs.Layout.{x1_place}
 use Rattle.packing.specs.Packing.{float_sides, put_three, PutSectionsAsks, PutSectionsGives}
 use Rattle.packing.proofs.Heads.{Exact, zeros, heads, heads_size, heads_whole, channels}
-use Rattle.packing.proofs.pair_floats.Goals.{After-put_three, Start}
+use Rattle.packing.proofs.pair_floats.Goals.{After-put_three}
 use Rattle.packing.proofs.pair_floats.Goals as goal
 
 -- a number of a fit channel is read back from its 64 bits
@@ -41,47 +41,35 @@ module _ (c : Channel) (f : ChannelFit c) where
   exact = record { x1 = le_trans x1-size (lit≤ tt); x2 = le_trans x2-size (lit≤ tt); flag = le_trans the-flag-size (lit≤ tt) }
 
 pub sides_of-requires : goal.sides_of-requires
-sides_of-requires c = (kept-size s.args.first.x1 (x1-size s.args.first s.requires.first_fit), kept-size s.args.second.x1 (x1-size s.args.second s.requires.second_fit))
-  where
-    s : Start
-    s = c.before.before.before.before
+sides_of-requires c = (kept-size c.args.first.x1 (x1-size c.args.first c.requires.first_fit), kept-size c.args.second.x1 (x1-size c.args.second c.requires.second_fit))
 
 pub sides_of-requires-2 : goal.sides_of-requires-2
-sides_of-requires-2 c = (kept-size s.args.first.x2 (x2-size s.args.first s.requires.first_fit), kept-size s.args.second.x2 (x2-size s.args.second s.requires.second_fit))
-  where
-    s : Start
-    s = c.before.before.before.before.before.before.before
+sides_of-requires-2 c = (kept-size c.args.first.x2 (x2-size c.args.first c.requires.first_fit), kept-size c.args.second.x2 (x2-size c.args.second c.requires.second_fit))
 
 pub sides_of-requires-3 : goal.sides_of-requires-3
-sides_of-requires-3 c = (kept-size s.args.first.flag (the-flag-size s.args.first s.requires.first_fit), kept-size s.args.second.flag (the-flag-size s.args.second s.requires.second_fit))
-  where
-    s : Start
-    s = c.before.before.before.before.before.before.before.before.before.before
+sides_of-requires-3 c = (kept-size c.args.first.flag (the-flag-size c.args.first c.requires.first_fit), kept-size c.args.second.flag (the-flag-size c.args.second c.requires.second_fit))
 
 module _ (p : After-put_three) where
-  abbrev s : Start
-  s = p.before.before.before.before.before.before.before.before.before.before.before.before
-
   abbrev first : Channel
-  first = s.args.first
+  first = p.args.first
 
   abbrev second : Channel
-  second = s.args.second
+  second = p.args.second
 
   first-exact : Exact first
-  first-exact = exact first s.requires.first_fit
+  first-exact = exact first p.requires.first_fit
 
   second-exact : Exact second
-  second-exact = exact second s.requires.second_fit
+  second-exact = exact second p.requires.second_fit
 
   heads-are : p.put_three.new.floats ≡ heads first second
   heads-are =
       p.put_three.ensures
       ∙ (λ i.
       put_three (zeros first second) x1_place
-      ((p.sides_of.ensures ∙ (λ j. float_sides (kept first.x1 (x1-size first s.requires.first_fit) j) (kept second.x1 (x1-size second s.requires.second_fit) j))) i)
-      ((p.sides_of-2.ensures ∙ (λ j. float_sides (kept first.x2 (x2-size first s.requires.first_fit) j) (kept second.x2 (x2-size second s.requires.second_fit) j))) i)
-      ((p.sides_of-3.ensures ∙ (λ j. float_sides (kept first.flag (the-flag-size first s.requires.first_fit) j) (kept second.flag (the-flag-size second s.requires.second_fit) j))) i))
+      ((p.sides_of.ensures ∙ (λ j. float_sides (kept first.x1 (x1-size first p.requires.first_fit) j) (kept second.x1 (x1-size second p.requires.second_fit) j))) i)
+      ((p.sides_of-2.ensures ∙ (λ j. float_sides (kept first.x2 (x2-size first p.requires.first_fit) j) (kept second.x2 (x2-size second p.requires.second_fit) j))) i)
+      ((p.sides_of-3.ensures ∙ (λ j. float_sides (kept first.flag (the-flag-size first p.requires.first_fit) j) (kept second.flag (the-flag-size second p.requires.second_fit) j))) i))
 
 pub put_sections-requires : goal.put_sections-requires
 put_sections-requires c =
@@ -89,8 +77,8 @@ put_sections-requires c =
     (record {
       size = heads_size (first p) (second p);
       whole = heads_whole (first p) (second p) (first-exact p) (second-exact p);
-      first_fit = (s p).requires.first_fit.sections;
-      second_fit = (s p).requires.second_fit.sections;
+      first_fit = p.requires.first_fit.sections;
+      second_fit = p.requires.second_fit.sections;
     })
   where
     p : After-put_three

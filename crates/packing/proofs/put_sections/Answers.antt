@@ -15,7 +15,6 @@ use Rattle.engine.specs.Layout.{section_floats, first_side, second_side, put_sec
 use Rattle.engine.proofs.Store.{section_length}
 use Rattle.engine.proofs.Read.{sections_read}
 use Rattle.packing.proofs.Sections.{Filled, filled_more}
-use Rattle.packing.proofs.put_sections.Goals.{After-put_section, Start}
 use Rattle.packing.proofs.put_sections.Goals as goal
 
 pub loop-b-init : goal.loop-b-init
@@ -35,35 +34,26 @@ section_floats-requires c =
 
 pub section_floats-requires-in-loop-b : goal.section_floats-requires-in-loop-b
 section_floats-requires-in-loop-b c =
-    each_get_d SectionFit s.args.second cleared_band_section s.requires.second_fit c.loop-b.b (omega arith)
-  where
-    s : Start
-    s = c.before.before.before.before.before.before.before.before
+    each_get_d SectionFit c.args.second cleared_band_section c.requires.second_fit c.loop-b.b (omega arith)
 
 pub put_section-requires-in-loop-b : goal.put_section-requires-in-loop-b
 put_section-requires-in-loop-b c =
-    omega (arith, c.loop-b.invariant.size, ap length p.put_section.ensures, section_length c.loop-b.pair (section_floats * c.loop-b.b) p.section_floats.result)
-  where
-    p : After-put_section
-    p = c.before.before.before
+    omega (arith, c.loop-b.invariant.size, ap length c.put_section.ensures, section_length c.loop-b.pair (section_floats * c.loop-b.b) c.section_floats.result)
 
 pub loop-b-preserved : goal.loop-b-preserved
 loop-b-preserved c =
-    subst (λ (m : List Float). Filled s.args.pair.now s.args.first s.args.second (b + 1) m) (sym is)
-    (filled_more s.args.pair.now s.args.first s.args.second b m (omega arith) c.loop-b.invariant
-    (each_get_d SectionFit s.args.first cleared_band_section s.requires.first_fit b (omega arith))
-    (each_get_d SectionFit s.args.second cleared_band_section s.requires.second_fit b (omega arith)))
+    subst (λ (m : List Float). Filled c.args.pair.now c.args.first c.args.second (b + 1) m) (sym is)
+    (filled_more c.args.pair.now c.args.first c.args.second b m (omega arith) c.loop-b.invariant
+    (each_get_d SectionFit c.args.first cleared_band_section c.requires.first_fit b (omega arith))
+    (each_get_d SectionFit c.args.second cleared_band_section c.requires.second_fit b (omega arith)))
   where
-    s : Start
-    s = c.before.before.before.before.before.before.before.before.before.before
-
     b : ℕ
     b = c.loop-b.b
 
     m : List Float
     m = c.loop-b.pair
 
-    is : c.put_section-in-loop-b.new.pair ≡ put_section (put_section m (section_floats * b) (float_section (get_or s.args.first b cleared_band_section))) (section_floats * b + 1) (float_section (get_or s.args.second b cleared_band_section))
+    is : c.put_section-in-loop-b.new.pair ≡ put_section (put_section m (section_floats * b) (float_section (get_or c.args.first b cleared_band_section))) (section_floats * b + 1) (float_section (get_or c.args.second b cleared_band_section))
     is =
         c.put_section-in-loop-b.ensures
         ∙ ap₂ (λ (l : List Float) (z : FloatSection). put_section l (section_floats * b + 1) z)

@@ -5,16 +5,12 @@ use Prim.Native.Nat.{◌+◌}
 use lib.Ieee.{Float}
 use Rattle.engine.specs.Layout.{put_sides}
 use Rattle.packing.specs.Packing.{put_three}
-use Rattle.packing.proofs.put_three.Goals.{Start}
 use Rattle.packing.proofs.put_three.Goals as goal
 
 pub returns : goal.returns
 unfolding put_three
 returns c =
     c.put_sides-3.ensures
-    ∙ ap (λ (l : List Float). put_sides l (s.args.at + 4) s.args.c)
+    ∙ ap (λ (l : List Float). put_sides l (c.args.at + 4) c.args.c)
     (c.put_sides-2.ensures
-    ∙ ap (λ (l : List Float). put_sides l (s.args.at + 2) s.args.b) c.put_sides.ensures)
-  where
-    s : Start
-    s = c.before.before.before.before.before.before.before.before.before.before.before.before.before.before
+    ∙ ap (λ (l : List Float). put_sides l (c.args.at + 2) c.args.b) c.put_sides.ensures)

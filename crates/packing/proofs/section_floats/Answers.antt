@@ -12,11 +12,10 @@ use Rattle.words.proofs.Laws.{word_size_lem}
 use Rattle.floats.specs.Whole.{float}
 use Rattle.unit.specs.declared.BandSection.{BandSection}
 use Rattle.unit.proofs.Ranges.{remainder-size}
-use Rattle.packing.proofs.section_floats.Goals.{Start}
 use Rattle.packing.proofs.section_floats.Goals as goal
 
-pub level_floats-gain-requires : goal.level_floats-gain-requires
-level_floats-gain-requires c =
+pub level_floats-requires : goal.level_floats-requires
+level_floats-requires c =
     record {
       present_size = word_size_lem c.args.section.gain.present c.requires.present;
       target_size = word_size_lem c.args.section.gain.target c.requires.target;
@@ -34,11 +33,8 @@ float_of-requires-2 c =
 
 pub float_of-requires-3 : goal.float_of-requires-3
 float_of-requires-3 c =
-    subst (λ (z : ℤ). nat_abs z ≤ word_size) (sym (reads_back w64 s.args.section.remainder (omega arith)))
-    (le_trans (remainder-size s.args.section.remainder s.requires.remainder) (lit≤ tt))
-  where
-    s : Start
-    s = c.before.before.before.before.before.before.before.before
+    subst (λ (z : ℤ). nat_abs z ≤ word_size) (sym (reads_back w64 c.args.section.remainder (omega arith)))
+    (le_trans (remainder-size c.args.section.remainder c.requires.remainder) (lit≤ tt))
 
 pub returns : goal.returns
 returns c =
@@ -46,7 +42,7 @@ returns c =
     record {
       y1 = (c.float_of.ensures ∙ ap float (reads_back w64 s.y1 (omega arith))) i;
       y2 = (c.float_of-2.ensures ∙ ap float (reads_back w64 s.y2 (omega arith))) i;
-      gain = c.level_floats-gain.ensures i;
+      gain = c.level_floats.ensures i;
       remainder = (c.float_of-3.ensures ∙ ap float (reads_back w64 s.remainder (omega arith))) i;
     }
   where

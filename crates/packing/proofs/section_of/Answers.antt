@@ -11,6 +11,6 @@ returns c =
     record {
       y1 = (reads_back w64 c.whole_of.result (omega arith) ∙ c.whole_of.ensures) i;
       y2 = (reads_back w64 c.whole_of-2.result (omega arith) ∙ c.whole_of-2.ensures) i;
-      gain = c.level_of-gain.ensures i;
+      gain = c.level_of.ensures i;
       remainder = (reads_back w64 c.whole_of-3.result (omega arith) ∙ c.whole_of-3.ensures) i;
     }

@@ -1,5 +1,4 @@
 -- `play::pass` is safe: the unit that a sheet carries can play a stream.
-use borrow.Author.Rules.{rules}
 use lib.Dec.{lit≤}
 use Rattle.play.proofs.Sheets.{sheet_ready}
 use Rattle.play.proofs.pass.Goals as goal

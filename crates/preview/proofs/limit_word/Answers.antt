@@ -23,12 +23,14 @@ module _ (s : Start) where
 
 pub returns-then-rounded : goal.returns-then-rounded
 unfolding of_bits of_int
-returns-then-rounded c = ap float (test c.before true _ c.if-rounded.true refl)
+returns-then-rounded c = ap float (test (goal.at.returns-then-rounded c).Start true _ c.if-rounded.true refl)
 
 pub returns-then-rounded-2 : goal.returns-then-rounded-2
 unfolding of_bits of_int
-returns-then-rounded-2 c = ap float (test c.before.before false true c.before.if-rounded.false c.if-rounded-2.true)
+returns-then-rounded-2 c = ap float (test (goal.at.returns-then-rounded-2 c).Start false true c.if-rounded.false c.if-rounded-2.true)
 
-pub returns : goal.returns
+pub returns-else-rounded-2 : goal.returns-else-rounded-2
 unfolding of_bits of_int
-returns c = sym (whole_is c.before.before) ∙ ap float (test c.before.before false false c.before.if-rounded.false c.if-rounded-2.false)
+returns-else-rounded-2 c =
+    let s = (goal.at.returns-else-rounded-2 c).Start in
+    sym (whole_is s) ∙ ap float (test s false false c.if-rounded.false c.if-rounded-2.false)

@@ -75,13 +75,13 @@ unfolding of_bits
 nearest_whole-rounded-requires c = subst (λ (t : Float). NearestWholeAsks (quotient_of t)) (sym (total-is s)) (roundable (S s) (S-size s))
   where
     s : Start
-    s = c.before.before.before.before
+    s = (goal.at.nearest_whole-rounded-requires c).Start
 
 -- ---- S rounded
 
 module _ (c : After-nearest_whole-rounded) where
   abbrev s : Start
-  s = c.before.before.before.before.before
+  s = (goal.at.limit_word-requires c).Start
 
   abbrev r : ℤ
   r = nearest (S s) sum_shift

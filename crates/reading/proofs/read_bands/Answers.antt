@@ -1,40 +1,20 @@
--- `reading::read_bands` meets its contract. The loop's invariant: the lines below the ith are read, and the numbers stand in the set.
-use mathlib.Core.Bool.{not}
-use mathlib.Core.Path.{refl, sym, ◌∙◌, ap}
+-- `reading::read_bands` meets its contract.
+use mathlib.Core.Path.{sym}
 use native.Mathlib.Omega.{arith}
 use lib.ListN.{get_or-replicate}
-use borrow.Author.Rules.{rules}
+use Rattle.line_reading.proofs.Results.{handed_on}
 use Rattle.bands.specs.Bands.{band_count}
 use Rattle.sheet.specs.Lines.{band_letter}
 use Rattle.sheet.proofs.Lines.{band_sound}
-use Rattle.side_reading.proofs.Rows.{rows_begin, rows_done, rows_refused, rows_next}
+use Rattle.line_reading.proofs.Forms.{forms_off, forms_on}
 use Rattle.reading.proofs.read_bands.Goals as goal
 
-pub read_band-found-requires : goal.read_band-found-requires
-read_band-found-requires c =
-    (c.loop-i.invariant.turned.inside, omega (arith, c.requires.1, c.loop-i.invariant.size_is))
+pub returns-in_err-bands : goal.returns-in_err-bands
+returns-in_err-bands c =
+    handed_on c.from_residual.result c.from_residual.ensures.1
+    (forms_off c.loop-b.invariant 0 (omega arith) (sym (get_or-replicate band_count c.loop-b.b band_letter 0 (omega arith))) c.in_err-bands.ensures)
 
-pub shape_of-set-then-not-accepted : goal.shape_of-set-then-not-accepted
-shape_of-set-then-not-accepted c =
-    c.read_band-found.ensures.size_is ∙ c.loop-i.invariant.size_is
-
-pub returns-then-not-accepted : goal.returns-then-not-accepted
-returns-then-not-accepted c =
-    let l = c.loop-i in
-    rows_refused l.invariant 0 (omega arith) (sym (get_or-replicate band_count l.i band_letter 0 (omega arith))) c.read_band-found.ensures c.accepted.ensures (ap not c.if-not-accepted.true)
-
-pub loop-i-preserved : goal.loop-i-preserved
-loop-i-preserved c =
-    let l = c.loop-i in
-    rows_next l.invariant 0 (omega arith) (sym (get_or-replicate band_count l.i band_letter 0 (omega arith))) c.read_band-found.ensures c.accepted.ensures (band_sound band_letter) refl (ap not c.if-not-accepted.false) (omega arith)
-
-pub returns : goal.returns
-returns c = rows_done c.loop-i.invariant (omega arith)
-
-pub loop-i-init : goal.loop-i-init
-loop-i-init c =
-    rows_begin (omega arith) (search rules)
-
-pub shape_of-set : goal.shape_of-set
-shape_of-set c =
-    c.loop-i.invariant.size_is
+pub loop-b-preserved : goal.loop-b-preserved
+loop-b-preserved c =
+    forms_on c.loop-b.invariant 0 (omega arith) (sym (get_or-replicate band_count c.loop-b.b band_letter 0 (omega arith))) (band_sound band_letter)
+    c.in_ok-bands.ensures (omega arith)

@@ -1,51 +1,74 @@
--- `reading::read_lines` meets its contract: the V line and the C lines, then what stands behind them, then the unit.
-use mathlib.Core.Path.{◌≡◌, sym, ap, ◌∙◌}
-use mathlib.Core.Bool.{Bool, true}
-use mathlib.Core.List.{List}
-use Prim.Native.Nat.{ℕ}
-use Rattle.refusals.specs.Numbers.{is_accepted}
-use Rattle.unit.specs.declared.Unit.{Unit}
-use Rattle.sheet.specs.Sheet.{side_letters}
-use Rattle.reading.proofs.Lines.{front_room, front_refused, behind_refused, lines_accepted}
-use Rattle.reading.proofs.read_lines.Goals.{Else-not-accepted, Else-not-accepted-2}
+-- `reading::read_lines` meets its contract: the V line and the C lines, the sides behind them, and the end of the bytes.
+use mathlib.Core.Path.{ap, ◌∙◌}
+use Prim.Native.Nat.{ℕ, ◌+◌, ◌*◌}
+use borrow.Author.Rules.{rules}
+use Rattle.line_reading.proofs.Results.{handed_on}
+use Rattle.std.proofs.lemmas.List.{take_rest}
+use Rattle.forms.specs.Form.{both}
+use Rattle.sheet.specs.Lines.{volume_form}
+use Rattle.sheet.specs.Sheet.{side_letters, bands_form, front_form, sides_form, unit_of_lines, unit_lines, front_size, taken_verdict}
+use Rattle.sheet.proofs.Lines.{volume_sound}
+use Rattle.sheet.proofs.Sides.{front_sound}
+use Rattle.line_reading.specs.Gives.{form_read}
+use Rattle.line_reading.proofs.Forms.{front_off, back_off, both_on, seen_off, seen_on, form_room}
+use Rattle.reading.proofs.Lines.{lines_take, lines_off, taken_off, lines_on}
 use Rattle.reading.proofs.read_lines.Goals as goal
 
-pub returns-then-not-accepted : goal.returns-then-not-accepted
-returns-then-not-accepted c =
-    front_refused c.args.long side_letters c.args.bytes.now c.args.given c.read_front-front.ensures (sym c.accepted.ensures ∙ c.if-not-accepted.true)
+pub returns-in_err-volume : goal.returns-in_err-volume
+returns-in_err-volume c =
+    handed_on c.from_residual.result c.from_residual.ensures.1
+    (lines_off c.args.long side_letters c.args.bytes.now (seen_off unit_of_lines unit_lines (both front_form (sides_form c.args.long side_letters)) c.args.bytes.now
+    (front_off front_form (sides_form c.args.long side_letters) c.args.bytes.now (front_off volume_form bands_form c.args.bytes.now c.in_err-volume.ensures))))
 
--- ---- past the V line and the C lines
+pub slice_bounds-read_bands-start : goal.slice_bounds-read_bands-start
+slice_bounds-read_bands-start c =
+    let room = form_room volume_form c.args.bytes.now volume_sound c.in_ok-volume.ensures in search rules
 
-module _ (c : Else-not-accepted) where
-  abbrev bytes : List ℕ
-  bytes = c.args.bytes.now
+pub slice_bounds-read_bands-count : goal.slice_bounds-read_bands-count
+slice_bounds-read_bands-count c = form_room volume_form c.args.bytes.now volume_sound c.in_ok-volume.ensures
 
-  abbrev long : Bool
-  long = c.args.long
+pub returns-in_err-bands : goal.returns-in_err-bands
+returns-in_err-bands c =
+    handed_on c.from_residual-in_err-bands.result c.from_residual-in_err-bands.ensures.1
+    (lines_off c.args.long side_letters c.args.bytes.now (seen_off unit_of_lines unit_lines (both front_form (sides_form c.args.long side_letters)) c.args.bytes.now
+    (front_off front_form (sides_form c.args.long side_letters) c.args.bytes.now (back_off volume_form bands_form c.args.bytes.now c.in_ok-volume.ensures
+    (c.in_err-bands.ensures ∙ ap (form_read bands_form) (take_rest c.args.bytes.now 20))))))
 
-  abbrev given : Unit
-  given = c.args.given
+pub slice_bounds-read_sides-start : goal.slice_bounds-read_sides-start
+slice_bounds-read_sides-start c =
+    let room =
+    form_room front_form c.args.bytes.now front_sound
+    (both_on volume_form bands_form c.args.bytes.now c.in_ok-volume.ensures
+    (c.in_ok-bands.ensures ∙ ap (form_read bands_form) (take_rest c.args.bytes.now 20))) in
+    search rules
 
-  passed : is_accepted c.read_front-front.result ≡ true
-  passed = sym c.accepted.ensures ∙ c.if-not-accepted.false
+pub slice_bounds-read_sides-count : goal.slice_bounds-read_sides-count
+slice_bounds-read_sides-count c =
+    form_room front_form c.args.bytes.now front_sound
+    (both_on volume_form bands_form c.args.bytes.now c.in_ok-volume.ensures
+    (c.in_ok-bands.ensures ∙ ap (form_read bands_form) (take_rest c.args.bytes.now 20)))
 
-pub read_rest-rest-requires : goal.read_rest-rest-requires
-read_rest-rest-requires c =
-    let p = (goal.at.read_rest-rest-requires c).Else-not-accepted in
-    front_room (bytes p) (ap is_accepted (sym c.read_front-front.ensures.verdict_is) ∙ passed p)
+pub returns-in_err-channels : goal.returns-in_err-channels
+returns-in_err-channels c =
+    handed_on c.from_residual-in_err-channels.result c.from_residual-in_err-channels.ensures.1
+    (lines_off c.args.long side_letters c.args.bytes.now (seen_off unit_of_lines unit_lines (both front_form (sides_form c.args.long side_letters)) c.args.bytes.now
+    (back_off front_form (sides_form c.args.long side_letters) c.args.bytes.now (both_on volume_form bands_form c.args.bytes.now c.in_ok-volume.ensures
+    (c.in_ok-bands.ensures ∙ ap (form_read bands_form) (take_rest c.args.bytes.now 20)))
+    (c.in_err-channels.ensures ∙ ap (form_read (sides_form c.args.long side_letters)) (take_rest c.args.bytes.now front_size)))))
 
--- past the sides and the end of the bytes
-module _ (c : Else-not-accepted-2) where
-  passed-rest : is_accepted c.read_rest-rest.result.verdict ≡ true
-  passed-rest = sym c.accepted-2.ensures ∙ c.if-not-accepted-2.false
-
-pub returns-then-not-accepted-2 : goal.returns-then-not-accepted-2
-returns-then-not-accepted-2 c =
-    let p = (goal.at.returns-then-not-accepted-2 c).Else-not-accepted in
-    behind_refused (long p) side_letters (bytes p) (given p) c.read_front-front.ensures (passed p) c.read_rest-rest.ensures (sym c.accepted-2.ensures ∙ c.if-not-accepted-2.true)
+pub returns-in_err-check_taken : goal.returns-in_err-check_taken
+returns-in_err-check_taken c =
+    handed_on c.from_residual-in_err-check_taken.result c.from_residual-in_err-check_taken.ensures.1
+    (taken_off c.args.long side_letters c.args.bytes.now (seen_on unit_of_lines unit_lines (both front_form (sides_form c.args.long side_letters)) c.args.bytes.now
+    (both_on front_form (sides_form c.args.long side_letters) c.args.bytes.now (both_on volume_form bands_form c.args.bytes.now c.in_ok-volume.ensures
+    (c.in_ok-bands.ensures ∙ ap (form_read bands_form) (take_rest c.args.bytes.now 20)))
+    (c.in_ok-channels.ensures ∙ ap (form_read (sides_form c.args.long side_letters)) (take_rest c.args.bytes.now front_size))))
+    (c.in_err-check_taken.ensures ∙ ap (taken_verdict c.args.bytes.now) (ap (λ (n : ℕ). front_size + n * 2) c.side_lines.ensures ∙ lines_take c.args.long c.args.bytes.now)))
 
 pub returns : goal.returns
 returns c =
-    let p = (goal.at.returns c).Else-not-accepted in
-    let p1 = (goal.at.returns c).Else-not-accepted-2 in
-    lines_accepted (long p) side_letters (bytes p) (given p) c.read_front-front.ensures (passed p) c.read_rest-rest.ensures (passed-rest p1) c.unit_of-unit.ensures
+    lines_on c.args.long side_letters c.args.bytes.now (seen_on unit_of_lines unit_lines (both front_form (sides_form c.args.long side_letters)) c.args.bytes.now
+    (both_on front_form (sides_form c.args.long side_letters) c.args.bytes.now (both_on volume_form bands_form c.args.bytes.now c.in_ok-volume.ensures
+    (c.in_ok-bands.ensures ∙ ap (form_read bands_form) (take_rest c.args.bytes.now 20)))
+    (c.in_ok-channels.ensures ∙ ap (form_read (sides_form c.args.long side_letters)) (take_rest c.args.bytes.now front_size))))
+    (c.in_ok-check_taken.ensures ∙ ap (taken_verdict c.args.bytes.now) (ap (λ (n : ℕ). front_size + n * 2) c.side_lines.ensures ∙ lines_take c.args.long c.args.bytes.now))

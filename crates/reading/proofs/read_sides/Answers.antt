@@ -1,27 +1,23 @@
--- `reading::read_sides` meets its contract. The loop's invariant: the sides below the ith are read, and stand at the front of the channels.
-use mathlib.Core.Path.{refl, sym, ◌∙◌}
+-- `reading::read_sides` meets its contract.
+use mathlib.Core.Path.{refl, sym, ap, ◌∙◌}
+use mathlib.Core.List.{[]}
+use Prim.Native.Nat.{ℕ, ◌+◌}
 use native.Mathlib.Omega.{arith}
-use Rattle.reading.proofs.Sides.{sides_begin, sides_done, sides-refused, sides-next}
+use Rattle.line_reading.proofs.Results.{handed_on}
+use Rattle.sheet.proofs.Sides.{side_sound}
+use Rattle.sheet.proofs.Sizes.{side_takes}
+use Rattle.line_reading.proofs.Forms.{forms_off, forms_on, forms_done}
 use Rattle.reading.proofs.read_sides.Goals as goal
 
-pub loop-i-init : goal.loop-i-init
-loop-i-init c =
-    sides_begin c.args.long c.args.letters.now c.args.bytes.now c.args.at (sym c.requires.1) c.requires.0
-
-pub returns-then-not-accepted : goal.returns-then-not-accepted
-returns-then-not-accepted c =
-    let l = c.loop-i in
-    sides-refused c.args.long c.args.letters.now c.args.bytes.now c.args.at l.invariant (omega (arith, c.requires.1)) refl c.read_side-found.ensures (sym c.accepted.ensures ∙ c.if-not-accepted.true)
+pub returns-in_err-channels : goal.returns-in_err-channels
+returns-in_err-channels c =
+    handed_on c.from_residual.result c.from_residual.ensures.1
+    (forms_off c.loop-i.invariant 0 (omega arith) refl c.in_err-channels.ensures)
 
 pub loop-i-preserved : goal.loop-i-preserved
 loop-i-preserved c =
-    let l = c.loop-i in
-    sides-next c.args.long c.args.letters.now c.args.bytes.now c.args.at l.invariant (omega (arith, c.requires.1)) refl c.read_side-found.ensures (sym c.accepted.ensures ∙ c.if-not-accepted.false)
+    forms_on c.loop-i.invariant 0 (omega arith) refl (side_sound c.args.long _) c.in_ok-channels.ensures
+    (ap (λ (n : ℕ). c.loop-i.next + n) (c.side_lines.ensures ∙ sym (side_takes c.args.long 0 [])))
 
 pub returns : goal.returns
-returns c =
-    sides_done c.args.long c.args.letters.now c.args.bytes.now c.args.at c.loop-i.invariant (omega (arith, c.requires.1))
-
-pub read_side-found-requires : goal.read_side-found-requires
-read_side-found-requires c =
-    c.loop-i.invariant.turned.inside
+returns c = forms_done c.loop-i.invariant (omega arith)

@@ -1,11 +1,7 @@
--- `reading::read_sides` meets its contract. The loop's invariant: the sides below the ith are read, and stand at the front of the channels.
-use Prim.Native.Nat.{◌-◌}
-use Rattle.unit.specs.Sizes.{channel_count}
-use Rattle.reading.proofs.Sides.{SidesTurned}
+-- `reading::read_sides` meets its contract. The loop's invariant: the sides below the ith are read and accepted.
+use Rattle.sheet.specs.Sheet.{side_letters, side_form}
+use Rattle.line_reading.proofs.Forms.{FormsRead}
 use Rattle.reading.proofs.read_sides.Given as goal
 
 abbrev pub invariant-loop-i : goal.invariant-loop-i
-invariant-loop-i l = SidesTurned l.long l.letters l.bytes l.at l.channels l.next l.i
-
-abbrev pub decreases-loop-i : goal.decreases-loop-i
-decreases-loop-i l = channel_count - l.i
+invariant-loop-i l = FormsRead (side_form l.long) side_letters l.bytes l.channels l.next l.i

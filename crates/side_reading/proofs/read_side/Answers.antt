@@ -1,24 +1,44 @@
--- `side_reading::read_side` meets its contract: the channel of the slots that the lines are read into.
-use mathlib.Core.Path.{ap}
-use mathlib.Core.Bool.{true}
-use Prim.Native.Nat.{ℕ, ◌+◌, ◌^◌, ◌<◌}
+-- `side_reading::read_side` meets its contract: the head, and behind an accepted one the S lines.
+use mathlib.Core.Path.{ap, ◌∙◌}
 use native.Mathlib.Omega.{arith}
-use Rattle.sheet.specs.Sheet.{side_size}
-use Rattle.sheet.proofs.Sizes.{few_lines}
-use Rattle.side_reading.proofs.Side.{side_read}
-use Rattle.side_reading.proofs.read_side.Goals.{Start}
+use borrow.Author.Rules.{rules}
+use lib.IntN.{pos}
+use lib.ListN.{get_or}
+use Prim.Native.Nat.{ℕ}
+use Rattle.forms.specs.Form.{both}
+use Rattle.line_reading.specs.Gives.{form_read}
+use Rattle.sheet.proofs.Lines.{head_sound}
+use Rattle.line_reading.proofs.Results.{handed_on}
+use Rattle.std.proofs.lemmas.List.{take_rest}
+use Rattle.sheet.specs.Lines.{head_form}
+use Rattle.sheet.specs.Sheet.{side_lines, channel_of_lines, sections_form}
+use Rattle.line_reading.proofs.Fields.{widened}
+use Rattle.line_reading.proofs.Forms.{front_off, back_off, both_on, seen_off, seen_on, form_room}
 use Rattle.side_reading.proofs.read_side.Goals as goal
 
--- the place behind a side is a number of a place
-module _ (s : Start) where
-  behind-fits : s.args.at + side_size true < 2 ^ 64
-  behind-fits = omega (arith, s.requires)
+-- the head's bytes are there
+pub slice_bounds-read_sections-start : goal.slice_bounds-read_sections-start
+slice_bounds-read_sections-start c =
+    let room = form_room (head_form c.args.letter) c.args.bytes.now (head_sound c.args.letter) c.in_ok-head.ensures in search rules
 
-pub overflow_add-next : goal.overflow_add-next
-overflow_add-next c =
-    let p = (goal.at.overflow_add-next c).Start in
-    omega (arith, behind-fits p, c.side_lines.ensures, few_lines c.args.long)
+pub slice_bounds-read_sections-count : goal.slice_bounds-read_sections-count
+slice_bounds-read_sections-count c = form_room (head_form c.args.letter) c.args.bytes.now (head_sound c.args.letter) c.in_ok-head.ensures
+
+pub returns-in_err-head : goal.returns-in_err-head
+returns-in_err-head c =
+    handed_on c.from_residual.result c.from_residual.ensures.1
+    (seen_off channel_of_lines side_lines (both (head_form c.args.letter) (sections_form c.args.long)) c.args.bytes.now
+    (front_off (head_form c.args.letter) (sections_form c.args.long) c.args.bytes.now c.in_err-head.ensures))
+
+pub returns-in_err-sections : goal.returns-in_err-sections
+returns-in_err-sections c =
+    handed_on c.from_residual-in_err-sections.result c.from_residual-in_err-sections.ensures.1
+    (seen_off channel_of_lines side_lines (both (head_form c.args.letter) (sections_form c.args.long)) c.args.bytes.now
+    (back_off (head_form c.args.letter) (sections_form c.args.long) c.args.bytes.now c.in_ok-head.ensures (c.in_err-sections.ensures ∙ ap (form_read (sections_form c.args.long)) (take_rest c.args.bytes.now 29))))
 
 pub returns : goal.returns
 returns c =
-    side_read c.args.long c.args.letter c.args.bytes.now c.args.at c.read_lines-verdict.ensures c.requires c.channel_of-channel.ensures (ap (λ (n : ℕ). c.args.at + n) c.side_lines.ensures)
+    let number = λ (i : ℕ). get_or c.in_ok-head.head i (pos 0) in
+    rw (widened (number 0) (omega arith), widened (number 1) (omega arith), widened (number 2) (omega arith))
+    (seen_on channel_of_lines side_lines (both (head_form c.args.letter) (sections_form c.args.long)) c.args.bytes.now
+    (both_on (head_form c.args.letter) (sections_form c.args.long) c.args.bytes.now c.in_ok-head.ensures (c.in_ok-sections.ensures ∙ ap (form_read (sections_form c.args.long)) (take_rest c.args.bytes.now 29))))

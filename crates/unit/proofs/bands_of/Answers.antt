@@ -13,4 +13,4 @@ loop-b-init c =
 
 pub loop-b-preserved : goal.loop-b-preserved
 loop-b-preserved c =
-    tabulated_next c.before.before.loop-b.invariant (omega arith) c.band_at-band.ensures
+    tabulated_next c.before.before.loop-b.invariant (omega arith) c.band_at.ensures

@@ -4,22 +4,10 @@ use lib.ListN.{get_or, get_or-replicate}
 use Rattle.bands.specs.Bands.{band_count}
 use Rattle.unit.proofs.PastEnd.{zero_band}
 use Rattle.forms.proofs.Line.{text_length}
-use Rattle.forms.proofs.Texts.{onward_begin, onward_size, onward_next, onward_done}
+use Rattle.forms.proofs.Texts.{onward_next}
 use Rattle.sheet.specs.Lines.{band_letter, band_row}
 use Rattle.writing.proofs.put_bands.Goals as goal
-
-pub loop-i-init : goal.loop-i-init
-loop-i-init c = onward_begin (omega arith)
-
-pub put_band-requires : goal.put_band-requires
-put_band-requires c = omega (arith, onward_size c.loop-i.invariant)
 
 pub loop-i-preserved : goal.loop-i-preserved
 loop-i-preserved c =
     onward_next c.loop-i.invariant 0 zero_band (omega arith) (omega arith) (get_or-replicate band_count c.loop-i.i band_letter 0 (omega arith)) c.put_band.ensures (omega (arith, text_length band_letter (band_row (get_or c.args.bands c.loop-i.i zero_band))))
-
-pub shape_of-out : goal.shape_of-out
-shape_of-out c = onward_size c.loop-i.invariant
-
-pub returns : goal.returns
-returns c = onward_done c.loop-i.invariant (omega arith)

@@ -1,5 +1,4 @@
 -- `writing::put_sections` meets its contract. The loop's invariant: laid at the place that is reached, the lines from line i on make the whole.
-use mathlib.Core.Path.{refl}
 use mathlib.Core.Bool.{true, false}
 use native.Mathlib.Omega.{arith}
 use lib.ListN.{length, get_or}
@@ -7,7 +6,7 @@ use Rattle.lists.proofs.Tabulate.{each_get_d}
 use Rattle.unit.specs.Cleared.{cleared_band_section}
 use Rattle.unit.specs.Frame.{feeds_back}
 use Rattle.unit.specs.Fit.{SectionFit}
-use Rattle.forms.proofs.Texts.{onward_begin, onward_size, onward_room, onward_next, onward_done}
+use Rattle.forms.proofs.Texts.{onward_size, onward_room, onward_next}
 use Rattle.sheet.proofs.Sizes.{section_length, sections_length, long_kind_at}
 use Rattle.writing.proofs.put_sections.Goals as goal
 
@@ -30,13 +29,3 @@ loop-i-preserved c =
     let found = c.put_section-next in
     onward_next l.invariant false cleared_band_section (omega arith) (omega arith) (long_kind_at l.i (omega arith)) found.ensures.0
     (omega (arith, found.ensures.1, section_length (feeds_back l.i) (get_or c.args.sections l.i cleared_band_section)))
-
-pub shape_of-out : goal.shape_of-out
-shape_of-out c = onward_size c.loop-i.invariant
-
-pub returns : goal.returns
-returns c = onward_done c.loop-i.invariant (omega arith)
-
-pub loop-i-init : goal.loop-i-init
-loop-i-init c =
-    onward_begin refl

@@ -1,53 +1,44 @@
 -- `writing::put_side` meets its contract: the numbers of the head lose nothing in 32 bits, and the ten S lines stand behind it.
-use mathlib.Core.Path.{refl, ◌∙◌}
+use mathlib.Core.Path.{◌≡◌, refl, ap, ◌∙◌}
 use mathlib.Core.Bool.{true}
-use mathlib.Core.List.{[], ◌∷◌}
-use Prim.Native.Nat.{◌+◌, ◌≤◌}
+use mathlib.Core.List.{List, [], ◌∷◌}
+use Prim.Native.Nat.{◌+◌}
 use native.Mathlib.Omega.{arith}
-use lib.IntN.{nat_abs}
+use lib.IntN.{ℤ}
 use lib.ListN.{length}
 use lib.Seq.{sets}
+use mir.Syntax.{w32, w64}
+use mir.Val.{to_z, of_z}
 use Rattle.lists.proofs.Stores.{sets_behind}
-use Rattle.words.specs.Words.{word_size}
 use Rattle.words.proofs.Laws.{narrow_need, narrow_reads}
+use Rattle.unit.specs.declared.Channel.{Channel}
+use Rattle.unit.specs.Fit.{ChannelFit}
 use Rattle.unit.proofs.Ranges.{input_size, flag-size}
 use Rattle.forms.specs.Line.{line_size}
 use Rattle.forms.proofs.Line.{text_length}
 use Rattle.sheet.specs.Lines.{head_ranges, head_row, head_form}
 use Rattle.sheet.specs.Sheet.{sections_form}
-use Rattle.writing.proofs.put_side.Goals.{Start}
 use Rattle.writing.proofs.put_side.Goals as goal
 
--- ---- no number of the head is larger than a word
+-- the numbers of a head go from 64 bits to 32
+abbrev narrowed : ℤ → ℤ
+narrowed z = to_z w32 (of_z w32 (to_z w64 (of_z w64 z)))
 
-module _ (s : Start) where
-  x1-size : nat_abs s.args.channel.x1 ≤ word_size
-  x1-size = input_size s.args.channel.x1 s.requires.1.x1
+head_reads : (c : Channel) → ChannelFit c → narrowed c.x1 ∷ narrowed c.x2 ∷ narrowed c.flag ∷ [] ≡ head_row c
+head_reads c f =
+    λ i.
+    narrow_reads c.x1 (input_size c.x1 f.x1) i ∷ narrow_reads c.x2 (input_size c.x2 f.x2) i ∷ narrow_reads c.flag (flag-size c.flag f.flag) i ∷ []
 
-  x2-size : nat_abs s.args.channel.x2 ≤ word_size
-  x2-size = input_size s.args.channel.x2 s.requires.1.x2
-
-  flag_small : nat_abs s.args.channel.flag ≤ word_size
-  flag_small = flag-size s.args.channel.flag s.requires.1.flag
-
-pub overflow_cast-x1 : goal.overflow_cast-x1
-overflow_cast-x1 c =
-    let p = (goal.at.overflow_cast-x1 c).Start in
-    narrow_need c.args.channel.x1 (x1-size p)
-
-pub overflow_cast-x2 : goal.overflow_cast-x2
-overflow_cast-x2 c =
-    let p = (goal.at.overflow_cast-x2 c).Start in
-    narrow_need c.args.channel.x2 (x2-size p)
-
-pub overflow_cast-flag : goal.overflow_cast-flag
-overflow_cast-flag c =
-    let p = (goal.at.overflow_cast-flag c).Start in
-    narrow_need c.args.channel.flag (flag_small p)
+pub overflow_cast-channel-3 : goal.overflow_cast-channel-3
+overflow_cast-channel-3 c = narrow_need c.args.channel.flag (flag-size c.args.channel.flag c.requires.1.flag)
 
 pub returns : goal.returns
-returns c =
-    let p = (goal.at.returns c).Start in (
-      sets_behind c.args.out.now ((head_form c.args.letter).text (head_row c.args.channel)) ((sections_form true).text c.args.channel.sections) c.args.at (c.args.at + line_size (length head_ranges)) (omega (arith, text_length c.args.letter (head_row c.args.channel))) (c.put_head.ensures ∙ (λ i. sets c.args.out.now c.args.at ((head_form c.args.letter).text (narrow_reads c.args.channel.x1 (x1-size p) i ∷ narrow_reads c.args.channel.x2 (x2-size p) i ∷ narrow_reads c.args.channel.flag (flag_small p) i ∷ [])))) c.put_sections.ensures,
-      refl,
-    )
+returns c = (
+  sets_behind c.args.out.now ((head_form c.args.letter).text (head_row channel)) ((sections_form true).text channel.sections) c.args.at (c.args.at + line_size (length head_ranges)) (omega (arith, text_length c.args.letter (head_row channel)))
+      (c.put_head.ensures ∙ ap (λ (row : List ℤ). sets c.args.out.now c.args.at ((head_form c.args.letter).text row)) (head_reads channel c.requires.1))
+      c.put_sections.ensures,
+  refl,
+)
+  where
+    channel : Channel
+    channel = c.args.channel

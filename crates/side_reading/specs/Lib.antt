@@ -1,2 +1,0 @@
--- Reading a side of the strip sheet.
-pub mod Side
