@@ -1,11 +1,16 @@
 -- A read. Where the bytes that an input has left are known, those that come are the first of them; of an input of the system none are, so it is
 -- said that there are bytes of which it holds. Definitions only.
-use Rattle.std.specs.Prelude.{◌≡◌, List, ◌++◌, ℕ, ◌+◌, ◌≤◌, length, take, Option, Some, None}
+use Rattle.std.specs.Prelude.{◌≡◌, List, ◌++◌, ℕ, ◌+◌, ◌≤◌, length, take, Option, Some, None, Result, Ok, Err}
 use Rattle.std.specs.Io.KnownBytes.{Consumes}
 
 -- so many of these stand at their front
 abbrev pub IsPrefixLen : {A : Type 0} → ℕ → List A → Type 0
 IsPrefixLen n items = (n ≤ length items) × (n ≡ length (take n items))
+
+-- how many bytes came, whether no read failed or one did
+abbrev pub count_of : Result ℕ ℕ → ℕ
+count_of (Ok count) = count
+count_of (Err count) = count
 
 -- how many bytes came; none where the read failed
 abbrev pub count_in : Option ℕ → ℕ

@@ -1,9 +1,9 @@
 // What the programs share: their arguments, what they tell of themselves, a refusal's line, and reading and writing that says what failed.
 #![tactic(auto)]
 
-ghost use Rattle.std.specs.Prelude.{◌≡◌, ◌≤◌, length, IfSome};
-ghost use Rattle.console.specs.Answers.{SayAsks, line_of};
-ghost use Rattle.console.specs.Reads.{IsPrefixLen, ReceiveGives};
+ghost use Rattle.std.specs.Prelude.{◌≡◌, ◌≤◌, length};
+ghost use Rattle.console.specs.Answers.{SayAsks};
+ghost use Rattle.console.specs.Reads.{IsPrefixLen, count_of, ReceiveGives};
 
 use arguments::Request;
 use refusals::Verdict;
@@ -62,15 +62,22 @@ pub fn say_usage(rt: &HostRuntime, usage: &str) {
 // A refusal's number, in one line on standard error; of an accepted call nothing is said.
 pub fn answer(rt: &HostRuntime, verdict: Verdict) {
     if verdict.is_err() {
-        say(rt, verdict, refusals::number(verdict));
+        let number = refusals::number(verdict) as u8;
+        let line = [
+            fields::ZERO + number / 10,
+            fields::ZERO + number % 10,
+            sheet::LINE_FEED,
+        ];
+        // A number below ten has one digit.
+        say(rt, verdict, &line[usize::from(number < 10)..]);
     }
 }
 
-// Says a refusal's number, in a line. Where that fails there is nowhere left to say so.
-fn say(rt: &HostRuntime, verdict: Verdict, number: u32)
-    requires { SayAsks verdict (line_of number) }
+// Writes the line of a refusal. Where that fails there is nowhere left to say so.
+fn say(rt: &HostRuntime, verdict: Verdict, line: &[u8])
+    requires { SayAsks verdict line.now }
 {
-    let _ = eprintln!(rt; "{number}");
+    write_error(rt, line);
 }
 
 // Writes bytes to standard error. Where that fails there is nowhere left to say so.
@@ -121,23 +128,24 @@ pub fn receive<R: Read>(
     }
 }
 
-// Reads until the buffer is full or the input ends, and gives how many bytes came; none where a read fails.
+// Reads until the buffer is full or the input ends, and gives how many bytes came; where a read fails, how many came ahead of it.
 pub fn receive_all<R: Read>(
     rt: &HostRuntime,
     input: &mut R,
     name: &str,
     buffer: &mut [u8],
-) -> Option<usize>
-    ensures { IfSome result (λ count. IsPrefixLen count buffer.new) }
+) -> Result<usize, usize>
+    ensures { IsPrefixLen (count_of result) buffer.new }
 {
     let mut count = 0;
     while count < buffer.len() {
-        match receive(rt, input, name, buffer, count, usize::MAX)? {
-            0 => break,
-            more => count += more,
+        match receive(rt, input, name, buffer, count, usize::MAX) {
+            None => return Err(count),
+            Some(0) => break,
+            Some(more) => count += more,
         }
     }
-    Some(count)
+    Ok(count)
 }
 
 // Reads so many bytes and drops them, until the input ends or a read fails, and gives how many are missing then.

@@ -27,47 +27,39 @@ use Rattle.decisions.specs.Decisions.{opened, desk_ordered, desk_verdict, desk_s
 
 -- ---- the sheet
 
--- a refusal is that of the first answer where the second is none
-refused_first : (v : Verdict) (u : Unit) (refusal : Refusal) → Err refusal ≡ first_of v (Ok u) → v ≡ Err refusal
-refused_first (Ok done) u refusal e = absurd (cc e)
-refused_first (Err other) u refusal e = cc e
-
-accepted_both : (v : Verdict) (u given : Unit) → Ok given ≡ first_of v (Ok u) → (is_accepted v ≡ true) × (given ≡ u)
-accepted_both (Ok done) u given e = (refl, cc e)
-accepted_both (Err other) u given e = absurd (cc e)
-
-module _ (bytes : List ℕ) where
-  pub opened_refused : (refusal : Refusal) → Err refusal ≡ opened bytes → sheet_verdict side_letters bytes ≡ Err refusal
+module _ (bytes : List ℕ) (verdict : Verdict) (u : Unit) (opens : answered verdict u ≡ opened bytes) where
+  -- the answer is that of the sheet
+  pub opened_verdict : verdict ≡ sheet_verdict side_letters bytes
   unfolding sheet_read
-  opened_refused refusal e = refused_first (sheet_verdict side_letters bytes) _ refusal e
+  opened_verdict = ap (λ (a : Answered). a.verdict) opens
 
-  pub opened_accepted : (u : Unit) → Ok u ≡ opened bytes → (is_accepted (sheet_verdict side_letters bytes) ≡ true) × (u ≡ carried_unit side_letters bytes)
-  unfolding sheet_read
-  opened_accepted u e =
-      let both = accepted_both (sheet_verdict side_letters bytes) _ u e in
-      (both.0, both.1 ∙ ap (λ (a : Answered). a.unit) ((round_trip side_letters).accepted_reads bytes both.0 (cleared_with house_set)))
+  -- accepted, the unit is the one that the sheet carries
+  pub opened_accepted : is_accepted verdict ≡ true → (is_accepted (sheet_verdict side_letters bytes) ≡ true) × (u ≡ carried_unit side_letters bytes)
+  opened_accepted taken =
+      let sheet_taken : is_accepted (sheet_verdict side_letters bytes) ≡ true = ap is_accepted (sym opened_verdict) ∙ taken in
+      (sheet_taken, ap (λ (a : Answered). a.unit) (opens ∙ (round_trip side_letters).accepted_reads bytes sheet_taken (cleared_with house_set)))
 
 -- ---- the orders
 
 module _ (bytes : List ℕ) (orders : List DeskOrder) where
   -- the sheet's refusal is the answer, and leaves the buffer as it is
-  module _ (refusal : Refusal) (refused : Err refusal ≡ opened bytes) where
+  module _ (refusal : Refusal) (u : Unit) (refused : answered (Err refusal) u ≡ opened bytes) where
     pub sheet_refused : Err refusal ≡ desk_verdict bytes orders
     unfolding desk_verdict
-    sheet_refused = rw (opened_refused bytes refusal refused) refl
+    sheet_refused = rw (sym (opened_verdict bytes (Err refusal) u refused)) refl
 
     pub sheet_unchanged : (buffer : List ℕ) → buffer ≡ desk_sheet bytes orders buffer
     unfolding desk_sheet desk_verdict
-    sheet_unchanged buffer = rw (opened_refused bytes refusal refused) refl
+    sheet_unchanged buffer = rw (sym (opened_verdict bytes (Err refusal) u refused)) refl
 
-  module _ (u : Unit) (opens : Ok u ≡ opened bytes) (verdict : Verdict) (u' : Unit) (gives : answered verdict u' ≡ ordered_all u orders) where
+  module _ (u : Unit) (opens : answered (Ok tt) u ≡ opened bytes) (verdict : Verdict) (u' : Unit) (gives : answered verdict u' ≡ ordered_all u orders) where
     ordered_is : answered verdict u' ≡ desk_ordered bytes orders
-    ordered_is = gives ∙ ap (λ (v : Unit). ordered_all v orders) (opened_accepted bytes u opens).1
+    ordered_is = gives ∙ ap (λ (v : Unit). ordered_all v orders) (opened_accepted bytes (Ok tt) u opens refl).1
 
     -- the answer to the orders is the answer
     pub orders_answered : verdict ≡ desk_verdict bytes orders
     unfolding desk_verdict
-    orders_answered = ap (λ (a : Answered). a.verdict) ordered_is ∙ sym (first_accepted (sheet_verdict side_letters bytes) (desk_ordered bytes orders).verdict (opened_accepted bytes u opens).0)
+    orders_answered = ap (λ (a : Answered). a.verdict) ordered_is ∙ sym (first_accepted (sheet_verdict side_letters bytes) (desk_ordered bytes orders).verdict (opened_accepted bytes (Ok tt) u opens refl).0)
 
     -- all accepted, the sheet is that of the unit after them
     pub orders_written : is_accepted verdict ≡ true → (buffer : List ℕ) → filled side_letters u' buffer ≡ desk_sheet bytes orders buffer

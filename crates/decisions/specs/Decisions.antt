@@ -4,7 +4,6 @@ use Rattle.refusals.specs.Numbers.{is_accepted, unless, first_of, Verdict, Accep
 use Rattle.refusals.specs.declared.Refusal.{Refusal}
 use Rattle.refusals.specs.declared.Refusal.TheVariants.{InputLength}
 use Rattle.bands.specs.House.{house_set}
-use Rattle.unit.specs.declared.Unit.{Unit}
 use Rattle.unit.specs.Answered.{Answered}
 use Rattle.loading.specs.Loading.{cleared_with}
 use Rattle.arguments.specs.declared.Word.{Word}
@@ -20,13 +19,9 @@ use Rattle.decisions.specs.declared.PassEnd.{PassEnd}
 
 -- ---- play
 
--- the unit that was accepted, or the refusal
-abbrev pub accepted_unit : Answered → Result Unit Refusal
-accepted_unit a = first_of a.verdict (Ok a.unit)
-
 -- what is answered for the bytes of a sheet, with the unit that it carries; the reader is given the cleared house unit
-abbrev pub opened : List ℕ → Result Unit Refusal
-opened bytes = accepted_unit (sheet_read side_letters bytes (cleared_with house_set))
+abbrev pub opened : List ℕ → Answered
+opened bytes = sheet_read side_letters bytes (cleared_with house_set)
 
 -- the end of a sound: "A tail of one to three bytes gives 5 after the whole frames are played and the sheet is written"; where sound was
 -- lost on its way out there is neither

@@ -3,6 +3,7 @@
 #![tactic(auto)]
 
 ghost use Rattle.std.specs.Prelude.{◌≡◌};
+ghost use Rattle.unit.specs.Answered.{answered};
 ghost use Rattle.order_lists.specs.Lists.{orders_in};
 ghost use Rattle.decisions.specs.Decisions.{opened, ending_of, can_play, wave_verdict, wave_ending_of, is_call, desk_verdict, desk_sheet};
 
@@ -18,13 +19,12 @@ pub struct PassEnd {
     pub verdict: Verdict,
 }
 
-// What is answered for the bytes of a sheet: the unit that it carries.
-pub fn opening(bytes: &[u8]) -> Result<Unit, Refusal>
-    ensures { result ≡ opened bytes.now }
+// What is answered for the bytes of a sheet. Stores the unit that it carries, or, where it is refused, the cleared house unit.
+pub fn opening(bytes: &[u8], unit: &mut Unit) -> Result<(), Refusal>
+    ensures { answered result unit.new ≡ opened bytes.now }
 {
-    let mut unit = loading::house_unit();
-    reading::read(bytes, &mut unit)?;
-    Ok(unit)
+    *unit = loading::house_unit();
+    reading::read(bytes, unit)
 }
 
 // The end of a sound: the sheet is written, and then a tail is refused. Where sound was lost on its way out there is no sheet.
@@ -91,7 +91,8 @@ pub fn is_call(count: usize, words: &[Word]) -> bool
 pub fn order(words: &[Word], bytes: &[u8], sheet: &mut [u8]) -> Result<(), Refusal>
     ensures { (result ≡ desk_verdict bytes.now (orders_in words.now)) × (sheet.new ≡ desk_sheet bytes.now (orders_in words.now) sheet.old) }
 {
-    let mut unit = opening(bytes)?;
+    let mut unit = loading::house_unit();
+    opening(bytes, &mut unit)?;
     order_lists::order_all(&mut unit, words)?;
     writing::fill(unit, sheet);
     Ok(())

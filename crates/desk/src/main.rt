@@ -97,7 +97,7 @@ fn read_sheet(rt: &HostRuntime, count: usize, words: &[Word])
 {
     let mut bytes = [0u8; sheet::SHEET_ROOM];
     let mut stdin = rt.stdin();
-    if let Some(size) = console::receive_all(rt, &mut stdin, console::INPUT_NAME, &mut bytes) {
+    if let Ok(size) = console::receive_all(rt, &mut stdin, console::INPUT_NAME, &mut bytes) {
         order(rt, words, &bytes[..size]);
     }
 }

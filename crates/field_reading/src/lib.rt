@@ -1,7 +1,7 @@
 // Reading a field of the strip sheet: the number in nine columns.
 #![tactic(auto)]
 
-ghost use Rattle.std.specs.Prelude.{◌≡◌, ◌+◌, ◌≤◌, ◌<◌, eqb, length, take};
+ghost use Rattle.std.specs.Prelude.{◌≡◌, false, ◌+◌, ◌≤◌, ◌<◌, eqb, length, take};
 ghost use Rattle.integers.specs.Signed.{signed};
 ghost use Rattle.fields.specs.Fields.{field_size, last_column, is_digit, field_at, field_read};
 ghost use Rattle.field_reading.specs.Scan.{blanks_of, digits_read, number_read, is_long};
@@ -29,6 +29,15 @@ fn read_columns(columns: &[u8]) -> Option<i32>
     if all_blank(columns) {
         return read_digits(&columns[LAST_COLUMN..], false);
     }
+    read_wide(columns)
+}
+
+// Reads nine columns that are not eight blanks and another. Never inlined, so that the registers that it needs are not saved for one digit.
+#[inline(never)]
+fn read_wide(columns: &[u8]) -> Option<i32>
+    requires { (length columns.now ≡ field_size) × (eqb (blanks_of (take last_column columns.now)) last_column ≡ false) }
+    ensures { result ≡ field_read columns.now }
+{
     if is_long(columns) {
         return read_digits(&columns[2..], columns[1] == MINUS);
     }

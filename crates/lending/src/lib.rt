@@ -76,7 +76,7 @@ fn store(numbers: &mut [i32; SECTION_NUMBERS], section: Section)
 pub fn load(numbers: &mut [i32; numbers::UNIT_SIZE], set: &[i32]) -> u32
     ensures { (result ≡ number_of (loaded set.now).verdict) × (numbers.new ≡ numbers_of (loaded set.now).unit) }
 {
-    let mut loaded = loading::house_unit();
+    let mut loaded = unit::cleared([Band::default(); bands::BAND_COUNT]);
     let verdict = loading::load(&mut loaded, set);
     *numbers = numbers::numbers_of(loaded);
     refusals::number(verdict)
@@ -121,7 +121,7 @@ pub fn sheet_read(numbers: &mut [i32; numbers::UNIT_SIZE], bytes: &[u8]) -> u32
     ensures { SheetReadGives numbers.old bytes.now result numbers.new }
 {
     // Of a refused sheet the numbers stay, whatever unit the reader was lent.
-    let mut unit = loading::house_unit();
+    let mut unit = unit::cleared([Band::default(); bands::BAND_COUNT]);
     match reading::read(bytes, &mut unit) {
         Ok(()) => {
             *numbers = numbers::numbers_of(unit);

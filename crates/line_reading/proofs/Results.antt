@@ -19,3 +19,7 @@ read_on (Err refusal) x q = cc
 -- a refusal that `?` hands on
 pub handed_on : {A : Type 0} {e : Refusal} {wanted : Result A Refusal} (r : Result A Refusal) → IsErrAnd r (λ (x : Refusal). x ≡ e) → Err e ≡ wanted → r ≡ wanted
 handed_on r h q = let p = err_from_is_err_and r h in p.1 ∙ ap Err p.2 ∙ q
+
+-- the same of a routine that stores what it reads
+pub stored_off : {A : Type 0} {e : Refusal} {wanted : Result A Refusal} (r : Verdict) (x : A) → IsErrAnd r (λ (f : Refusal). f ≡ e) → Err e ≡ wanted → first_of r (Ok x) ≡ wanted
+stored_off r x h q = let p = err_from_is_err_and r h in ap (λ (v : Verdict). first_of v (Ok x)) (p.1 ∙ ap Err p.2) ∙ q

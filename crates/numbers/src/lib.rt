@@ -99,7 +99,8 @@ fn section_at(numbers: &[i32], b: usize) -> BandSection
     }
 }
 
-// The numbers of a fit unit.
+// The numbers of a fit unit. Inlined, so that they are stored where its caller wants them.
+#[inline(always)]
 pub fn numbers_of(unit: Unit) -> [i32; UNIT_SIZE]
     requires { Fit unit }
     ensures { result ≡ numbers_of unit }
@@ -129,6 +130,7 @@ fn volume_row(volume: Level) -> [i32; BANDS]
 }
 
 // Stores the ten bands.
+#[inline(always)]
 fn put_bands(out: &mut [i32; UNIT_SIZE], bands: [Band; bands::BAND_COUNT])
     ensures { PutGives out.old bands_place (joined band_numbers bands) left_place out.new }
 {

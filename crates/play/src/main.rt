@@ -76,15 +76,16 @@ fn read_sheet(rt: &HostRuntime, mut file: File, is_wave: bool) {
     let mut bytes = [0u8; sheet::SHEET_ROOM];
     let received = console::receive_all(rt, &mut file, SHEET_NAME, &mut bytes);
     drop(file);
-    if let Some(count) = received {
+    if let Ok(count) = received {
         start(rt, &bytes[..count], is_wave);
     }
 }
 
 // Plays through the sheet of these bytes. After a refused one nothing is played or written.
 fn start(rt: &HostRuntime, bytes: &[u8], is_wave: bool) {
-    match decisions::opening(bytes) {
-        Ok(unit) => {
+    let mut unit = loading::house_unit();
+    match decisions::opening(bytes, &mut unit) {
+        Ok(()) => {
             if saving::can_save(rt) {
                 pass(rt, bytes, unit, is_wave);
             }
@@ -95,7 +96,7 @@ fn start(rt: &HostRuntime, bytes: &[u8], is_wave: bool) {
 
 // What is said of the sheet of these bytes.
 fn answer_sheet(rt: &HostRuntime, bytes: &[u8], refusal: Refusal)
-    requires { Err refusal ≡ opened bytes.now }
+    requires { Err refusal ≡ (opened bytes.now).verdict }
 {
     console::answer(rt, Err(refusal));
 }

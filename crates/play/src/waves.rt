@@ -18,7 +18,7 @@ pub fn pass(rt: &HostRuntime, unit: Unit)
 {
     let mut buffer = [0u8; console::BUFFER_SIZE];
     let mut stdin = rt.stdin();
-    if let Some(count) = console::receive_all(rt, &mut stdin, console::INPUT_NAME, &mut buffer) {
+    if let Ok(count) = console::receive_all(rt, &mut stdin, console::INPUT_NAME, &mut buffer) {
         open_front(rt, unit, &buffer[..count]);
     }
 }

@@ -1,7 +1,8 @@
 // Reading the strip sheet: the unit that it carries, or the first refusal, with the given unit as it was.
 #![tactic(auto)]
 
-ghost use Rattle.std.specs.Prelude.{◌≡◌};
+ghost use Rattle.std.specs.Prelude.{◌≡◌, Ok};
+ghost use Rattle.refusals.specs.Numbers.{first_of};
 ghost use Rattle.unit.specs.Answered.{answered};
 ghost use Rattle.sheet.specs.Sheet.{side_letters, bands_form, sides_form, taken_verdict};
 ghost use Rattle.line_reading.specs.Gives.{form_read};
@@ -23,24 +24,25 @@ pub fn read(bytes: &[u8], unit: &mut Unit) -> Verdict
     if !(long | (bytes.len() == sheet::SHORT_SIZE)) {
         return Err(Refusal::SheetLength);
     }
-    *unit = read_lines(bytes, long)?;
+    let mut carried = unit::cleared([Band::default(); bands::BAND_COUNT]);
+    read_lines(bytes, long, &mut carried)?;
+    *unit = carried;
     Ok(())
 }
 
-// Reads all lines of the longer sheet or of the short one: the V line and the C lines, then the sides, and no byte more.
-fn read_lines(bytes: &[u8], long: bool) -> Result<Unit, Refusal>
-    ensures { result ≡ lines_read long side_letters bytes.now }
+// Reads all lines of the longer sheet or of the short one: the V line and the C lines, then the sides, and no byte more. Stores the unit; refused,
+// what it holds is of no use.
+fn read_lines(bytes: &[u8], long: bool, unit: &mut Unit) -> Verdict
+    ensures { first_of result (Ok unit.new) ≡ lines_read long side_letters bytes.now }
 {
     let volume = line_reading::read_volume(bytes)?;
+    unit.volume = volume;
     let bands = read_bands(&bytes[sheet::BANDS_AT..])?;
-    let channels = read_sides(&bytes[sheet::SIDES_AT..], long)?;
+    unit.bands = bands;
+    read_sides(&bytes[sheet::SIDES_AT..], long, &mut unit.channels)?;
     let next = sheet::SIDES_AT + sheet::side_lines(long) * unit::CHANNEL_COUNT;
     check_taken(bytes, next)?;
-    Ok(Unit {
-        volume,
-        bands,
-        channels,
-    })
+    Ok(())
 }
 
 // Reads ten C lines.
@@ -54,17 +56,16 @@ fn read_bands(bytes: &[u8]) -> Result<[Band; bands::BAND_COUNT], Refusal>
     Ok(bands)
 }
 
-// Reads a side for each letter, each behind the one ahead of it.
-fn read_sides(bytes: &[u8], long: bool) -> Result<[Channel; unit::CHANNEL_COUNT], Refusal>
-    ensures { result ≡ form_read (sides_form long side_letters) bytes.now }
+// Reads a side for each letter, each behind the one ahead of it. Stores the channels; refused, what they hold is of no use.
+fn read_sides(bytes: &[u8], long: bool, channels: &mut [Channel; unit::CHANNEL_COUNT]) -> Verdict
+    ensures { first_of result (Ok channels.new) ≡ form_read (sides_form long side_letters) bytes.now }
 {
-    let mut channels = [Channel::default(); unit::CHANNEL_COUNT];
     let mut next = 0;
     for i in 0..unit::CHANNEL_COUNT {
-        channels[i] = side_reading::read_side(&bytes[next..], long, SIDE_LETTERS[i])?;
+        side_reading::read_side(&bytes[next..], long, SIDE_LETTERS[i], &mut channels[i])?;
         next += sheet::side_lines(long);
     }
-    Ok(channels)
+    Ok(())
 }
 
 // 12 where bytes are left over from this place on.

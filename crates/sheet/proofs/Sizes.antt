@@ -71,6 +71,11 @@ pub side_takes : (long : Bool) (letter : ℕ) (bytes : List ℕ) → (side_form 
 side_takes true letter bytes = refl
 side_takes false letter bytes = refl
 
+-- no side has more than one of the longer sheet
+pub few_lines : (long : Bool) → side_size long ≤ side_size true
+few_lines true = omega arith
+few_lines false = omega arith
+
 -- a side for each letter
 sides-length : (long : Bool) (letters : List ℕ) (cs : List Channel) → length cs ≡ length letters → Each TenSections cs → length ((sides_form long letters).text cs) ≡ side_size long * length letters
 sides-length long [] [] e s = omega arith

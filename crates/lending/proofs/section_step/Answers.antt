@@ -23,7 +23,7 @@ module _ (c : After-step) where
 
   answer-is : c.step.result ≡ step_answer (lone_section l) c.args.x
   answer-is =
-      c.step.ensures
+      c.step.ensures.0
       ∙ (λ i. step_answer
       (record {
         band = record { alpha = reads_back w32 (get_or l 0 (pos 0)) (omega arith) i; beta = reads_back w32 (get_or l 1 (pos 0)) (omega arith) i; gamma = reads_back w32 (get_or l 2 (pos 0)) (omega arith) i };

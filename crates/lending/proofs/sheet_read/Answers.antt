@@ -7,14 +7,14 @@ use Rattle.lending.proofs.sheet_read.Goals as goal
 
 pub numbers_of-requires : goal.numbers_of-requires
 numbers_of-requires c =
-    carried-fits c.args.bytes.now c.args.numbers.now c.house_unit-unit.result (answered c.read.result c.read.new.unit) c.read.ensures (ap is_accepted c.in-Ok.is)
+    carried-fits c.args.bytes.now c.args.numbers.now c.cleared-unit.result (answered c.read.result c.read.new.unit) c.read.ensures (ap is_accepted c.in-Ok.is)
 
 pub returns-in-Ok : goal.returns-in-Ok
 returns-in-Ok c =
-    sheet_stored c.args.bytes.now c.args.numbers.now c.house_unit-unit.result (answered c.read.result c.read.new.unit) c.read.ensures (ap is_accepted c.in-Ok.is)
+    sheet_stored c.args.bytes.now c.args.numbers.now c.cleared-unit.result (answered c.read.result c.read.new.unit) c.read.ensures (ap is_accepted c.in-Ok.is)
     (sym (ap number_of c.in-Ok.is)) c.numbers_of.ensures
 
 pub returns-in-Err : goal.returns-in-Err
 returns-in-Err c =
-    sheet_refused c.args.bytes.now c.args.numbers.now c.house_unit-unit.result (answered c.read.result c.read.new.unit) c.read.ensures
+    sheet_refused c.args.bytes.now c.args.numbers.now c.cleared-unit.result (answered c.read.result c.read.new.unit) c.read.ensures
     (c.number.ensures ∙ sym (ap number_of c.in-Err.is)) (ap is_accepted c.in-Err.is)

@@ -3,4 +3,4 @@ use Rattle.play.proofs.Sheets.{sheet_reads}
 use Rattle.play.proofs.start.Goals as goal
 
 pub pass-requires : goal.pass-requires
-pass-requires c = sheet_reads c.args.bytes.now c.in-Ok.unit c.in-Ok.ensures
+pass-requires c = sheet_reads c.args.bytes.now c.opening.new.unit c.in-Ok.ensures

@@ -2,7 +2,7 @@
 use mathlib.Core.Path.{ap, ◌∙◌}
 use Prim.Native.Nat.{ℕ, ◌+◌, ◌*◌}
 use borrow.Author.Rules.{rules}
-use Rattle.line_reading.proofs.Results.{handed_on}
+use Rattle.line_reading.proofs.Results.{stored_off}
 use Rattle.std.proofs.lemmas.List.{take_rest}
 use Rattle.forms.specs.Form.{both}
 use Rattle.sheet.specs.Lines.{volume_form}
@@ -16,7 +16,7 @@ use Rattle.reading.proofs.read_lines.Goals as goal
 
 pub returns-in_err-volume : goal.returns-in_err-volume
 returns-in_err-volume c =
-    handed_on c.from_residual.result c.from_residual.ensures.1
+    stored_off c.from_residual.result _ c.from_residual.ensures.1
     (lines_off c.args.long side_letters c.args.bytes.now (seen_off unit_of_lines unit_lines (both front_form (sides_form c.args.long side_letters)) c.args.bytes.now
     (front_off front_form (sides_form c.args.long side_letters) c.args.bytes.now (front_off volume_form bands_form c.args.bytes.now c.in_err-volume.ensures))))
 
@@ -29,7 +29,7 @@ slice_bounds-read_bands-count c = form_room volume_form c.args.bytes.now volume_
 
 pub returns-in_err-bands : goal.returns-in_err-bands
 returns-in_err-bands c =
-    handed_on c.from_residual-in_err-bands.result c.from_residual-in_err-bands.ensures.1
+    stored_off c.from_residual-in_err-bands.result _ c.from_residual-in_err-bands.ensures.1
     (lines_off c.args.long side_letters c.args.bytes.now (seen_off unit_of_lines unit_lines (both front_form (sides_form c.args.long side_letters)) c.args.bytes.now
     (front_off front_form (sides_form c.args.long side_letters) c.args.bytes.now (back_off volume_form bands_form c.args.bytes.now c.in_ok-volume.ensures
     (c.in_err-bands.ensures ∙ ap (form_read bands_form) (take_rest c.args.bytes.now 20))))))
@@ -48,21 +48,21 @@ slice_bounds-read_sides-count c =
     (both_on volume_form bands_form c.args.bytes.now c.in_ok-volume.ensures
     (c.in_ok-bands.ensures ∙ ap (form_read bands_form) (take_rest c.args.bytes.now 20)))
 
-pub returns-in_err-channels : goal.returns-in_err-channels
-returns-in_err-channels c =
-    handed_on c.from_residual-in_err-channels.result c.from_residual-in_err-channels.ensures.1
+pub returns-in_err-read_sides : goal.returns-in_err-read_sides
+returns-in_err-read_sides c =
+    stored_off c.from_residual-in_err-read_sides.result _ c.from_residual-in_err-read_sides.ensures.1
     (lines_off c.args.long side_letters c.args.bytes.now (seen_off unit_of_lines unit_lines (both front_form (sides_form c.args.long side_letters)) c.args.bytes.now
     (back_off front_form (sides_form c.args.long side_letters) c.args.bytes.now (both_on volume_form bands_form c.args.bytes.now c.in_ok-volume.ensures
     (c.in_ok-bands.ensures ∙ ap (form_read bands_form) (take_rest c.args.bytes.now 20)))
-    (c.in_err-channels.ensures ∙ ap (form_read (sides_form c.args.long side_letters)) (take_rest c.args.bytes.now front_size)))))
+    (c.in_err-read_sides.ensures ∙ ap (form_read (sides_form c.args.long side_letters)) (take_rest c.args.bytes.now front_size)))))
 
 pub returns-in_err-check_taken : goal.returns-in_err-check_taken
 returns-in_err-check_taken c =
-    handed_on c.from_residual-in_err-check_taken.result c.from_residual-in_err-check_taken.ensures.1
+    stored_off c.from_residual-in_err-check_taken.result _ c.from_residual-in_err-check_taken.ensures.1
     (taken_off c.args.long side_letters c.args.bytes.now (seen_on unit_of_lines unit_lines (both front_form (sides_form c.args.long side_letters)) c.args.bytes.now
     (both_on front_form (sides_form c.args.long side_letters) c.args.bytes.now (both_on volume_form bands_form c.args.bytes.now c.in_ok-volume.ensures
     (c.in_ok-bands.ensures ∙ ap (form_read bands_form) (take_rest c.args.bytes.now 20)))
-    (c.in_ok-channels.ensures ∙ ap (form_read (sides_form c.args.long side_letters)) (take_rest c.args.bytes.now front_size))))
+    (c.in_ok-read_sides.ensures ∙ ap (form_read (sides_form c.args.long side_letters)) (take_rest c.args.bytes.now front_size))))
     (c.in_err-check_taken.ensures ∙ ap (taken_verdict c.args.bytes.now) (ap (λ (n : ℕ). front_size + n * 2) c.side_lines.ensures ∙ lines_take c.args.long c.args.bytes.now)))
 
 pub returns : goal.returns
@@ -70,5 +70,5 @@ returns c =
     lines_on c.args.long side_letters c.args.bytes.now (seen_on unit_of_lines unit_lines (both front_form (sides_form c.args.long side_letters)) c.args.bytes.now
     (both_on front_form (sides_form c.args.long side_letters) c.args.bytes.now (both_on volume_form bands_form c.args.bytes.now c.in_ok-volume.ensures
     (c.in_ok-bands.ensures ∙ ap (form_read bands_form) (take_rest c.args.bytes.now 20)))
-    (c.in_ok-channels.ensures ∙ ap (form_read (sides_form c.args.long side_letters)) (take_rest c.args.bytes.now front_size))))
+    (c.in_ok-read_sides.ensures ∙ ap (form_read (sides_form c.args.long side_letters)) (take_rest c.args.bytes.now front_size))))
     (c.in_ok-check_taken.ensures ∙ ap (taken_verdict c.args.bytes.now) (ap (λ (n : ℕ). front_size + n * 2) c.side_lines.ensures ∙ lines_take c.args.long c.args.bytes.now))

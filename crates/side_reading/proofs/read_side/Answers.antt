@@ -8,7 +8,7 @@ use Prim.Native.Nat.{ℕ}
 use Rattle.forms.specs.Form.{both}
 use Rattle.line_reading.specs.Gives.{form_read}
 use Rattle.sheet.proofs.Lines.{head_sound}
-use Rattle.line_reading.proofs.Results.{handed_on}
+use Rattle.line_reading.proofs.Results.{stored_off}
 use Rattle.std.proofs.lemmas.List.{take_rest}
 use Rattle.sheet.specs.Lines.{head_form}
 use Rattle.sheet.specs.Sheet.{side_lines, channel_of_lines, sections_form}
@@ -26,19 +26,19 @@ slice_bounds-read_sections-count c = form_room (head_form c.args.letter) c.args.
 
 pub returns-in_err-head : goal.returns-in_err-head
 returns-in_err-head c =
-    handed_on c.from_residual.result c.from_residual.ensures.1
+    stored_off c.from_residual.result _ c.from_residual.ensures.1
     (seen_off channel_of_lines side_lines (both (head_form c.args.letter) (sections_form c.args.long)) c.args.bytes.now
     (front_off (head_form c.args.letter) (sections_form c.args.long) c.args.bytes.now c.in_err-head.ensures))
 
-pub returns-in_err-sections : goal.returns-in_err-sections
-returns-in_err-sections c =
-    handed_on c.from_residual-in_err-sections.result c.from_residual-in_err-sections.ensures.1
+pub returns-in_err-read_sections : goal.returns-in_err-read_sections
+returns-in_err-read_sections c =
+    stored_off c.from_residual-in_err-read_sections.result _ c.from_residual-in_err-read_sections.ensures.1
     (seen_off channel_of_lines side_lines (both (head_form c.args.letter) (sections_form c.args.long)) c.args.bytes.now
-    (back_off (head_form c.args.letter) (sections_form c.args.long) c.args.bytes.now c.in_ok-head.ensures (c.in_err-sections.ensures ∙ ap (form_read (sections_form c.args.long)) (take_rest c.args.bytes.now 29))))
+    (back_off (head_form c.args.letter) (sections_form c.args.long) c.args.bytes.now c.in_ok-head.ensures (c.in_err-read_sections.ensures ∙ ap (form_read (sections_form c.args.long)) (take_rest c.args.bytes.now 29))))
 
 pub returns : goal.returns
 returns c =
     let number = λ (i : ℕ). get_or c.in_ok-head.head i (pos 0) in
     rw (widened (number 0) (omega arith), widened (number 1) (omega arith), widened (number 2) (omega arith))
     (seen_on channel_of_lines side_lines (both (head_form c.args.letter) (sections_form c.args.long)) c.args.bytes.now
-    (both_on (head_form c.args.letter) (sections_form c.args.long) c.args.bytes.now c.in_ok-head.ensures (c.in_ok-sections.ensures ∙ ap (form_read (sections_form c.args.long)) (take_rest c.args.bytes.now 29))))
+    (both_on (head_form c.args.letter) (sections_form c.args.long) c.args.bytes.now c.in_ok-head.ensures (c.in_ok-read_sections.ensures ∙ ap (form_read (sections_form c.args.long)) (take_rest c.args.bytes.now 29))))
