@@ -29,14 +29,17 @@ struct Live<'a> {
 }
 
 impl<'a> Live<'a> {
-    /// Begins a pass, and sends the front.
+    /// Begins a pass, and sends the front where there is one. Ahead of the first sound play makes strip.new.part and
+    /// removes it again, so the folder is looked at only once sound has come.
     fn new(test: &mut Test, format: Format, before: &'a Contents, bytes: &'a [u8]) -> Result<Live<'a>, Difference> {
         let folder = Folder::new(before).map_err(system_fault)?;
         test.runs += 1;
         let words = test.setup.words(PLAY, format.arguments);
         let session = Run::of(PLAY, Input::Pipe(bytes)).start(words, &folder)?;
         let mut live = Live { session, folder, format, before, bytes, sent: 0, patience: test.setup.patience };
-        live.send(format.front)?;
+        if format.front > 0 {
+            live.send(format.front)?;
+        }
         Ok(live)
     }
 
