@@ -113,7 +113,7 @@ impl Folder {
     }
 }
 
-/// Adds what lies in a folder, each name behind this begin.
+/// Adds what lies in a folder, each name behind this begin. A file that is removed meanwhile is not there.
 fn look(folder: &Path, begin: &str, contents: &mut Contents) -> io::Result<()> {
     for entry in fs::read_dir(folder)? {
         let entry = entry?;
@@ -123,7 +123,10 @@ fn look(folder: &Path, begin: &str, contents: &mut Contents) -> io::Result<()> {
         } else if kind.is_dir() {
             Entry::Folder
         } else {
-            Entry::File(fs::read(entry.path())?)
+            match fs::read(entry.path()) {
+                Err(error) if error.kind() == io::ErrorKind::NotFound => continue,
+                bytes => Entry::File(bytes?),
+            }
         };
         contents.insert(format!("{begin}{}", entry.file_name().to_string_lossy()), found);
     }

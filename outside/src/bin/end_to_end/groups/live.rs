@@ -8,7 +8,7 @@ use std::time::Duration;
 use outside::checks::sounds::Sound;
 use outside::checks::Difference;
 
-use crate::folder::{system_fault, without_and_with_old, Contents, Folder};
+use crate::folder::{system_fault, without_and_with_old, Contents, Folder, PART_NAME};
 use crate::format::{Format, WAVE};
 use crate::run::{seen, Input, Run, PLAY};
 use crate::seen::{same, Seen};
@@ -29,17 +29,14 @@ struct Live<'a> {
 }
 
 impl<'a> Live<'a> {
-    /// Begins a pass, and sends the front where there is one. Ahead of the first sound play makes strip.new.part and
-    /// removes it again, so the folder is looked at only once sound has come.
+    /// Begins a pass, and sends the front.
     fn new(test: &mut Test, format: Format, before: &'a Contents, bytes: &'a [u8]) -> Result<Live<'a>, Difference> {
         let folder = Folder::new(before).map_err(system_fault)?;
         test.runs += 1;
         let words = test.setup.words(PLAY, format.arguments);
         let session = Run::of(PLAY, Input::Pipe(bytes)).start(words, &folder)?;
         let mut live = Live { session, folder, format, before, bytes, sent: 0, patience: test.setup.patience };
-        if format.front > 0 {
-            live.send(format.front)?;
-        }
+        live.send(format.front)?;
         Ok(live)
     }
 
@@ -52,10 +49,15 @@ impl<'a> Live<'a> {
             let came = self.session.sound_count();
             return Err(format!("{came} bytes came out while the input of {} stayed open", self.sent));
         }
-        match self.folder.contents() {
-            Ok(now) if now == *self.before => Ok(()),
-            _ => Err(format!("after {} bytes the folder has changed", self.sent)),
+        let mut now = self.folder.contents().map_err(system_fault)?;
+        // Ahead of its first sound play makes this file, and removes it again.
+        if self.sent < 4 {
+            now.remove(PART_NAME);
         }
+        if now == *self.before {
+            return Ok(());
+        }
+        Err(format!("after {} bytes the folder has changed", self.sent))
     }
 
     /// What is seen once the program has ended, and what must be, with nothing wrong but the length of the input.
